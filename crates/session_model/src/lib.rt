@@ -1,0 +1,2 @@
+//! The definitions that the crates' contracts cite, a topic a module of `specs/`. It has no code of its own.
+#![tactic(auto)]
