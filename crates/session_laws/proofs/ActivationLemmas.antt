@@ -8,7 +8,7 @@ use Rattle.std.proofs.lemmas.Bool.Decides.{nat_tests}
 use Rattle.std.proofs.lemmas.List.Elements.{filter-append, All-contains}
 use Rattle.std.proofs.lemmas.List.Sums.{sum_by-append, sum_by-cons}
 use Rattle.jack_types.specs.declared.ports.Link.{Link}
-use Rattle.session_model.specs.Activation.{AreLinks, Place, Waiting, Held, Left, AtHome, Machine, Move, StartNode, ReleaseLink, HomeNode, LeaveNode, PickNode, PlayNode, no_link, link_at, fresh, incoming, outgoing, is_started, is_released, place_of, Allowed, with_fallen, moved, open_links, IsDone, IsConsistentNode, IsConsistent, place_among, given_within, given_to, value_of, sequential, IsBench, IsSequential}
+use Rattle.session_model.specs.Activation.{AreLinks, Place, Waiting, Held, Left, AtHome, Machine, Move, StartNode, ReleaseLink, HomeNode, LeaveNode, PickNode, PlayNode, no_link, link_at, fresh, incoming, outgoing, is_started, is_released, place_of, Allowed, with_fallen, moved, open_links, IsDone, IsConsistentNode, IsConsistent, place_among, given_within, given_to, value_of, sequential, IsBench, IsQuiet, Benches, Stays, Hands, Plays, Does, IsShown, IsRight}
 use Rattle.session_model.specs.Samples.{below}
 use Rattle.session_laws.proofs.ListLemmas.{Each, Each-below, Each-filter, Each-filter_kept, Each-both, Each-contains, Each-from_contains, Contains-kept}
 
@@ -369,12 +369,6 @@ module _ (links : List Link) where
     length-moved machine (PickNode seat n) = length-set machine.places n (Held seat false)
     length-moved machine (PlayNode seat n) = length-set machine.places n (Held seat true)
 
-    -- every node started, and none held or left
-    pub record IsQuiet (machine : Machine) : Type 0 where
-      pub started : (n : ℕ) → n < nodes → is_started machine n ≡ true
-      pub none_held : (n seat : ℕ) (b : Bool) → n < nodes → place_of machine n ≢ Held seat b
-      pub none_left : (n : ℕ) → n < nodes → place_of machine n ≢ Left
-
     module _ (machine : Machine) (size : length machine.places ≡ nodes) (consistent : IsConsistent links machine) (quiet : IsQuiet machine) where
       home-next : (n : ℕ) → n < nodes → ((m : ℕ) → m < n → m < nodes → place_of machine m ≡ AtHome) → place_of machine n ≡ AtHome
       home-next n h earlier = go (place_of machine n) refl
@@ -395,12 +389,12 @@ module _ (links : List Link) where
 
           go : (p : Place) → place_of machine n ≡ p → place_of machine n ≡ AtHome
           go AtHome e = e
-          go Left e = absurd (quiet.none_left n h e)
-          go (Held seat b) e = absurd (quiet.none_held n seat b h e)
+          go Left e = absurd (quiet.none_left n (omega (arith, h, size)) e)
+          go (Held seat b) e = absurd (quiet.none_held n seat b (omega (arith, h, size)) e)
           go Waiting e =
               let positive : 0 < slice_index machine.counters n = node.waits.0 e in
               let none : open_links links machine n ≡ 0 = count_none (λ l. not (is_released machine l)) (incoming links n) released in
-              let count : slice_index machine.counters n ≡ open_links links machine n + 0 = rw (quiet.started n h) at node.counter in
+              let count : slice_index machine.counters n ≡ open_links links machine n + 0 = rw (quiet.started n (omega (arith, h, size))) at node.counter in
               absurd (omega (arith, positive, none, count))
 
       home-below : (k n : ℕ) → n < k → n < nodes → place_of machine n ≡ AtHome
@@ -505,51 +499,6 @@ module _ {M V : Type 0} (after : M → List V → M) (gives : M → List V → �
   bench-from Waiting n bench h = h
   bench-from Left n bench h = h
 
-  -- memories by node, and by link what its source shows at the link's place and what the link holds
-  pub record Benches : Type 0 where
-    pub memories : ℕ → M
-    pub shown : ℕ → Option V
-    pub values : ℕ → Option V
-
-  -- a played source shows the link's value at the link's place
-  abbrev pub IsShown : Machine → (ℕ → Option V) → Type 0
-  IsShown machine shown = (l : ℕ) → l < length links → IsDone (place_of machine (link_at links l).from) → shown l ≡ Some (value_of after gives links before l)
-
-  -- nothing but places and counters changes
-  pub record Stays (old new : Benches) : Type 0 where
-    pub memories : (n : ℕ) → new.memories n ≡ old.memories n
-    pub shown : (l : ℕ) → new.shown l ≡ old.shown l
-    pub values : (l : ℕ) → new.values l ≡ old.values l
-
-  -- the play of a node on the values of its incoming links
-  pub record Plays (n : ℕ) (old new : Benches) : Type 0 where
-    pub given : List V
-    pub are_values : map Some given ≡ map old.values (incoming links n)
-    pub memory : new.memories n ≡ after (old.memories n) given
-    pub others : (m : ℕ) → m ≢ n → new.memories m ≡ old.memories m
-    pub shown : (l : ℕ) → l < length links → (link_at links l).from ≡ n → new.shown l ≡ Some (gives (old.memories n) given (place_among links l))
-    pub shown_others : (l : ℕ) → (link_at links l).from ≢ n → new.shown l ≡ old.shown l
-    pub values : (l : ℕ) → new.values l ≡ old.values l
-
-  -- a link gets what its source shows
-  pub record Hands (l : ℕ) (old new : Benches) : Type 0 where
-    pub memories : (n : ℕ) → new.memories n ≡ old.memories n
-    pub shown : (k : ℕ) → new.shown k ≡ old.shown k
-    pub value : new.values l ≡ old.shown l
-    pub others : (k : ℕ) → k ≢ l → new.values k ≡ old.values k
-
-  -- what an event does with the benches
-  abbrev pub Does : Move → Benches → Benches → Type 0
-  Does (PlayNode seat n) old new = Plays n old new
-  Does (ReleaseLink seat l) old new = Hands l old new
-  Does (StartNode seat n) old new = Stays old new
-  Does (HomeNode seat n) old new = Stays old new
-  Does (LeaveNode seat n) old new = Stays old new
-  Does (PickNode seat n) old new = Stays old new
-
-  abbrev pub IsRight : Machine → Benches → Type 0
-  IsRight machine benches = IsSequential after gives links before machine benches.memories benches.values × IsShown machine benches.shown
-
   -- places change and no node is played
   abbrev SameDone : Machine → Machine → Type 0
   SameDone old new = (n : ℕ) → is_done (place_of new n) ≡ is_done (place_of old n)
@@ -576,7 +525,7 @@ module _ {M V : Type 0} (after : M → List V → M) (gives : M → List V → �
       go true = at (m == n) refl
       go false = refl
 
-  shown-kept : (old new : Machine) (shown next : ℕ → Option V) → SameDone old new → ((l : ℕ) → next l ≡ shown l) → IsShown old shown → IsShown new next
+  shown-kept : (old new : Machine) (shown next : ℕ → Option V) → SameDone old new → ((l : ℕ) → next l ≡ shown l) → IsShown after gives links before old shown → IsShown after gives links before new next
   shown-kept old new shown next same e h l b d =
       e l ∙ h l b (is-done (place_of old (link_at links l).from) (sym (same (link_at links l).from) ∙ done-is (place_of new (link_at links l).from) d))
 
@@ -584,7 +533,7 @@ module _ {M V : Type 0} (after : M → List V → M) (gives : M → List V → �
   bench-kept old new same n memory next e h =
       bench-from (place_of new n) n next (e ∙ bench-to (place_of old n) n memory h ∙ ap (λ b. cond b (sequential after gives links before n) (before n)) (sym (same n)))
 
-  stays-right : (old new : Machine) (benches next : Benches) → SameDone old new → length new.places ≡ length old.places → ((l : ℕ) → is_released new l ≡ is_released old l) → Stays benches next → IsRight old benches → IsRight new next
+  stays-right : (old new : Machine) (benches next : Benches M V) → SameDone old new → length new.places ≡ length old.places → ((l : ℕ) → is_released new l ≡ is_released old l) → Stays benches next → IsRight after gives links before old benches → IsRight after gives links before new next
   stays-right old new benches next same long released stays right = (
     record {
       each_bench = λ n h. bench-kept old new same n (benches.memories n) (next.memories n) (stays.memories n) (right.0.each_bench n (omega (arith, h, long)));
@@ -622,8 +571,8 @@ module _ {M V : Type 0} (after : M → List V → M) (gives : M → List V → �
   map-same_option f g [] h = refl
   map-same_option f g (x ∷ xs) h = rw (h.0, map-same_option f g xs h.1) refl
 
-  plays-right : (machine : Machine) (seat n : ℕ) (benches next : Benches) → IsConsistent links machine → place_of machine n ≡ Held seat false → Plays n benches next → IsRight machine benches
-      → IsRight (record machine { places = set machine.places n (Held seat true) }) next
+  plays-right : (machine : Machine) (seat n : ℕ) (benches next : Benches M V) → IsConsistent links machine → place_of machine n ≡ Held seat false → Plays after gives links n benches next → IsRight after gives links before machine benches
+      → IsRight after gives links before (record machine { places = set machine.places n (Held seat true) }) next
   plays-right machine seat n benches next c held plays right = (
     record {
       each_bench = λ m h. bench m (omega (arith, h, length-set machine.places n (Held seat true))) (m == n) refl;
@@ -695,8 +644,8 @@ module _ {M V : Type 0} (after : M → List V → M) (gives : M → List V → �
           let now : get_or (set machine.places n (Held seat true)) (link_at links l).from Waiting ≡ place_of machine (link_at links l).from = get_or-set_other machine.places n (link_at links l).from (Held seat true) Waiting apart in
           plays.shown_others l apart ∙ right.1 l h (subst IsDone now d)
 
-  hands-right : (old new : Machine) (l : ℕ) (benches next : Benches) → SameDone old new → length new.places ≡ length old.places → IsDone (place_of old (link_at links l).from) → ((k : ℕ) → k ≢ l → is_released new k ≡ is_released old k)
-      → l < length links → Hands l benches next → IsRight old benches → IsRight new next
+  hands-right : (old new : Machine) (l : ℕ) (benches next : Benches M V) → SameDone old new → length new.places ≡ length old.places → IsDone (place_of old (link_at links l).from) → ((k : ℕ) → k ≢ l → is_released new k ≡ is_released old k)
+      → l < length links → Hands l benches next → IsRight after gives links before old benches → IsRight after gives links before new next
   hands-right old new l benches next same long done released inside hands right = (
     record {
       each_bench = λ n h. bench-kept old new same n (benches.memories n) (next.memories n) (hands.memories n) (right.0.each_bench n (omega (arith, h, long)));
@@ -717,7 +666,7 @@ module _ {M V : Type 0} (after : M → List V → M) (gives : M → List V → �
     waits_at : (n : ℕ) → n < length machine.places → 0 < slice_index machine.counters n → place_of machine n ≡ Waiting
     waits_at n h p = (c.nodes n h).waits.1 p
 
-    pub IsRight-moved : (move : Move) (benches next : Benches) → Allowed links seats machine move → Does move benches next → IsRight machine benches → IsRight (moved links machine move) next
+    pub IsRight-moved : (move : Move) (benches next : Benches M V) → Allowed links seats machine move → Does after gives links move benches next → IsRight after gives links before machine benches → IsRight after gives links before (moved links machine move) next
     IsRight-moved (StartNode seat n) benches next a does right =
         let count = (c.nodes n a.0).counter in
         let positive : 0 < slice_index machine.counters n = omega (arith, rw a.3 at count) in
@@ -832,7 +781,7 @@ IsConsistent-fresh nodes links = record {
 
 module _ {M V : Type 0} (after : M → List V → M) (gives : M → List V → ℕ → V) (links : List Link) (before : ℕ → M) (nodes : ℕ) (are : AreLinks nodes links) where
   -- before any step, with every bench as before the cycle
-  pub IsRight-fresh : (benches : Benches after gives links before nodes are) → ((n : ℕ) → benches.memories n ≡ before n) → IsRight after gives links before nodes are (fresh nodes links) benches
+  pub IsRight-fresh : (benches : Benches M V) → ((n : ℕ) → benches.memories n ≡ before n) → IsRight after gives links before (fresh nodes links) benches
   IsRight-fresh benches h = (
     record {
       each_bench = λ n b. subst (λ p. IsBench after gives links before p n (benches.memories n)) (sym (waits n)) (h n);
@@ -845,8 +794,8 @@ module _ {M V : Type 0} (after : M → List V → M) (gives : M → List V → �
       waits n = get_or-one Waiting (below nodes) n
 
   -- when all is quiet, every bench is sequential and every link has its value
-  module _ (seats : ℕ) (machine : Machine) (size : length machine.places ≡ nodes) (consistent : IsConsistent links machine) (quiet : IsQuiet links nodes are seats machine)
-      (benches : Benches after gives links before nodes are) (right : IsRight after gives links before nodes are machine benches) where
+  module _ (seats : ℕ) (machine : Machine) (size : length machine.places ≡ nodes) (consistent : IsConsistent links machine) (quiet : IsQuiet machine)
+      (benches : Benches M V) (right : IsRight after gives links before machine benches) where
     pub AllSequential-quiet : (n : ℕ) → n < nodes → benches.memories n ≡ sequential after gives links before n
     AllSequential-quiet n h =
         subst (λ p. IsBench after gives links before p n (benches.memories n)) (AllHome-quiet links nodes are seats machine size consistent quiet n h) (right.0.each_bench n (omega (arith, h, size)))
