@@ -1,5 +1,4 @@
 -- The underruns of serial mode are ones that can be.
---     turned_underruns course disk      the cycles in which the stated turns leave no block and no end
 --     Played-turned      they meet `Played`
 use Rattle.std.proofs.Common.{◌≡◌, ℕ, zero, suc, ◌+◌, ◌-◌, ◌<◌, ◌≤◌, min, Bool, true, false, cond, not, ◌&&◌, ◌||◌, ◌==◌, nat_lt, List, [], ◌∷◌, ◌++◌, length, map, slice_index_or, count_by, All, None, is_some, refl, sym, ◌∙◌, ap, ap₂, subst, arith, true≢false, eqb-true, ne_eqb}
 use native.Mathlib.Nat.{min-eq_left, min-eq_right}
@@ -9,29 +8,14 @@ use Rattle.std.proofs.lemmas.Bool.Decides.{nat_tests}
 use Rattle.std.proofs.lemmas.List.Sums.{sum_by_push}
 use Rattle.jack_types.specs.declared.replies.Underrun.{Underrun}
 use Rattle.session_model.specs.Courses.{Course, turn, is_disk_active, is_underrun, played_before}
-use Rattle.session_model.specs.Disks.{Played, IsMissed, Turned, file_blocks, is_empty, filled, got_one, turned_before}
+use Rattle.session_model.specs.Disks.{Played, IsMissed, Turned, file_blocks, is_empty, filled, got_one, turned_before, is_missed_in, missed_at, missed_up_to, turned_underruns}
 use Rattle.session_model.specs.Samples.{below}
 use Rattle.session_model.specs.Scripts.{turns}
 use Rattle.session_laws.proofs.ListLemmas.{Each, Ordered, Each-weaker, Each-append, Ordered-append, Ordered-map}
 use Rattle.session_laws.proofs.SerialLossLemmas.{All-from_each, IsStrictlyIncreasing-ordered}
 
--- whether the turns leave the disk's player nothing in cycle k
-abbrev pub is_missed_in : Course → ℕ → ℕ → Bool
-is_missed_in course disk k = is_empty course disk k (turned_before course disk k)
-
-abbrev pub missed_at : Course → ℕ → ℕ → Underrun
-missed_at course disk k = record { disk = disk; cycle = k; sent = (turned_before course disk k).got; taken = (turned_before course disk k).got }
-
--- those up to cycle k
-abbrev pub missed_up_to : Course → ℕ → ℕ → List Underrun
-missed_up_to course disk zero = []
-missed_up_to course disk (suc k) = missed_up_to course disk k ++ cond (is_missed_in course disk (suc k)) (missed_at course disk (suc k) ∷ []) []
-
-abbrev pub turned_underruns : Course → ℕ → List Underrun
-turned_underruns course disk = missed_up_to course disk (length (turns course.script))
-
 -- the course with these underruns in place of its own
-abbrev pub with_underruns : Course → List (List Underrun) → Course
+abbrev with_underruns : Course → List (List Underrun) → Course
 with_underruns course underruns = record course { underruns = underruns }
 
 list_any-append : (p : Underrun → Bool) (xs ys : List Underrun) → list_any p (xs ++ ys) ≡ (list_any p xs || list_any p ys)

@@ -11,11 +11,10 @@ use Rattle.jack_types.specs.declared.replies.Overrun.{Overrun}
 use Rattle.jack_types.specs.declared.replies.Underrun.{Underrun}
 use Rattle.session_model.specs.Courses.{Course, DiskFile, turn}
 use Rattle.session_model.specs.Grammar.{IsScript}
-use Rattle.session_model.specs.Histories.{accepted}
 use Rattle.session_model.specs.Recorders.{Lost, IsOverrun, kept_before, is_taping, is_lost}
 use Rattle.session_model.specs.Samples.{below}
 use Rattle.session_model.specs.Scripts.{Script, turns}
-use Rattle.session_model.specs.Serial.{serial, serial_course, serial_overruns, Counts, put_one, drained, emptied, counted_in, counts}
+use Rattle.session_model.specs.Serial.{serial, serial_course, course_in_serial, serial_overruns, Counts, put_one, drained, emptied, counted_in, counts}
 use Rattle.session_laws.proofs.ActivationLemmas.{get_or-map_below}
 use Rattle.session_laws.proofs.ListLemmas.{Each, Ordered, Each-weaker, Each-append, Each-below, Ordered-append, Ordered-map, IsNonDecreasing-ordered}
 
@@ -247,18 +246,6 @@ module _ (course : Course) (recorder : ℕ) (ring_some : 1 ≤ course.script.hea
         taken_rises = IsNonDecreasing-ordered (map (λ (o : Overrun). o.taken) losses) (Ordered-map (λ a b. a ≤ b) (λ (o : Overrun). o.taken) losses right.rises);
         in_threads = λ some. absurd (true≢false (sym some ∙ ap is_some no_threads));
       }
-
--- the course of serial mode over any files and with any underruns
-abbrev pub course_in_serial : Script → List ℤ → List DiskFile → List Score → List (List Underrun) → Course
-course_in_serial script capture disks scores underruns = record {
-  script = script;
-  capture = capture;
-  disks = disks;
-  scores = scores;
-  changes = accepted (serial script).history;
-  numbers = (serial script).numbers;
-  underruns = underruns;
-}
 
 -- the counts rest on the accepted changes and the numbers alone
 counts-same : (script : Script) (capture : List ℤ) (disks : List DiskFile) (scores : List Score) (underruns : List (List Underrun)) (recorder k : ℕ)
