@@ -267,6 +267,22 @@ module _ (links : List Link) where
           let some : fallen ≢ 0 = λ s. true≢false (sym (eq-eqb fallen 0 s) ∙ e) in
           whole machine.places refl (λ m apart. refl) ((λ w. omega (arith, some)), (λ w. waited)) (λ w. home-waiting (sym waited ∙ w))
 
+  fallen_places : (seat n : ℕ) (machine : Machine) → length (with_fallen seat n machine).places ≡ length machine.places
+  fallen_places seat n machine = go (slice_index machine.counters n - 1 == 0)
+    where
+      go : (b : Bool) → length (if b then set machine.places n (Held seat false) else machine.places) ≡ length machine.places
+      go true = length-set machine.places n (Held seat false)
+      go false = refl
+
+  -- no event makes or takes away a node
+  pub length-moved : (machine : Machine) (move : Move) → length (moved links machine move).places ≡ length machine.places
+  length-moved machine (StartNode seat n) = fallen_places seat n (record machine { started = set machine.started n true })
+  length-moved machine (ReleaseLink seat l) = fallen_places seat (link_at links l).to (record machine { released = set machine.released l true })
+  length-moved machine (HomeNode seat n) = length-set machine.places n AtHome
+  length-moved machine (LeaveNode seat n) = length-set machine.places n Left
+  length-moved machine (PickNode seat n) = length-set machine.places n (Held seat false)
+  length-moved machine (PlayNode seat n) = length-set machine.places n (Held seat true)
+
   module _ (nodes : ℕ) (are : AreLinks nodes links) (seats : ℕ) where
     started-high : (machine : Machine) (n : ℕ) → IsConsistent links machine → n < length machine.places → is_started machine n ≡ false → IsTooHigh (record machine { started = set machine.started n true }) n
     started-high machine n c h e = record {
@@ -352,22 +368,6 @@ module _ (links : List Link) where
         placed-consistent machine n (Held seat false) c (λ w. waiting-left (sym a.1 ∙ w)) (λ w. waiting-held seat false w) (λ d. absurd (subst IsDone a.1 d)) (λ w. absurd (home-held seat false w))
     IsConsistent-moved machine (PlayNode seat n) size c a =
         placed-consistent machine n (Held seat true) c (λ w. waiting-held seat false (sym a ∙ w)) (λ w. waiting-held seat true w) (λ d. absurd (true≢false (sym (subst IsDone a d)))) (λ w. absurd (home-held seat true w))
-
-    fallen_places : (seat n : ℕ) (machine : Machine) → length (with_fallen seat n machine).places ≡ length machine.places
-    fallen_places seat n machine = go (slice_index machine.counters n - 1 == 0)
-      where
-        go : (b : Bool) → length (if b then set machine.places n (Held seat false) else machine.places) ≡ length machine.places
-        go true = length-set machine.places n (Held seat false)
-        go false = refl
-
-    -- no event makes or takes away a node
-    pub length-moved : (machine : Machine) (move : Move) → length (moved links machine move).places ≡ length machine.places
-    length-moved machine (StartNode seat n) = fallen_places seat n (record machine { started = set machine.started n true })
-    length-moved machine (ReleaseLink seat l) = fallen_places seat (link_at links l).to (record machine { released = set machine.released l true })
-    length-moved machine (HomeNode seat n) = length-set machine.places n AtHome
-    length-moved machine (LeaveNode seat n) = length-set machine.places n Left
-    length-moved machine (PickNode seat n) = length-set machine.places n (Held seat false)
-    length-moved machine (PlayNode seat n) = length-set machine.places n (Held seat true)
 
     module _ (machine : Machine) (size : length machine.places ≡ nodes) (consistent : IsConsistent links machine) (quiet : IsQuiet machine) where
       home-next : (n : ℕ) → n < nodes → ((m : ℕ) → m < n → m < nodes → place_of machine m ≡ AtHome) → place_of machine n ≡ AtHome
@@ -671,13 +671,13 @@ module _ {M V : Type 0} (after : M → List V → M) (gives : M → List V → �
         let count = (c.nodes n a.0).counter in
         let positive : 0 < slice_index machine.counters n = omega (arith, rw a.3 at count) in
         stays-right machine (moved links machine (StartNode seat n)) benches next (same-fallen seat n (record machine { started = set machine.started n true }) a.0 (waits_at n a.0 positive))
-        (length-moved links nodes are seats machine (StartNode seat n)) (λ l. refl) does right
+        (length-moved links machine (StartNode seat n)) (λ l. refl) does right
     IsRight-moved (ReleaseLink seat l) benches next a does right =
         let n : ℕ = (link_at links l).to in
         let inside : n < length machine.places = omega (arith, are.within l no_link a.0, size) in
         let positive : 0 < slice_index machine.counters n = positive_at n inside l a.0 refl a.2 in
         hands-right machine (moved links machine (ReleaseLink seat l)) l benches next (same-fallen seat n (record machine { released = set machine.released l true }) inside (waits_at n inside positive))
-        (length-moved links nodes are seats machine (ReleaseLink seat l)) (subst IsDone (sym a.1) refl)
+        (length-moved links machine (ReleaseLink seat l)) (subst IsDone (sym a.1) refl)
         (λ k apart. get_or-set_other machine.released l k true false apart) a.0 does right
       where
         -- a node with a link into it that is not released has a positive counter
@@ -694,13 +694,13 @@ module _ {M V : Type 0} (after : M → List V → M) (gives : M → List V → �
                 absurd (true≢false (sym (ap not e) ∙ Each-contains (λ j. not (is_released machine j) ≡ false) (incoming links n) k none there))
     IsRight-moved (HomeNode seat n) benches next a does right =
         stays-right machine (moved links machine (HomeNode seat n)) benches next (same-set machine n AtHome (sym (ap is_done a.0)) (λ w. waiting-held seat true (sym a.0 ∙ w)))
-        (length-moved links nodes are seats machine (HomeNode seat n)) (λ l. refl) does right
+        (length-moved links machine (HomeNode seat n)) (λ l. refl) does right
     IsRight-moved (LeaveNode seat n) benches next a does right =
         stays-right machine (moved links machine (LeaveNode seat n)) benches next (same-set machine n Left (sym (ap is_done a)) (λ w. waiting-held seat false (sym a ∙ w)))
-        (length-moved links nodes are seats machine (LeaveNode seat n)) (λ l. refl) does right
+        (length-moved links machine (LeaveNode seat n)) (λ l. refl) does right
     IsRight-moved (PickNode seat n) benches next a does right =
         stays-right machine (moved links machine (PickNode seat n)) benches next (same-set machine n (Held seat false) (sym (ap is_done a.1)) (λ w. waiting-left (sym a.1 ∙ w)))
-        (length-moved links nodes are seats machine (PickNode seat n)) (λ l. refl) does right
+        (length-moved links machine (PickNode seat n)) (λ l. refl) does right
     IsRight-moved (PlayNode seat n) benches next a does right = plays-right machine seat n benches next c a does right
 
 -- ---- before any step

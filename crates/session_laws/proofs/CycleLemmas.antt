@@ -16,19 +16,7 @@ use Rattle.session_model.specs.Samples.{mix, silence}
 use Rattle.session_model.specs.State.{State, OpenClient, OpenPort, Connection, is_system}
 use Rattle.session_laws.proofs.LoopLemmas.{and_parts, Contains-later, Contains-first, Contains-cases}
 use lib.Pointwise.{bytes_decides}
-
-pub record Agree (now other : Signals) (port : List ℕ) : Type 0 where
-  pub audio : now.audio port ≡ other.audio port
-  pub midi : now.midi port ≡ other.midi port
-
-abbrev pub Solves : Course → Settled → Signals → Type 0
-Solves course at now = (port : List ℕ) → Agree now (given course at now) port
-
--- edges into the playback ports are left out: nothing goes on from there
-abbrev pub Rises : (List ℕ → ℕ) → State → Type 0
-Rises rank state =
-    (edge : Connection) → Contains state.edges edge → edge.mark ≡ Direct → is_system (client_part edge.destination) ≡ false
-    → rank (client_part edge.source) < rank (client_part edge.destination)
+pub use Rattle.session_laws.specs.Solutions.{Agree, Solves, Rises, IsOneSolution}
 
 pub bytes_same : (a b : List ℕ) → bytes_eq a b ≡ true → a ≡ b
 bytes_same a b h = (bytes_decides a b).0 h
@@ -194,3 +182,33 @@ module _ (course : Course) (at : Settled) (now : Signals) (rank : List ℕ → �
       sources : ((source : List ℕ) → rank (client_part source) < depth → Agree now (signals course at depth) source)
           → is_system (client_part port) ≡ false → (edge : Connection) → Contains at.graph.edges edge → edge.mark ≡ Direct → client_part edge.destination ≡ client_part port → Agree now (signals course at depth) edge.source
       sources step apart edge m direct into = step edge.source (lower edge (rises edge m direct (subst (λ name. is_system name ≡ false) (sym into) apart)) into)
+
+module _ (course : Course) (at : Settled) (rank : List ℕ → ℕ) (rises : Rises rank at.graph) where
+  -- depths above the rank give the same
+  pub Agree-depths : (depth other : ℕ) (port : List ℕ) → rank (client_part port) < depth → rank (client_part port) < other → Agree (signals course at depth) (signals course at other) port
+  Agree-depths zero other port below above = absurd (none below)
+    where
+      none : {n : ℕ} → n < 0 → ⊥
+      none p = omega arith
+  Agree-depths (suc depth) zero port below above = absurd (none above)
+    where
+      none : {n : ℕ} → n < 0 → ⊥
+      none p = omega arith
+  Agree-depths (suc depth) (suc other) port below above =
+      given-same course at (signals course at depth) (signals course at other) port (sources (λ source under over. Agree-depths depth other source under over))
+    where
+      lower : (edge : Connection) (n : ℕ) → rank (client_part port) < suc n → rank (client_part edge.source) < rank (client_part edge.destination) → client_part edge.destination ≡ client_part port → rank (client_part edge.source) < n
+      lower edge n under up into = let same : rank (client_part edge.destination) ≡ rank (client_part port) = ap rank into in omega (arith, up, same, under)
+
+      sources : ((source : List ℕ) → rank (client_part source) < depth → rank (client_part source) < other → Agree (signals course at depth) (signals course at other) source)
+          → is_system (client_part port) ≡ false → (edge : Connection) → Contains at.graph.edges edge → edge.mark ≡ Direct → client_part edge.destination ≡ client_part port → Agree (signals course at depth) (signals course at other) edge.source
+      sources step apart edge m direct into =
+          let up = rises edge m direct (subst (λ name. is_system name ≡ false) (sym into) apart) in
+          step edge.source (lower edge depth below up into) (lower edge other above up into)
+
+  -- where each rank is below the depth, that depth gives the one solution
+  pub IsOneSolution-signals : (depth : ℕ) → ((port : List ℕ) → rank (client_part port) < depth) → IsOneSolution course at (signals course at depth)
+  IsOneSolution-signals depth below = record {
+    solves = λ port. Agree-depths depth (suc depth) port (below port) (omega (arith, below port));
+    only = λ other solves port. Agree-signals course at other rank solves rises depth port (below port);
+  }

@@ -1,5 +1,5 @@
 -- What is read is spelled so, and what is spelled so is read.
-use Rattle.std.proofs.Common.{◌≡◌, ℕ, ◌<◌, ◌≤◌, Bool, true, false, ◌⊎◌, ◌↔◌, inl, inr, List, [], ◌∷◌, ◌++◌, length, map, All, Option, Some, None, Result, Ok, Err, refl, sym, ap, subst, ◌∙◌, arith}
+use Rattle.std.proofs.Common.{◌≡◌, ℕ, ◌<◌, ◌≤◌, Bool, true, false, ◌⊎◌, ◌↔◌, inl, inr, List, [], ◌∷◌, ◌++◌, length, map, All, Option, Result, Ok, Err, refl, sym, ap, subst, ◌∙◌, arith}
 use Rattle.std.specs.Prelude.{if◌then◌else◌, ◌==◌, nat_lt, codes, sum_by, slice_index_or}
 use Rattle.std.specs.List.{AllByRecursion}
 use Rattle.std.specs.Str.{bytes_eq}
@@ -12,7 +12,7 @@ use Rattle.jack_types.specs.declared.scripts.Header.{Header}
 use Rattle.jack_types.specs.declared.scripts.Many.TheVariants.{Recorders, Events, Disks}
 use Rattle.jack_types.specs.declared.scripts.ScriptFault.{ScriptFault}
 use Rattle.session_model.specs.Grammar.{Slot, Word, Numeral, LinesFill, number_slots, mode_slots, recorder_slots, event_slots, body_slots, required_lines, IsIn, AreEvents, Choices, AreChoices, lines_by, IsHeader, IsScript, Spells}
-use Rattle.session_model.specs.Reading.{◌>>=◌, required, optional, several, version, number, period, channels_and_bits, workers, recorder, event, body_lines, script_of_lines, script_of, fault_of, script_fault}
+use Rattle.session_model.specs.Reading.{◌>>=◌, required, optional, several, version, number, period, channels_and_bits, workers, recorder, event, body_lines, script_of_lines, script_of, fault_of}
 use Rattle.session_model.specs.Scripts.{Script}
 use Rattle.session_model.specs.Texts.{Line, said, line_after}
 use Rattle.session_laws.proofs.GrammarReaders.{ok_is, number-reads}
@@ -23,6 +23,7 @@ use Rattle.session_laws.proofs.GrammarLines.{Goods, LinesTake, LinesTake-join, L
 use Rattle.session_laws.proofs.GrammarLists.{Item, list_of, lists_of, lists_of-at, lists_of-same, lists_of-count, All-lists_of, AreLists, goods-lists, goods-listed, lists-goods, no_lists-no_order}
 use Rattle.session_laws.proofs.GrammarLoops.{AreBodies, body_lines-take, body_lines-again, bodies-at, bodies-from}
 use Rattle.session_laws.proofs.GrammarHeaders.{version-reads, channels_and_bits-reads, workers-reads, workers_slots, workers_slots-mode, IsMode, ring-takes, ring-again, drain-takes, drain-again, fill-takes, fill-again, recorders-take, recorders-again, disks-take, disks-again, events-take, events-again, optional-apart, ApartFromBody, body-apart}
+use Rattle.session_laws.specs.Spellings.{HasScript, HasScriptFault}
 
 not_three : (n : ℕ) → n < 3 → (n == 3) ≡ false
 not_three n h = grind arith
@@ -309,15 +310,17 @@ pub script_of-Spells : (bytes : List ℕ) (script : Script) → (script_of bytes
 script_of-Spells bytes script = (λ e. spelled bytes script e, λ s. read bytes script s)
 
 -- for all bytes there is one script that they spell, and no fault, or one fault, and no script
-pub spelled_or_faulty : (bytes : List ℕ) →
-    ((script : Script) × Spells bytes script × ((other : Script) → Spells bytes other → script ≡ other) × (script_fault bytes ≡ None))
-    ⊎ ((fault : ScriptFault) × (script_fault bytes ≡ Some fault) × ((script : Script) → Spells bytes script → ⊥))
-spelled_or_faulty bytes = go (script_of bytes) (λ script e. spelled bytes script e) (λ script s. read bytes script s)
+pub script_or_fault : (bytes : List ℕ) → HasScript bytes ⊎ HasScriptFault bytes
+script_or_fault bytes = go (script_of bytes) refl
   where
-    go : (r : Result Script ScriptFault) → ((script : Script) → r ≡ Ok script → Spells bytes script) → ((script : Script) → Spells bytes script → r ≡ Ok script)
-        → ((script : Script) × Spells bytes script × ((other : Script) → Spells bytes other → script ≡ other) × (fault_of r ≡ None)) ⊎ ((fault : ScriptFault) × (fault_of r ≡ Some fault) × ((script : Script) → Spells bytes script → ⊥))
-    go (Ok script) f g = inl (script, f script refl, λ other s. ok_is script other (g other s), refl)
-    go (Err fault) f g = inr (fault, refl, λ script s. failed (g script s))
+    go : (r : Result Script ScriptFault) → script_of bytes ≡ r → HasScript bytes ⊎ HasScriptFault bytes
+    go (Ok script) e = inl (record {
+      script = script;
+      spells = spelled bytes script e;
+      only = λ other s. ok_is script other (sym e ∙ read bytes other s);
+      no_fault = ap fault_of e;
+    })
+    go (Err fault) e = inr (record { fault = fault; is_fault = ap fault_of e; no_script = λ script s. failed (sym e ∙ read bytes script s) })
       where
         failed : {script : Script} → Err fault ≡ Ok script → ⊥
         failed e = absurd cc

@@ -11,9 +11,7 @@ use Rattle.session_model.specs.Loops.{IsPath, leads, direct_links, closes_loop, 
 use Rattle.session_model.specs.State.{State, NamedNode, CaptureNode, PlaybackNode, ClientNode, same_node, Connection, source_node, destination_node, is_direct, opening}
 use Rattle.session_laws.proofs.LoopLemmas.{or_cases, and_parts, Contains-later, Contains-first, Contains-cases, IsPath-append, Leads-of_leads, leads-of_path}
 use lib.Pointwise.{bytes_decides}
-
-abbrev pub IsLoopFree : {N : Type 0} → List (N × N) → Type 0
-IsLoopFree {N} links = (a next : N) (path : List N) → IsPath links a (next ∷ path) a → ⊥
+pub use Rattle.session_laws.specs.LoopFree.{IsLoopFree, HasNoLoop}
 
 -- links among others
 abbrev pub AreAmong : {X : Type 0} → List X → List X → Type 0
@@ -121,9 +119,6 @@ pub direct_links-among : (edges others : List Connection) → AreAmong edges oth
 direct_links-among edges others among x h =
     let w = direct_links-contains edges x h in
     subst (λ l. Contains (direct_links others) l) w.3 (contains-direct_links others w.0 (among w.0 w.1) w.2)
-
-abbrev pub HasNoLoop : List Connection → Type 0
-HasNoLoop edges = IsLoopFree (direct_links edges)
 
 pub HasNoLoop-among : (edges others : List Connection) → AreAmong edges others → HasNoLoop others → HasNoLoop edges
 HasNoLoop-among edges others among free = IsLoopFree-among (direct_links edges) (direct_links others) (direct_links-among edges others among) free

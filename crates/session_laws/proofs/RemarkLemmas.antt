@@ -9,6 +9,7 @@ use Rattle.session_model.specs.Loops.{direct_links, closes_loop, mark_of, tested
 use Rattle.session_model.specs.State.{same_node, Connection, source_node, destination_node, is_direct}
 use Rattle.session_laws.proofs.LoopFreeLemmas.{AreAmong, IsPath-among, same_node-is, same_node-self, direct_links-contains, contains-direct_links, Contains-append_cases, Contains-append_left, Contains-append_right}
 use Rattle.session_laws.proofs.LoopLemmas.{Contains-later, Contains-first, Contains-cases, Leads-of_leads, leads-of_path}
+pub use Rattle.session_laws.specs.LoopFree.{AllClose}
 
 -- more direct links close at least the same loops
 closes_loop-among : (edges others : List Connection) → AreAmong (direct_links edges) (direct_links others) → (source destination : List ℕ) → closes_loop edges source destination ≡ true → closes_loop others source destination ≡ true
@@ -16,9 +17,6 @@ closes_loop-among edges others among source destination h =
     let w = Leads-of_leads same_node same_node-is same_node-self (direct_links edges) (destination_node destination) (source_node source) h in
     leads-of_path same_node same_node-is same_node-self (direct_links others) (destination_node destination) w.0 (source_node source)
     (IsPath-among (direct_links edges) (direct_links others) among (destination_node destination) w.0 (source_node source) w.1)
-
-abbrev pub AllClose : List Connection → List Connection → Type 0
-AllClose whole edges = (edge : Connection) → Contains edges edge → is_direct edge.mark ≡ false → closes_loop whole edge.source edge.destination ≡ true
 
 none-in : {X : Type 0} {x : X} → Contains [] x → ⊥
 none-in h = below h.1

@@ -1,4 +1,10 @@
 //! The laws of the definitions, each as the contract of a function that does nothing.
 #![tactic(auto)]
 
+pub mod cycles;
+pub mod grammar;
+pub mod loops;
+pub mod machine;
+pub mod reports;
+pub mod serial;
 pub mod waves;

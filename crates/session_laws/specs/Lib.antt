@@ -1,0 +1,3 @@
+pub mod LoopFree
+pub mod Solutions
+pub mod Spellings
