@@ -1,0 +1,3 @@
+pub mod Midi
+pub mod Reads
+pub mod Remaining

@@ -1,0 +1,13 @@
+//! The lines of a session script, and the words of a line, read from the left without a copy.
+#![tactic(auto)]
+
+mod bytes;
+mod hexed;
+mod lines;
+mod numbers;
+#[cfg(test)]
+mod tests;
+mod words;
+
+pub use lines::{Line, Lines};
+pub use words::Words;
