@@ -1,0 +1,17 @@
+//! A bounded ring of sample blocks between one thread that puts them and one that gets them.
+#![tactic(auto)]
+
+mod block;
+mod consumer;
+mod ends;
+mod producer;
+mod steps;
+#[cfg(test)]
+mod tests;
+mod view;
+
+pub use block::{Block, Content, Samples};
+pub use consumer::{Consumer, Got};
+pub use ends::{renew, ring, tell};
+pub use producer::{Full, Producer};
+pub use view::{ConsumerView, ProducerView, Rules, SeatView, Size};
