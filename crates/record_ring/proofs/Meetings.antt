@@ -1,7 +1,6 @@
 -- The steps by which the two ends meet keep the ring's rule.
-use Rattle.std.proofs.Common.{◌≡◌, ◌≢◌, ℕ, ◌+◌, ◌*◌, ◌≤◌, ◌⊎◌, Bool, true, false, List, [], ◌∷◌, ◌++◌, length, get_or, take, set, sym, refl, ap, ◌∙◌, subst, ⊎_elim, le_trans, arith}
+use Rattle.std.proofs.Common.{◌≡◌, ◌≢◌, ℕ, ◌+◌, ◌*◌, ◌≤◌, Bool, true, false, List, [], ◌∷◌, length, get_or, take, set, sym, refl, ap, ◌∙◌, subst, ⊎_elim, arith}
 use Rattle.std.proofs.lemmas.List.{length-take-le}
-use Rattle.std.specs.List.{All}
 use mathlib.Core.Option.{none, some}
 use lib.Seq.{take-length}
 use lib.ListN.{get_elem?}
@@ -13,7 +12,7 @@ use Rattle.record_ring.specs.declared.view.Size.{Size}
 use Rattle.record_ring.specs.declared.view.SeatView.{SeatView}
 use Rattle.record_ring.specs.Rule.{weight, KnowsPut, KnowsGot, RingRule}
 use Rattle.record_ring.specs.Steps.{Sat, without_consumer, without_producer, joined, nobody, Meets, renew_after, Renewed, tell_after, Told}
-use Rattle.record_ring.proofs.Moves.{St, Goes}
+use Rattle.record_ring.proofs.Moves.{St}
 
 pub parts : (z : Size) (id : ℕ) (v : SeatView) → v.is_consumer ≡ true → Splits (RingRule z) id v (without_consumer v) (without_producer v)
 parts z id v consumes s r at =
@@ -118,8 +117,7 @@ pub renews : (z : Size) (n id : ℕ) (me : Sat) (new : ℕ) → me.0.is_producer
 renews z n id me new produces consumes now s r wide at _ =
     let p = (r.each_producer id me.0 at produces).1 in let e = (r.each_consumer id me.0 at consumes).1 in let know = meets z s r id me.0 at produces consumes in
     let all : length me.0.producer.put ≡ length r.put = ap length p.all_put in let behind : r.taken + r.drawn ≤ length r.put = r.behind in
-    let got : length me.0.consumer.got ≡ r.taken = ap length e.first_put ∙ length-take-le r.taken r.put (omega arith) in
-    (
+    let got : length me.0.consumer.got ≡ r.taken = ap length e.first_put ∙ length-take-le r.taken r.put (omega arith) in (
       renew_after me.0,
       keeps,
       tt,

@@ -1,5 +1,5 @@
 -- What stays of the ring's rule where one seat moves.
-use Rattle.std.proofs.Common.{◌≡◌, ℕ, ◌+◌, ◌<◌, ◌≤◌, Bool, true, false, List, [], ◌∷◌, length, get_or, take, set, sym, ap, ◌∙◌, subst, le_trans, arith, length-set}
+use Rattle.std.proofs.Common.{◌≡◌, ℕ, ◌+◌, ◌≤◌, Bool, true, false, List, length, get_or, take, set, sym, ap, ◌∙◌, subst, le_trans, arith, length-set}
 use Rattle.std.proofs.lemmas.List.{length-take-le}
 use mathlib.Core.Option.{Option, some}
 use lib.ListN.{get_elem?}

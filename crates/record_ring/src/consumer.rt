@@ -12,10 +12,7 @@ use std::sync::Arc;
 pub enum Got {
     Block,
     /// So many blocks were sent, and all of them taken.
-    Empty {
-        sent: u64,
-        taken: u64,
-    },
+    Empty { sent: u64, taken: u64 },
     Ended,
 }
 

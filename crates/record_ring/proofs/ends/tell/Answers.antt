@@ -1,4 +1,4 @@
-use Rattle.std.proofs.Common.{rules, ap, sym, ◌∙◌, ◌*◌, ℕ, length}
+use Rattle.std.proofs.Common.{rules, ap, ◌∙◌}
 use Rattle.record_ring.specs.Steps.{Sat}
 use Rattle.record_ring.proofs.Meetings.{parts, joins, tells}
 use Rattle.record_ring.proofs.ends.tell.Goals as goal

@@ -1,4 +1,4 @@
-use Rattle.std.proofs.Common.{◌∙◌, ap, refl, sym, ◌≡◌, List, ℕ, take, drop, length, ◌++◌}
+use Rattle.std.proofs.Common.{◌∙◌, ap, refl, ℕ, take, drop, length, ◌++◌}
 use Rattle.record_ring.specs.Blocks.{SampleList, with_samples}
 use Rattle.record_ring.proofs.block.Samples.as_mut_slice.Goals as goal
 
