@@ -1,5 +1,5 @@
 -- The steps by which the two ends meet keep the rule of a publication.
-use Rattle.std.proofs.Common.{◌≡◌, ◌≢◌, ℕ, ◌≤◌, ◌⊎◌, true, false, List, [], ◌∷◌, ◌++◌, length, get_or, take, set, sym, refl, ap, ◌∙◌, subst, ⊎_elim, arith}
+use Rattle.std.proofs.Common.{◌≡◌, ◌≢◌, ℕ, ◌≤◌, true, false, List, length, set, sym, refl, ap, ◌∙◌, subst, ⊎_elim, arith}
 use Rattle.std.specs.Prelude.{Option}
 use Rattle.std.specs.List.{All}
 use mathlib.Core.Option.{none, some}
@@ -12,8 +12,6 @@ use Rattle.jack_types.specs.declared.commands.Change.{Change}
 use Rattle.session_model.specs.Publication.{SeenPair}
 use Rattle.graph_word.specs.declared.plans.Base.{Base}
 use Rattle.graph_word.specs.declared.view.TakenRow.{TakenRow}
-use Rattle.graph_word.specs.declared.view.PublisherView.{PublisherView}
-use Rattle.graph_word.specs.declared.view.ReaderView.{ReaderView}
 use Rattle.graph_word.specs.declared.view.SeatView.{SeatView}
 use Rattle.graph_word.specs.Publications.{last_row, IsFront}
 use Rattle.graph_word.specs.Rule.{Course, KnowsPublished, KnowsTaken, PublicationRule}

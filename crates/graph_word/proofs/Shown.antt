@@ -1,11 +1,11 @@
 -- What stands at every moment is a valid state of the publication machine.
-use Rattle.std.proofs.Common.{◌≡◌, ℕ, ◌+◌, ◌-◌, ◌<◌, ◌≤◌, max, List, [], ◌∷◌, ◌++◌, length, get_or, take, map, set, sym, refl, ap, ◌∙◌, arith, length-set}
+use Rattle.std.proofs.Common.{◌≡◌, ◌≤◌, List, [], ◌∷◌, ◌++◌, length, get_or, take, map, set, sym, refl, ◌∙◌, arith, length-set}
 use Rattle.std.proofs.lemmas.List.Elements.{All-map}
 use Rattle.jack_types.specs.declared.commands.Change.{Change}
-use Rattle.session_model.specs.Publication.{SeenPair, BegunRow, IsPublication, last_cycle, published}
+use Rattle.session_model.specs.Publication.{BegunRow, IsPublication, last_cycle, published}
 use Rattle.graph_word.specs.declared.view.TakenRow.{TakenRow}
 use Rattle.graph_word.specs.Publications.{last_row}
-use Rattle.graph_word.specs.Rule.{fronts, begun_row, Course, shown, Stands}
+use Rattle.graph_word.specs.Rule.{begun_row, Course, shown, Stands}
 use Rattle.graph_word.proofs.Fronts.{front_short, got_here, got_else, length-fronts, fronts_at}
 
 pub last_begun : (rows : List TakenRow) → last_row rows ≡ last_cycle (map begun_row rows)

@@ -1,7 +1,7 @@
 -- What contracts see of the two ends of a publication. Content number n is the first n of all changes published so far.
 --     Publishing, Reading      the two ends
 --     Commits, Looks, Takes, Begins, Meets      what the calls do
-use Rattle.std.specs.Prelude.{◌≡◌, ℕ, ◌<◌, ◌≤◌, List, [], ◌∷◌, ◌++◌, length, take, All, Contains}
+use Rattle.std.specs.Prelude.{◌≡◌, ℕ, ◌≤◌, List, [], ◌∷◌, ◌++◌, length, take, All, Contains}
 use Rattle.atomic_table.specs.Seated.{TableId}
 use Rattle.jack_types.specs.declared.commands.Change.{Change}
 use Rattle.session_model.specs.Publication.{SeenPair}

@@ -15,7 +15,7 @@ pub new-requires : goal.new-requires
 new-requires g c =
     let P : Type 0 = g.row.P.Denot in let content = g.P.Numbered.content in let base_of = g.P.Numbered.base in let z : Base = base_of c.args.second in
     let items : c.push_reserved-3.new.self.items ≡ Some c.args.first ∷ None ∷ None ∷ [] =
-        c.push_reserved-3.ensures.items ∙ ap (λ (l : List (Option P)). l ++ None ∷ []) (c.push_reserved-2.ensures.items ∙ ap (λ (l : List (Option P)). l ++ None ∷ []) (c.push_reserved.ensures.items ∙ ap (λ (l : List (Option P)). l ++ Some c.args.first ∷ []) c.in_ok-slots.ensures.items)) in
+    c.push_reserved-3.ensures.items ∙ ap (λ (l : List (Option P)). l ++ None ∷ []) (c.push_reserved-2.ensures.items ∙ ap (λ (l : List (Option P)). l ++ None ∷ []) (c.push_reserved.ensures.items ∙ ap (λ (l : List (Option P)). l ++ Some c.args.first ∷ []) c.in_ok-slots.ensures.items)) in
     subst (λ (l : List (Option P)). PublicationRule content base_of z (opening (0 ∷ 0 ∷ []) l (opening_view z))) (sym items) (begins_with content base_of z c.args.first c.requires.first (sym c.requires.second.1))
 
 pub split_seat-other-requires : goal.split_seat-other-requires

@@ -1,8 +1,7 @@
-use Rattle.std.proofs.Common.{rules, ◌∷◌, ◌++◌, [], ap, sym, ◌∙◌, subst, ℕ, List, ◌*◌, ◌+◌, ◌%◌, ◌≡◌, length}
+use Rattle.std.proofs.Common.{rules, ◌∷◌, ◌++◌, [], ap, sym, ◌∙◌, subst, ℕ, List, ◌*◌, ◌+◌, ◌%◌, ◌≡◌}
 use Rattle.std.specs.Prelude.{Option, Some}
 use mathlib.Core.Option.{none}
 use Rattle.atomic_table.specs.Table.{Me, Allows, step, rest}
-use Rattle.jack_types.specs.declared.commands.Change.{Change}
 use Rattle.graph_word.specs.declared.plans.Base.{Base}
 use Rattle.graph_word.specs.declared.view.SeatView.{SeatView}
 use Rattle.graph_word.specs.Publications.{Publishing}
@@ -20,7 +19,7 @@ swap-found-requires g c =
       search rules,
       subst (λ (m : Me (Option P) SeatView). Allows (PublicationRule content base_of z) n c.exchange.new.seat.id m 0 (λ _. new) (Committed content base_of (step n 0 new 0 none) m)) (sym now)
           (commits content base_of z n c.exchange.new.seat.id v p.place new p.plan next.more i.4 i.5 i.6 i.7
-              (subst (λ (u : Publishing × P). u.0.held ≡ u.0.all ++ next.more ∷ []) (sym is) next.one_more) (subst (λ (u : Publishing × P). base_of u.1 ≡ u.0.base) (sym is) c.requires.base) (ap (λ (q : ℕ). q * 4 + p.place) c.number-published.ensures)),
+          (subst (λ (u : Publishing × P). u.0.held ≡ u.0.all ++ next.more ∷ []) (sym is) next.one_more) (subst (λ (u : Publishing × P). base_of u.1 ≡ u.0.base) (sym is) c.requires.base) (ap (λ (q : ℕ). q * 4 + p.place) c.number-published.ensures)),
     )
 
 pub exchange-requires-2 : goal.exchange-requires-2

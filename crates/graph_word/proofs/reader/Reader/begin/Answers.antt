@@ -1,4 +1,4 @@
-use Rattle.std.proofs.Common.{rules, ap, sym, subst, ◌<◌}
+use Rattle.std.proofs.Common.{rules, sym, subst, ◌<◌}
 use Rattle.graph_word.specs.Publications.{Reading, last_row}
 use Rattle.graph_word.proofs.Taking.{begins}
 use Rattle.graph_word.proofs.reader.Reader.begin.Goals as goal

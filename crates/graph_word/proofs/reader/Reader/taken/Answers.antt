@@ -1,4 +1,4 @@
-use Rattle.std.proofs.Common.{rules, arith, ◌<◌, ◌≤◌, ◌≡◌, ◌∷◌, ap, sym, ◌∙◌, subst, ℕ, List, length, ◌*◌, ◌+◌, ◌/◌, ◌%◌}
+use Rattle.std.proofs.Common.{rules, arith, ◌≤◌, ◌≡◌, ◌∷◌, ap, sym, ◌∙◌, subst, ℕ, List, length, ◌*◌, ◌+◌, ◌/◌, ◌%◌}
 use Rattle.std.specs.Prelude.{Option, Some}
 use mathlib.Core.Option.{none}
 use Rattle.atomic_table.specs.Seated.{TableId}
