@@ -38,7 +38,7 @@ impl Model for Consumer {
 }
 
 impl Consumer {
-    ghost use Rattle.std.specs.Prelude.{◌≡◌, ◌≢◌, ◌≤◌, ℕ};
+    ghost use Rattle.std.specs.Prelude.{◌≡◌, ◌≢◌, ◌<◌, ◌≤◌, ◌^◌, ℕ, length};
     ghost use Rattle.record_ring.specs.Rings.{content, items_of, Gets};
 
     /// Takes the oldest block of the ring, and leaves the content of `block` there as a spare.
@@ -49,6 +49,7 @@ impl Consumer {
         requires { block.old.samples.room ≡ self.old.samples }
         ensures gets { (found : ℕ) × Gets self.old self.new (content block.new) found result }
         ensures most { items_of self.new.got ≤ self.new.most }
+        ensures few { length self.new.got < 2 ^ 63 }
         ensures kept { result ≢ Got.Block → block.new ≡ block.old }
         ensures spare { block.new.samples.room ≡ block.old.samples.room }
     {
