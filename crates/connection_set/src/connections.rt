@@ -23,12 +23,15 @@ pub struct Connections {
 }
 
 impl Model for Connections {
+    ghost use Rattle.std.specs.Prelude.{◌≤◌, length};
     ghost use Rattle.std.specs.Vec.{vec_capacity};
     ghost use Rattle.connection_set.specs.Connections.{ConnectionSet};
 
     ghost Value = { ConnectionSet };
 
     ghost view = { λ c. record { edges = c.edges.items; room = vec_capacity c.edges } };
+
+    ghost invariant = { λ c. length c.edges.items ≤ 512 };
 }
 
 /// Whether an edge goes from the one port to the other.
@@ -198,9 +201,10 @@ impl Connections {
         self.edges.retain(|edge| !has_end(edge, port));
     }
 
-    /// The edges, in the order of making.
+    /// The edges, in the order of making: never more than 512.
     pub fn edges(&self) -> &[Edge]
-        ensures { result.now ≡ self.now.edges }
+        ensures edges { result.now ≡ self.now.edges }
+        ensures few { length self.now.edges ≤ 512 }
     {
         &self.edges
     }
