@@ -1,11 +1,11 @@
 -- The marking search.
-use Rattle.std.proofs.Common.{◌≡◌, ℕ, zero, suc, ◌+◌, ◌<◌, ◌≤◌, Bool, true, false, cond, not, ◌⊎◌, ◌↔◌, inl, inr, List, [], ◌∷◌, ◌++◌, length, map, filter, set, get_or, replicate, All, Contains, IsTrue, refl, sym, ◌∙◌, ap, subst, arith, true≢false, get_or-set_same, get_or-set_other}
+use Rattle.std.proofs.Common.{◌≡◌, ℕ, zero, suc, ◌<◌, ◌≤◌, Bool, true, false, cond, not, ◌⊎◌, ◌↔◌, inl, inr, List, [], ◌∷◌, ◌++◌, length, filter, set, get_or, replicate, All, Contains, refl, sym, ◌∙◌, ap, subst, arith, true≢false, get_or-set_same, get_or-set_other}
 use Rattle.std.proofs.lemmas.Bool.{cases_eq, cases_order}
 use Rattle.std.proofs.lemmas.List.{get_or_past, get_or-replicate, length-replicate, length-set}
 use Rattle.jack_types.specs.declared.ports.Edge.{Edge}
 use Rattle.session_model.specs.Loops.{IsPath, Leads}
 use Rattle.session_model.specs.State.{is_direct}
-use Rattle.session_laws.proofs.LoopLemmas.{IsPath-append, Contains-first, Contains-later, Contains-cases}
+use Rattle.session_laws.proofs.LoopLemmas.{IsPath-append}
 use Rattle.session_laws.proofs.SoundLemmas.{contains-map, map-contains}
 use Rattle.session_laws.proofs.ListLemmas.{Contains-filtered, Contains-kept}
 use Rattle.session_laws.proofs.CycleLemmas.{filter-passes}

@@ -1,5 +1,5 @@
 -- A table of nodes' numbers, and the ends of edges in it.
-use Rattle.std.proofs.Common.{replicate, IsTrue, ◌↔◌, ◌≡◌, ℕ, zero, suc, ◌+◌, ◌-◌, ◌<◌, ◌≤◌, Bool, true, false, cond, ◌==◌, ◌⊎◌, inl, inr, List, [], ◌∷◌, length, map, filter, find, set, get_or, drop, take, All, Contains, Option, Some, None, refl, sym, ◌∙◌, ap, ap₂, subst, arith, true≢false, eq-eqb, eqb-true, get_or-set_same, get_or-set_other, add-one}
+use Rattle.std.proofs.Common.{replicate, IsTrue, ◌↔◌, ◌≡◌, ℕ, suc, ◌+◌, ◌<◌, Bool, true, false, cond, ◌==◌, ◌⊎◌, inl, inr, List, [], ◌∷◌, length, map, filter, find, set, get_or, drop, All, Contains, Some, refl, sym, ◌∙◌, ap, ap₂, subst, arith, true≢false, eq-eqb, eqb-true, get_or-set_same, get_or-set_other, add-one}
 use Rattle.std.specs.Option.{option_map_or}
 use Rattle.std.proofs.Math.Seq.{drop-cons}
 use Rattle.std.proofs.lemmas.Bool.{cases_eq}
@@ -10,15 +10,13 @@ use Rattle.jack_types.specs.declared.ports.Node.{Node}
 use Rattle.jack_types.specs.declared.ports.Node.TheVariants.{Capture, Playback, Client}
 use Rattle.jack_types.specs.declared.ports.Port.{Port}
 use Rattle.jack_types.specs.declared.ports.PortId.{PortId}
-use Rattle.session_model.specs.Ids.{node_with, node_links, same_id_node}
+use Rattle.session_model.specs.Ids.{node_with, node_links}
 use Rattle.session_model.specs.Loops.{IsPath, Leads}
 use Rattle.session_model.specs.State.{is_direct}
-use Rattle.session_laws.proofs.LoopLemmas.{Contains-first, Contains-later}
 use Rattle.session_laws.proofs.SoundLemmas.{contains-map, map-contains}
-use Rattle.session_laws.proofs.ListLemmas.{Contains-filtered}
 use Rattle.session_laws.proofs.PlaceLemmas.{map-after}
 use Rattle.session_laws.proofs.CycleLemmas.{map_filter-same}
-use Rattle.connection_set.specs.Connections.{IsIdOf, same_id}
+use Rattle.connection_set.specs.Connections.{IsIdOf}
 use Rattle.feedback_edges.specs.Marking.{node_number, AreAmong}
 use Rattle.feedback_edges.specs.Search.{number_with, IsTable, link_by, number_links}
 

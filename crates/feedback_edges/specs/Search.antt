@@ -1,12 +1,10 @@
--- Inside: nodes by their numbers. No public clause cites this module.
+-- Nodes by their numbers, for a search over many nodes.
 --     IsTable ports table      at each port's id stands its node's number
 --     number_links table edges      the numbers of the nodes that direct edges join
 --     IsMarked marked n      the node of this number is marked
-use Rattle.std.specs.Prelude.{◌≡◌, ℕ, ◌<◌, Bool, true, false, not, List, [], ◌∷◌, map, filter, length, slice_index, slice_index_or}
+use Rattle.std.specs.Prelude.{◌≡◌, ℕ, ◌<◌, Bool, true, false, not, List, map, filter, length, slice_index, slice_index_or}
 use Rattle.jack_types.specs.declared.ports.Edge.{Edge}
-use Rattle.jack_types.specs.declared.ports.Mark.TheVariants.{Direct}
 use Rattle.jack_types.specs.declared.ports.Port.{Port}
-use Rattle.jack_types.specs.declared.ports.PortId.{PortId}
 use Rattle.session_model.specs.Ids.{node_with}
 use Rattle.session_model.specs.Loops.{Leads}
 use Rattle.session_model.specs.State.{is_direct}

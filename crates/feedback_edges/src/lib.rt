@@ -2,9 +2,11 @@
 #![tactic(auto)]
 
 pub mod marking;
-mod numbers;
-mod searching;
+pub mod numbers;
+pub mod searching;
 #[cfg(test)]
 mod tests;
 
 pub use marking::{leads, mark, remark};
+pub use numbers::{MOST_NODES, MOST_PORTS, node_table, number_of};
+pub use searching::reached;

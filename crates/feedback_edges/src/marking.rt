@@ -7,7 +7,6 @@ ghost use Rattle.session_model.specs.Ids.{connections as edges_by_name, node_lin
 ghost use Rattle.session_model.specs.Loops.{Leads, mark_of, remark as remark_of};
 ghost use Rattle.connection_set.specs.Connections.{edge_at};
 ghost use Rattle.feedback_edges.specs.Marking.{AreAmong, AreNamed, IsNode, ends_by_id};
-
 ghost use Rattle.feedback_edges.specs.Search.{ClosesNone};
 
 use crate::numbers::{MOST_PORTS, node_table, number_of};

@@ -51,6 +51,25 @@ fn mark_next(edges: &[Edge], table: &[u8; MOST_PORTS], marked: &mut [bool; MOST_
     grown
 }
 
+/// The nodes that direct edges lead to from a node, itself among them, by their numbers.
+///
+/// It takes no memory.
+pub fn reached(edges: &[Edge], table: &[u8; MOST_PORTS], from: u8) -> [bool; MOST_NODES]
+    requires sources { All (λ (edge : EdgeRecord). edge.source.0 < 2064) edges.now }
+    requires destinations { All (λ (edge : EdgeRecord). edge.destination.0 < 2064) edges.now }
+    requires numbers { All (λ n. n < 67) table.now }
+    requires from { from < 67 }
+    ensures { (n : ℕ) → IsMarked result n ↔ Leads (number_links table.now edges.now) from n }
+{
+    let mut marked = [false; MOST_NODES];
+    marked[from as usize] = true;
+    let mut more = true;
+    'marking: while more {
+        more = mark_next(edges, table, &mut marked);
+    }
+    marked
+}
+
 /// Whether direct edges lead from the one node to the other.
 pub fn leads_between(edges: &[Edge], table: &[u8; MOST_PORTS], from: u8, to: u8) -> bool
     requires sources { All (λ (edge : EdgeRecord). edge.source.0 < 2064) edges.now }

@@ -1,5 +1,3 @@
-use Rattle.std.proofs.Common.{◌≡◌}
-use Rattle.feedback_edges.specs.Search.{IsTable}
 use Rattle.feedback_edges.proofs.TableLemmas.{sources_below, destinations_below, leads_both}
 use Rattle.feedback_edges.proofs.marking.leads.Goals as goal
 

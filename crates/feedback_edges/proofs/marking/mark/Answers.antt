@@ -1,4 +1,4 @@
-use Rattle.std.proofs.Common.{◌≡◌, true, false, sym, ◌∙◌, true≢false}
+use Rattle.std.proofs.Common.{true, false, sym, ◌∙◌, true≢false}
 use Rattle.session_model.specs.Ids.{connections, node_links}
 use Rattle.session_model.specs.Loops.{closes_loop}
 use Rattle.feedback_edges.proofs.NameLemmas.{marked, closes_loop-by_name}

@@ -1,4 +1,4 @@
-use Rattle.std.proofs.Common.{◌≡◌, ℕ, ◌<◌, length, get_or, replicate, arith}
+use Rattle.std.proofs.Common.{arith}
 use Rattle.feedback_edges.proofs.TableLemmas.{table_none, zeros_low}
 use Rattle.feedback_edges.proofs.numbers.node_table.Goals as goal
 

@@ -1,5 +1,4 @@
-use Rattle.std.proofs.Common.{◌≡◌, ℕ, ◌<◌, true, length, get_or, arith, inl, inr, true≢false}
-use Rattle.feedback_edges.specs.Search.{IsMarked}
+use Rattle.std.proofs.Common.{inl, inr, true≢false}
 use Rattle.feedback_edges.proofs.SearchLemmas.{searched, first_size, first_marked, first_led}
 use Rattle.feedback_edges.proofs.searching.leads_between.Goals as goal
 use Rattle.feedback_edges.proofs.searching.leads_between.Goals.{then-marking-test+else-not-marked-to, else-marking-test}
@@ -15,6 +14,6 @@ marking-init c = record {
 pub returns : goal.returns
 returns c =
     elim c.marking-test.branch [
-      then-marking-test+else-not-marked-to w ↦ searched c.args.table.now c.args.edges.now c.args.from c.args.to c.marking.marked c.marking.invariant.first c.marking.invariant.led (inl w.if-not-marked-to.false)
-    | else-marking-test w ↦ searched c.args.table.now c.args.edges.now c.args.from c.args.to c.marking.marked c.marking.invariant.first c.marking.invariant.led (inr (c.marking.invariant.closed w.marking-test.false))
+      | then-marking-test+else-not-marked-to w ↦ searched c.args.table.now c.args.edges.now c.args.from c.args.to c.marking.marked c.marking.invariant.first c.marking.invariant.led (inl w.if-not-marked-to.false)
+      | else-marking-test w ↦ searched c.args.table.now c.args.edges.now c.args.from c.args.to c.marking.marked c.marking.invariant.first c.marking.invariant.led (inr (c.marking.invariant.closed w.marking-test.false))
     ]

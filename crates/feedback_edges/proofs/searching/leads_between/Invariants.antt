@@ -1,4 +1,4 @@
-use Rattle.std.proofs.Common.{◌≡◌, ℕ, ◌+◌, false, All, length, if◌then◌else◌}
+use Rattle.std.proofs.Common.{◌≡◌, ◌+◌, false, All, length, if◌then◌else◌}
 use Rattle.feedback_edges.specs.Search.{AreLed, IsMarked, Passes, unmarked}
 use Rattle.feedback_edges.proofs.searching.leads_between.Given as goal
 

@@ -1,4 +1,4 @@
-use Rattle.std.proofs.Common.{◌≡◌, ℕ, ◌<◌, ◌≤◌, true, false, length, get_or, take, All, Contains, arith, sym, ap, subst, ◌∙◌, true≢false}
+use Rattle.std.proofs.Common.{◌≡◌, ◌<◌, ◌≤◌, get_or, take, All, Contains, arith, sym, ap, subst, ◌∙◌, true≢false}
 use Rattle.std.proofs.lemmas.List.{get_or_default, take_all}
 use Rattle.std.proofs.lemmas.List.Elements.{All-more}
 use Rattle.connection_set.specs.Connections.{no_edge}
@@ -11,16 +11,16 @@ pub loop-edge-preserved : goal.loop-edge-preserved
 loop-edge-preserved c =
     let before : unmarked c.loop-edge.marked ≤ unmarked c.args.marked.now = not_more c.loop-edge.grown c.loop-edge.marked c.args.marked.now c.loop-edge.invariant.same c.loop-edge.invariant.fewer in
     let here : Contains c.args.edges.now (get_or c.args.edges.now c.loop-edge.edge-index no_edge) =
-        (c.loop-edge.edge-index, c.loop-edge-test.true, get_or_default c.args.edges.now c.loop-edge.edge-index (get_or c.args.edges.now c.loop-edge.edge-index no_edge) no_edge c.loop-edge-test.true) in
+    (c.loop-edge.edge-index, c.loop-edge-test.true, get_or_default c.args.edges.now c.loop-edge.edge-index (get_or c.args.edges.now c.loop-edge.edge-index no_edge) no_edge c.loop-edge-test.true) in
     elim c.if-mark_end.branch [
-      then-mark_end w ↦ record {
+      | then-mark_end w ↦ record {
         kept = λ n h. c.mark_end.ensures.kept n (c.loop-edge.invariant.kept n h);
         led = λ from h. c.mark_end.ensures.led c.args.edges.now from here (c.loop-edge.invariant.led from h);
         closed = λ e. absurd (true≢false (sym w.grown-is ∙ e));
         same = λ e. absurd (true≢false (sym w.grown-is ∙ e));
         fewer = λ e. let now : unmarked c.mark_end.new.marked < unmarked c.loop-edge.marked = c.mark_end.ensures.fewer w.if-mark_end.true in omega (arith, now, before);
       }
-    | else-mark_end w ↦ record {
+      | else-mark_end w ↦ record {
         kept = λ n h. c.mark_end.ensures.kept n (c.loop-edge.invariant.kept n h);
         led = λ from h. c.mark_end.ensures.led c.args.edges.now from here (c.loop-edge.invariant.led from h);
         closed = λ e.
@@ -40,5 +40,5 @@ pub returns-clause-closed : goal.returns-clause-closed
 returns-clause-closed c = λ e k d h.
     let old : All (Passes c.args.table.now c.loop-edge.marked) (take c.loop-edge.edge-index c.args.edges.now) = c.loop-edge.invariant.closed e in
     let whole : All (Passes c.args.table.now c.loop-edge.marked) c.args.edges.now =
-        subst (All (Passes c.args.table.now c.loop-edge.marked)) (take_all c.loop-edge.edge-index c.args.edges.now (omega arith)) old in
+    subst (All (Passes c.args.table.now c.loop-edge.marked)) (take_all c.loop-edge.edge-index c.args.edges.now (omega arith)) old in
     whole k d h
