@@ -1,4 +1,4 @@
-use Rattle.std.proofs.Common.{inr, sym, true≢false}
+use Rattle.std.proofs.Common.{inr, true≢false}
 use Rattle.feedback_edges.proofs.SearchLemmas.{searched, first_size, first_marked, first_led}
 use Rattle.feedback_edges.proofs.searching.reached.Goals as goal
 
