@@ -1,0 +1,4 @@
+pub mod NameLemmas
+mod RemarkSteps
+mod SearchLemmas
+mod TableLemmas
