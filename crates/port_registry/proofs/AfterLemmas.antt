@@ -78,7 +78,7 @@ module _ (held : Registered) where
   unfolding state_with
   effect-slowed name cycles number = same_states _ _ _ _
       (map-changed open_client (λ client. if has_name name client then record client { slow = cycles } else client)
-        (λ (old : OpenClient). if bytes_eq old.name name then record old { slow = cycles } else old) (λ client. go client (has_name name client)) held.clients)
+      (λ (old : OpenClient). if bytes_eq old.name name then record old { slow = cycles } else old) (λ client. go client (has_name name client)) held.clients)
       refl
     where
       go : (client : Client) (b : Bool) → open_client (cond b (record client { slow = cycles }) client) ≡ cond b (record (open_client client) { slow = cycles }) (open_client client)

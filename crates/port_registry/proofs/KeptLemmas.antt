@@ -153,7 +153,7 @@ module _ (held : Registered) (r : IsRegistered held) where
   pub ports-active : (client : Client) (active : Bool) → fold (with_number_active active) held.ports (ids_in held.ports client) ≡ map (λ (port : Port). if is_of client.name port then record port { active = active } else port) held.ports
   ports-active client active = fold-active active (ids_in held.ports client) held.ports
       ∙ map-same_all (λ (port : Port). if has_number (ids_in held.ports client) port then record port { active = active } else port) (λ (port : Port). if is_of client.name port then record port { active = active } else port) held.ports
-        (λ port m. ap (λ b. cond b (record port { active = active }) port) (number-of client port m))
+      (λ port m. ap (λ b. cond b (record port { active = active }) port) (number-of client port m))
 
   pub ports-unregistered : (port : Port) → Contains held.ports port → without_id held.ports port.id ≡ filter (λ p. not (is_named port.name p)) held.ports
   ports-unregistered port m = filter-same_all (λ p. not (bears port.id p)) (λ p. not (is_named port.name p)) held.ports (λ p k. ap not (by p k (bears port.id p) refl (is_named port.name p) refl))

@@ -1,6 +1,7 @@
 pub mod AfterLemmas
 pub mod FilterLemmas
 pub mod KeptLemmas
+pub mod OpeningLemmas
 pub mod PlaceLemmas
 pub mod RefusalLemmas
 pub mod RegisteredLemmas

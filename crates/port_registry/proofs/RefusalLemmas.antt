@@ -285,7 +285,7 @@ module _ (held : Registered) (r : IsRegistered held) where
         ∙ ap (count_by (is_way way)) (sym (map-filter_after open_port (λ (port : OpenPort). bytes_eq (client_part port.name) client.name) held.ports))
         ∙ count-map_after open_port (is_way way) theirs
         ∙ sym (count-map_after (λ (port : Port). port.id.0) (has_way held.ports way) theirs ∙ count-same (λ (port : Port). has_way held.ports way port.id.0) (λ port. is_way way (open_port port)) theirs
-          (λ port m. ap (λ o. option_map_or (λ (q : Port). is_way way (open_port q)) o false) (port-found port (filter-contains (is_of client.name) held.ports port m))))
+        (λ port m. ap (λ o. option_map_or (λ (q : Port). is_way way (open_port q)) o false) (port-found port (filter-contains (is_of client.name) held.ports port m))))
 
     pub refusal_register : (way : Way) (kind : PortKind) → refusal (state_of held) (Close (client_part name)) ≡ None → refusal (state_of held) (Register name way kind)
         ≡ cond (is_some (position (bears_name held.ports name) (ids_in held.ports client))) (Some NameTaken) (cond (nat_le 16 (count_by (has_way held.ports way) (ids_in held.ports client))) (Some PortsFull) None)

@@ -232,4 +232,3 @@ module _ (held : Registered) (lists : List (ArrayVec ℕ)) (free : List ℕ) (cc
         fits_ports = at_most kept.fits_ports h;
         most_ports = kept.most_ports;
       })
-

@@ -2,6 +2,7 @@
 --     Registered      the clients in order of opening, the ports in order of birth, and for how many of each there is room
 --     state_of held      the state that these clients and ports are, with no edges, no master and no timeout
 --     client_by held name, port_by held name      what has the name, if anything
+--     system_ports capture playback      the ports of `system`, without their ids
 --     IsRegistered held      what is true of every registry
 use Rattle.std.specs.Prelude.{◌≡◌, ◌≤◌, ◌<◌, ℕ, Bool, true, false, not, ◌&&◌, List, [], ◌∷◌, ◌++◌, map, filter, find, length, count_by, Contains, Option, Some, None, if◌then◌else◌}
 use Rattle.std.specs.Str.{bytes_eq}
@@ -16,12 +17,14 @@ use Rattle.jack_types.specs.declared.ports.Node.TheVariants.{Capture, Playback, 
 use Rattle.jack_types.specs.declared.ports.Port.{Port}
 use Rattle.jack_types.specs.declared.ports.PortId.{PortId}
 use Rattle.jack_types.specs.declared.ports.PortKind.{PortKind}
+use Rattle.jack_types.specs.declared.ports.PortKind.TheVariants.{Audio}
 use Rattle.jack_types.specs.declared.ports.Way.{Way}
 use Rattle.jack_types.specs.declared.ports.Way.TheVariants.{In, Out}
 use Rattle.session_model.specs.Commands.{is_way}
 use Rattle.session_model.specs.Ids.{open_ports, open_port, way_of}
 use Rattle.session_model.specs.Soundness.{Apart}
-use Rattle.session_model.specs.State.{State, OpenClient, is_system, system_name}
+use Rattle.session_model.specs.Samples.{below}
+use Rattle.session_model.specs.State.{State, OpenClient, OpenPort, capture_port, playback_port, is_system, system_name}
 
 pub record Registered : Type 0 where
   pub clients : List Client
@@ -113,6 +116,35 @@ without_port name held = record held { ports = filter (λ port. not (is_named na
 abbrev pub system_node : Way → Node
 system_node Out = Capture
 system_node In = Playback
+
+-- the flags of a physical port of the device: what is captured is an output, what is played back an input
+abbrev pub system_flags : Way → ℕ
+system_flags Out = 0x16
+system_flags In = 0x15
+
+abbrev pub device_port : Way → ℕ → OpenPort
+device_port Out i = capture_port i
+device_port In i = playback_port i
+
+-- the i-th port of `system` of a direction, without its id
+abbrev pub system_port : Way → ℕ → Port
+system_port way i = record {
+  id = record { 0 = 0 };
+  name = (device_port way i).name;
+  birth = 0;
+  node = system_node way;
+  flags = record { 0 = system_flags way };
+  kind = Audio;
+  active = true;
+}
+
+-- a port but for its id
+abbrev pub unlisted : Port → Port
+unlisted port = record port { id = record { 0 = 0 } }
+
+-- the ports of `system`, capture before playback, without their ids
+abbrev pub system_ports : ℕ → ℕ → List Port
+system_ports capture playback = map (system_port Out) (below capture) ++ map (system_port In) (below playback)
 
 -- the node of a client's ports; `system` is two
 abbrev pub node_for : Client → Way → Node

@@ -50,12 +50,7 @@ fn is_in_use(clients: &[Client], kind: Kind) -> bool
 impl Registry {
     /// Opens a client, which is not yet active, under the number of the change that opens it.
     /// Refused where the name is open, 64 clients are, or another has the recorder, guest or disk file.
-    pub fn open_client(
-        &mut self,
-        name: &ClientName,
-        kind: Kind,
-        birth: u32,
-    ) -> Result<ClientId, No>
+    pub fn open_client(&mut self, name: &ClientName, kind: Kind, birth: u32) -> Result<ClientId, No>
         ensures answer { Answers (refusal (state_of self.old) (Open name.now kind)) result }
         ensures opened { IfOk result (λ id. self.new ≡ with_opened id name.now kind birth self.old) }
         ensures same { OnErr result (self.new ≡ self.old) }

@@ -2,9 +2,12 @@
 #![tactic(auto)]
 
 mod clients;
+mod opening;
 mod ports;
 mod registries;
 mod tables;
+#[cfg(test)]
+mod tests;
 
 pub use registries::Registry;
 pub use tables::PortIter;

@@ -4,4 +4,4 @@ use Rattle.port_registry.proofs.AfterLemmas.{after-activated}
 use Rattle.port_registry.proofs.registries.Registry.activate.Goals as goal
 
 pub returns-in-Ok-clause-after : goal.returns-in-Ok-clause-after
-returns-in-Ok-clause-after c = λ number. ap state_of c.set_active.ensures.changed ∙ after-activated c.args.self.now c.args.name.now  number c.in-Ok.ensures.answer
+returns-in-Ok-clause-after c = λ number. ap state_of c.set_active.ensures.changed ∙ after-activated c.args.self.now c.args.name.now number c.in-Ok.ensures.answer

@@ -27,7 +27,7 @@ returns-clause-closed c =
     let there : slice_get c.self.inside.clients.items c.args.place ≡ Some c.remove-client.result = w.0 ∙ ap Some (sym c.remove-client.ensures.value) in
     let list : slice_get c.self.inside.lists.items c.args.place ≡ Some c.remove-ids.result = list_there _ _ _ _ _ _ c.self.invariant c.args.place _ c.remove-ids.result there ∙ ap Some (sym c.remove-ids.ensures.value) in
     rw (← c.self.view_is) (closed-is _ _ _ _ _ _ c.self.invariant c.args.name.now c.args.place c.remove-client.result c.remove-ids.result at there list c.requires.other
-      _ _ c.remove-client.ensures.items (c.remove_all.ensures.ports ∙ ap (fold without_number c.self.inside.table.ports) c.as_slice.ensures.value))
+    _ _ c.remove-client.ensures.items (c.remove_all.ensures.ports ∙ ap (fold without_number c.self.inside.table.ports) c.as_slice.ensures.value))
 
 pub returns-clause-registered : goal.returns-clause-registered
 returns-clause-registered c = (invariant_of-self c).registered

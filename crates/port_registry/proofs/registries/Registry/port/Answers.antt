@@ -35,4 +35,4 @@ returns c =
     let there = position-at (bears_name c.self.inside.table.ports c.args.name.now) c.as_slice-ids.result.now c.in_ok-found.found 0 found in
     let theirs : position (bears_name c.self.inside.table.ports c.args.name.now) (ids_in c.self.inside.table.ports w.0) ≡ Some c.in_ok-found.found = ap (position (bears_name c.self.inside.table.ports c.args.name.now)) (sym ids) ∙ found in
     rw (← c.self.view_is) (c.copied.ensures ∙ c.get.ensures ∙ port-by_ids _ c.self.invariant.registered c.args.name.now w.0 (its_name_is _ c.self.invariant.registered (client_part c.args.name.now) c.in_ok-place.place w.0 at w.1)
-      c.in_ok-found.found (get_or c.as_slice-ids.result.now c.in_ok-found.found 0) theirs (subst (λ (xs : List ℕ). slice_get xs c.in_ok-found.found ≡ Some (get_or c.as_slice-ids.result.now c.in_ok-found.found 0)) ids there.0))
+    c.in_ok-found.found (get_or c.as_slice-ids.result.now c.in_ok-found.found 0) theirs (subst (λ (xs : List ℕ). slice_get xs c.in_ok-found.found ≡ Some (get_or c.as_slice-ids.result.now c.in_ok-found.found 0)) ids there.0))

@@ -13,7 +13,7 @@ pub returns-then-len-gt64-clause-value : goal.returns-then-len-gt64-clause-value
 returns-then-len-gt64-clause-value c =
     let many : 64 < length c.self.inside.clients.items = grind (arith, common_steps) in
     sym (open-full _ c.place.ensures.registered c.args.name.now c.args.kind (ap is_some (sym c.place.ensures.value) ∙ sym c.is_some.ensures ∙ c.if-is_some.false)
-      (subst (λ (h : Registered). 64 < length h.clients) c.self.view_is many))
+    (subst (λ (h : Registered). 64 < length h.clients) c.self.view_is many))
 
 pub returns-then-is_in_use-clause-value : goal.returns-then-is_in_use-clause-value
 returns-then-is_in_use-clause-value c =
@@ -21,8 +21,8 @@ returns-then-is_in_use-clause-value c =
     let used : is_some (position (λ (client : Client). shares client.kind c.args.kind) c.self.inside.clients.items) ≡ true
     = ap (λ cs. is_some (position (λ (client : Client). shares client.kind c.args.kind) cs)) (sym c.deref.ensures.value) ∙ sym c.is_in_use.ensures ∙ c.if-is_in_use.true in
     sym (open-used _ c.place.ensures.registered c.args.name.now c.args.kind (ap is_some (sym c.place.ensures.value) ∙ sym c.is_some.ensures ∙ c.if-is_some.false)
-      (subst (λ (h : Registered). length h.clients ≤ 64) c.self.view_is few)
-      (subst (λ (h : Registered). is_some (position (λ (client : Client). shares client.kind c.args.kind) h.clients) ≡ true) c.self.view_is used))
+    (subst (λ (h : Registered). length h.clients ≤ 64) c.self.view_is few)
+    (subst (λ (h : Registered). is_some (position (λ (client : Client). shares client.kind c.args.kind) h.clients) ≡ true) c.self.view_is used))
 
 pub returns-clause-value : goal.returns-clause-value
 returns-clause-value c =
@@ -30,5 +30,5 @@ returns-clause-value c =
     let unused : is_some (position (λ (client : Client). shares client.kind c.args.kind) c.self.inside.clients.items) ≡ false
     = ap (λ cs. is_some (position (λ (client : Client). shares client.kind c.args.kind) cs)) (sym c.deref.ensures.value) ∙ sym c.is_in_use.ensures ∙ c.if-is_in_use.false in
     sym (open-granted _ c.place.ensures.registered c.args.name.now c.args.kind (ap is_some (sym c.place.ensures.value) ∙ sym c.is_some.ensures ∙ c.if-is_some.false)
-      (subst (λ (h : Registered). length h.clients ≤ 64) c.self.view_is few)
-      (subst (λ (h : Registered). is_some (position (λ (client : Client). shares client.kind c.args.kind) h.clients) ≡ false) c.self.view_is unused))
+    (subst (λ (h : Registered). length h.clients ≤ 64) c.self.view_is few)
+    (subst (λ (h : Registered). is_some (position (λ (client : Client). shares client.kind c.args.kind) h.clients) ≡ false) c.self.view_is unused))

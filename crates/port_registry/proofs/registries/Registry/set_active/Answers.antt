@@ -22,7 +22,7 @@ returns-clause-changed c =
     let there : slice_get c.self.inside.clients.items c.args.place ≡ Some c.index_mut.result.now = w.0 ∙ ap Some (sym c.index_mut.ensures.value) in
     let list : slice_get c.self.inside.lists.items c.args.place ≡ Some c.index.result.now = list_there _ _ _ _ _ _ c.self.invariant c.args.place _ c.index.result.now there ∙ ap Some (sym c.index.ensures) in
     rw (← c.self.view_is) (active-is _ _ _ _ _ _ c.self.invariant c.args.name.now c.args.place c.index_mut.result.now c.index.result.now at there list c.requires.other
-      c.args.active _ _ refl (c.set_all_active.ensures.ports ∙ ap (fold (with_number_active c.args.active) c.self.inside.table.ports) c.as_slice.ensures.value))
+    c.args.active _ _ refl (c.set_all_active.ensures.ports ∙ ap (fold (with_number_active c.args.active) c.self.inside.table.ports) c.as_slice.ensures.value))
 
 pub returns-clause-registered : goal.returns-clause-registered
 returns-clause-registered c = (invariant_of-self c).registered

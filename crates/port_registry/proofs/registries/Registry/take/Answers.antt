@@ -15,7 +15,7 @@ remove-id-requires c =
     let of : w.0.name ≡ client_part c.args.name.now = its_name_is _ c.self.invariant.registered (client_part c.args.name.now) c.args.place w.0 at w.1 in
     let among : position (is_named c.args.name.now) (filter (is_of (client_part c.args.name.now)) c.self.inside.table.ports) ≡ Some c.args.found = rw (← c.self.view_is) at c.requires.found in
     let found : position (is_named c.args.name.now) (filter (is_of w.0.name) c.self.inside.table.ports) ≡ Some c.args.found = ap (λ n. position (is_named c.args.name.now) (filter (is_of n) c.self.inside.table.ports)) of ∙ among in
-    found_within _ _ _ _ _ _ c.self.invariant c.args.name.now c.args.place w.0 c.index_mut.result.now at w.1 list c.args.found found
+    (omega arith, found_within _ _ _ _ _ _ c.self.invariant c.args.name.now c.args.place w.0 c.index_mut.result.now at w.1 list c.args.found found)
 
 pub invariant_of-self : goal.invariant_of-self
 invariant_of-self c =

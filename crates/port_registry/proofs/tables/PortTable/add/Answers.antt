@@ -16,8 +16,8 @@ invariant_of-self-2 c =
     let low : c.insert_reserved-key.result < 2064 = omega (arith, c.insert_reserved-key.ensures.key_in_range, c.insert_reserved-key.ensures.capacity, c.self.invariant.all_ids) in
     rw (c.in-Ok.ensures.items, c.reserve.ensures.items)
     (IsTable-added _ _ c.self.invariant c.insert_reserved-key.new.self _ c.insert_reserved-key.ensures.was_vacant
-      (subst (λ n. Updates c.self.inside.places c.insert_reserved-key.new.self c.insert_reserved-key.result (Some n)) place c.insert_reserved-key.ensures.updates)
-      low c.insert_reserved-key.ensures.len c.insert_reserved-key.ensures.capacity)
+    (subst (λ n. Updates c.self.inside.places c.insert_reserved-key.new.self c.insert_reserved-key.result (Some n)) place c.insert_reserved-key.ensures.updates)
+    low c.insert_reserved-key.ensures.len c.insert_reserved-key.ensures.capacity)
 
 pub returns-clause-apart : goal.returns-clause-apart
 returns-clause-apart c = ids-apart _ _ (invariant_of-self-2 c)

@@ -38,7 +38,7 @@ invariant_of-self c =
     let len : slab_len c.settle.new.places + 1 ≡ slab_len c.self.inside.places = omega (arith, c.settle.ensures.len, c.remove-in-Some.ensures.len) in
     let fewer : length (remove c.self.inside.listed.items c.in-Some.place) + 1 ≡ length c.self.inside.listed.items = grind (arith, common_steps) in
     rw c.remove.ensures.items (IsTable-removed _ _ c.self.invariant c.args.id c.in-Some.place _ w.0 w.1 c.settle.new.places
-      (rw items at c.settle.ensures.placed) len fewer (c.settle.ensures.capacity ∙ c.remove-in-Some.ensures.capacity))
+    (rw items at c.settle.ensures.placed) len fewer (c.settle.ensures.capacity ∙ c.remove-in-Some.ensures.capacity))
 
 pub returns-in-Some-clause-ports : goal.returns-in-Some-clause-ports
 returns-in-Some-clause-ports c =
