@@ -1,0 +1,4 @@
+pub mod Told
+pub mod Causes
+pub mod Bytes
+pub mod Files
