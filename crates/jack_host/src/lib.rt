@@ -2,7 +2,20 @@
 #![tactic(auto)]
 
 mod gate;
+mod memory_host;
+mod memory_sink;
+mod memory_source;
+mod memory_store;
+mod real;
+mod refusals;
+#[cfg(test)]
+mod tests;
 mod traits;
 
 pub use gate::{FreeGate, Gate};
+pub use memory_host::MemoryHost;
+pub use memory_sink::MemorySink;
+pub use memory_source::MemorySource;
+pub use memory_store::MemoryStore;
+pub use real::{FileHost, FileSource, FileStore, WriterSink};
 pub use traits::{Failed, Host, ReadFailed, Sink, Source, Store, WriteFailed};
