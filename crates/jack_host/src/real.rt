@@ -1,0 +1,321 @@
+ghost use Rattle.std.specs.Prelude.{None, ◌≡◌, ◌≤◌, ◌+◌, ◌↔◌, length, IsTrue};
+ghost use Rattle.jack_host.specs.declared.real.TheConstants.{GATHERED};
+ghost use Rattle.jack_host.specs.Causes.{HasCause};
+
+use crate::{Failed, Host, Sink, Source, Store};
+use std::fs;
+use std::fs::{File, Files};
+use std::io::{Read, Seek, SeekFrom, Write};
+
+/// How many bytes one call of the system moves at most, so that a period of frames costs none.
+const GATHERED: usize = 16_384;
+
+/// A file that is read, some 16 KiB at a time. It tells no bytes.
+#[derive(Drop)]
+pub struct FileSource {
+    file: File,
+    gathered: [u8; GATHERED],
+    at: usize,
+    end: usize,
+    faults: u64,
+    ghost ordered: { at ≤ end },
+    ghost within: { end ≤ GATHERED },
+}
+
+impl FileSource {
+    fn new(file: File) -> FileSource
+        ensures { result.faults ≡ 0 }
+    {
+        FileSource {
+            file,
+            gathered: [0; GATHERED],
+            at: 0,
+            end: 0,
+            faults: 0,
+        }
+    }
+
+    // Gathers the file's next bytes, behind those that were given.
+    fn gather(&mut self) -> Result<(), Failed>
+        ensures { HasCause self.old.faults self.new.faults result }
+    {
+        self.at = 0;
+        self.end = 0;
+        match self.file.read(&mut self.gathered[..]) {
+            Ok(count) => {
+                self.end = count;
+                Ok(())
+            }
+            Err(_) => {
+                self.faults = self.faults.saturating_add(1);
+                Err(Failed)
+            }
+        }
+    }
+
+    // Gives of the gathered bytes.
+    fn give(&mut self, buffer: &mut [u8]) -> usize
+        ensures bound { result ≤ length buffer.new }
+        ensures faults { self.new.faults ≡ self.old.faults }
+    {
+        let count = buffer.len().min(self.end - self.at);
+        buffer[..count].copy_from_slice(&self.gathered[self.at..self.at + count]);
+        self.at += count;
+        count
+    }
+}
+
+impl Source for FileSource {
+    ghost left = { λ _. None };
+
+    ghost faults = { λ s. s.faults };
+
+    fn read(&mut self, buffer: &mut [u8]) -> Result<usize, Failed> {
+        if self.at == self.end {
+            self.gather()?;
+        }
+        Ok(self.give(buffer))
+    }
+}
+
+// Bytes that wait for their place in a file.
+#[derive(Drop)]
+struct Gathered {
+    bytes: [u8; GATHERED],
+    count: usize,
+    ghost within: { count ≤ GATHERED },
+}
+
+impl Gathered {
+    fn new() -> Gathered {
+        Gathered {
+            bytes: [0; GATHERED],
+            count: 0,
+        }
+    }
+
+    // Whether as many bytes more have room.
+    fn has_room(&self, more: usize) -> bool
+        ensures { IsTrue result ↔ (self.now.count + more ≤ GATHERED) }
+    {
+        more <= GATHERED - self.count
+    }
+
+    fn add(&mut self, bytes: &[u8])
+        requires { self.old.count + length bytes.now ≤ GATHERED }
+    {
+        let end = self.count + bytes.len();
+        self.bytes[self.count..end].copy_from_slice(bytes);
+        self.count = end;
+    }
+
+    fn clear(&mut self)
+        ensures { self.new.count ≡ 0 }
+    {
+        self.count = 0;
+    }
+
+    fn as_bytes(&self) -> &[u8] {
+        &self.bytes[..self.count]
+    }
+}
+
+/// A file that is written, some 16 KiB at a time. It tells neither its name nor its bytes.
+///
+/// A failed write of gathered bytes shows at the next write, or when the file is handed back.
+#[derive(Drop)]
+pub struct FileStore {
+    file: File,
+    gathered: Gathered,
+    place: u64,
+    faults: u64,
+}
+
+impl FileStore {
+    fn new(file: File) -> FileStore
+        ensures { result.faults ≡ 0 }
+    {
+        FileStore {
+            file,
+            gathered: Gathered::new(),
+            place: 0,
+            faults: 0,
+        }
+    }
+
+    // Writes the gathered bytes out. After a failure they are given up.
+    fn write_out(&mut self) -> Result<(), Failed>
+        ensures cause { HasCause self.old.faults self.new.faults result }
+        ensures empty { self.new.gathered.count ≡ 0 }
+    {
+        let written = put(&mut self.file, self.place, self.gathered.as_bytes());
+        self.gathered.clear();
+        self.told(written)
+    }
+
+    // Writes bytes that are too many to be gathered.
+    fn write_through(&mut self, place: u64, bytes: &[u8]) -> Result<(), Failed>
+        ensures { HasCause self.old.faults self.new.faults result }
+    {
+        let written = put(&mut self.file, place, bytes);
+        self.told(written)
+    }
+
+    // Counts a write that failed.
+    fn told(&mut self, written: bool) -> Result<(), Failed>
+        ensures cause { HasCause self.old.faults self.new.faults result }
+        ensures gathered { self.new.gathered ≡ self.old.gathered }
+    {
+        if written {
+            return Ok(());
+        }
+        self.faults = self.faults.saturating_add(1);
+        Err(Failed)
+    }
+
+    // Whether this place is where the gathered bytes end.
+    fn goes_on(&self, place: u64) -> bool {
+        self.place.checked_add(self.gathered.count as u64) == Some(place)
+    }
+}
+
+// Writes bytes at a place of a file, and says whether they were all written.
+fn put(file: &mut File, place: u64, bytes: &[u8]) -> bool {
+    if bytes.is_empty() {
+        return true;
+    }
+    if file.seek(SeekFrom::Start(place)).is_err() {
+        return false;
+    }
+    file.write_all(bytes).is_ok()
+}
+
+impl Store for FileStore {
+    ghost name = { λ _. None };
+
+    ghost content = { λ _. None };
+
+    ghost faults = { λ s. s.faults };
+
+    fn write_at(&mut self, place: u64, bytes: &[u8]) -> Result<(), Failed> {
+        if self.gathered.has_room(bytes.len()) && self.goes_on(place) {
+            self.gathered.add(bytes);
+            return Ok(());
+        }
+        self.write_out()?;
+        if bytes.len() > GATHERED {
+            return self.write_through(place, bytes);
+        }
+        self.place = place;
+        self.gathered.add(bytes);
+        Ok(())
+    }
+}
+
+/// A sink over any writer, which is flushed after each put. It tells no bytes.
+#[derive(Drop)]
+pub struct WriterSink<W> {
+    writer: W,
+    faults: u64,
+}
+
+impl<W> WriterSink<W> {
+    /// A sink over this writer, that has counted nothing.
+    pub fn new(writer: W) -> WriterSink<W>
+        ensures { result.faults ≡ 0 }
+    {
+        WriterSink { writer, faults: 0 }
+    }
+}
+
+impl<W: Write + Drop> Sink for WriterSink<W> {
+    ghost content = { λ _. None };
+
+    ghost faults = { λ s. s.faults };
+
+    fn put(&mut self, bytes: &[u8]) -> Result<(), Failed> {
+        let done = self.writer.write_all(bytes).is_ok() && self.writer.flush().is_ok();
+        if done {
+            return Ok(());
+        }
+        self.faults = self.faults.saturating_add(1);
+        Err(Failed)
+    }
+}
+
+/// The files of the system, over a runtime. It tells no files.
+#[derive(Drop)]
+pub struct FileHost<'a, R> {
+    files: &'a R,
+    read_faults: u64,
+    write_faults: u64,
+    lent: u64,
+}
+
+impl<'a, R: Files<File = File>> FileHost<'a, R> {
+    /// A host over this runtime, with no object out.
+    pub fn new(files: &'a R) -> FileHost<'a, R>
+        ensures reads { result.read_faults ≡ 0 }
+        ensures writes { result.write_faults ≡ 0 }
+        ensures lent { result.lent ≡ 0 }
+    {
+        FileHost {
+            files,
+            read_faults: 0,
+            write_faults: 0,
+            lent: 0,
+        }
+    }
+}
+
+impl<'a, R: Files<File = File>> Host for FileHost<'a, R> {
+    type In = FileSource;
+
+    type Out = FileStore;
+
+    ghost files = { λ _. None };
+
+    ghost read_faults = { λ h. h.read_faults };
+
+    ghost write_faults = { λ h. h.write_faults };
+
+    ghost lent = { λ h. h.lent };
+
+    fn open_in(&mut self, name: &str) -> Result<FileSource, Failed> {
+        match fs::open(self.files, name) {
+            Ok(file) => {
+                self.lent += 1;
+                Ok(FileSource::new(file))
+            }
+            Err(_) => {
+                self.read_faults = self.read_faults.saturating_add(1);
+                Err(Failed)
+            }
+        }
+    }
+
+    fn back(&mut self, input: FileSource) {
+        self.read_faults = self.read_faults.saturating_add(input.faults);
+        self.lent -= 1;
+    }
+
+    fn make_out(&mut self, name: &str) -> Result<FileStore, Failed> {
+        match fs::create(self.files, name) {
+            Ok(file) => {
+                self.lent += 1;
+                Ok(FileStore::new(file))
+            }
+            Err(_) => {
+                self.write_faults = self.write_faults.saturating_add(1);
+                Err(Failed)
+            }
+        }
+    }
+
+    fn done(&mut self, mut output: FileStore) -> Result<(), Failed> {
+        let written = output.write_out();
+        self.write_faults = self.write_faults.saturating_add(output.faults);
+        self.lent -= 1;
+        written
+    }
+}

@@ -1,0 +1,114 @@
+ghost use Rattle.std.specs.Prelude.{◌≡◌};
+ghost use Rattle.jack_host.specs.MemoryHost.{host_lent};
+
+use super::*;
+use jack_types::Memory;
+use std::alloc::Global;
+use std::fs;
+use std::test::Fail;
+
+// Reads to the end by small reads.
+fn read_all<S: Source>(alloc: Global, source: &mut S) -> Result<Vec<u8>, Fail> {
+    let mut bytes = Vec::new(alloc);
+    let mut piece = [0; 2];
+    for _ in 0..64_u32 {
+        let count = source.read(&mut piece).map_err(|_| "a read failed")?;
+        bytes.extend_from_slice(&piece[..count])?;
+    }
+    Ok(bytes)
+}
+
+#[test]
+fn a_refused_read_takes_no_byte(rt: HostRuntime) -> Result<(), Fail> {
+    let alloc = rt.alloc();
+    let mut source = MemorySource::new(alloc, b"abc".to_vec(alloc)?);
+    source.refuse(2)?;
+    let mut piece = [0; 2];
+    assert_eq!(rt; source.read(&mut piece), Ok(2));
+    assert_eq!(rt; source.read(&mut piece), Err(Failed));
+    assert_eq!(rt; source.as_bytes(), b"c".as_slice());
+    Ok(())
+}
+
+#[test]
+fn a_refused_write_adds_nothing(rt: HostRuntime) -> Result<(), Fail> {
+    let alloc = rt.alloc();
+    let mut store = MemoryStore::new(alloc);
+    store.refuse(2)?;
+    assert_eq!(rt; store.write_at(0, b"abc"), Ok(()));
+    assert_eq!(rt; store.write_at(0, b"x"), Err(Failed));
+    assert_eq!(rt; store.as_bytes(), b"abc".as_slice());
+    Ok(())
+}
+
+#[test]
+fn a_refused_put_adds_nothing(rt: HostRuntime) -> Result<(), Fail> {
+    let alloc = rt.alloc();
+    let mut sink = MemorySink::new(alloc);
+    sink.refuse(1)?;
+    assert_eq!(rt; sink.put(b"a"), Err(Failed));
+    assert_eq!(rt; sink.put(b"b"), Ok(()));
+    assert_eq!(rt; sink.as_bytes(), b"b".as_slice());
+    Ok(())
+}
+
+// A file is made, written and closed under a name whose closing fails.
+fn close_refused(host: &mut MemoryHost) -> Result<Result<(), Failed>, Failed>
+    requires { host_lent host.old ≡ 0 }
+{
+    let mut output = host.make_out("p")?;
+    output.write_at(0, b"ab")?;
+    Ok(host.done(output))
+}
+
+#[test]
+fn a_host_in_memory_refuses_as_listed(rt: HostRuntime) -> Result<(), Fail> {
+    let mut host = MemoryHost::new(rt.alloc());
+    host.add("s", b"script")?;
+    host.refuse("s", 0)?;
+    host.refuse_done("p")?;
+    assert!(rt; host.open_in("s").is_err());
+    assert!(rt; host.open_in("missing").is_err());
+    let closed = close_refused(&mut host).map_err(|_| "the file was not made")?;
+    assert_eq!(rt; closed, Err(Failed));
+    assert_eq!(rt; host.file("p").ok_or("p is missing")?, b"ab".as_slice());
+    Ok(())
+}
+
+#[test]
+fn real_files_keep_what_was_written(rt: HostRuntime) -> Result<(), Fail> {
+    let mut host = FileHost::new(&rt);
+    let mut output = host.make_out("made").map_err(|_| "not made")?;
+    assert_eq!(rt; output.write_at(0, b"hallo"), Ok(()));
+    assert_eq!(rt; output.write_at(1, b"e"), Ok(()));
+    assert_eq!(rt; host.done(output), Ok(()));
+    let mut input = host.open_in("made").map_err(|_| "not there")?;
+    let bytes = read_all(rt.alloc(), &mut input)?;
+    host.back(input);
+    fs::remove_file(&rt, "made")?;
+    assert_eq!(rt; bytes.as_slice(), b"hello".as_slice());
+    assert!(rt; host.open_in("made").is_err());
+    Ok(())
+}
+
+#[test]
+fn a_writer_gets_each_put(rt: HostRuntime) -> Result<(), Fail> {
+    let mut sink = WriterSink::new(fs::create(&rt, "put")?);
+    assert_eq!(rt; sink.put(b"one "), Ok(()));
+    assert_eq!(rt; sink.put(b"two"), Ok(()));
+    let bytes = fs::read(&rt, "put")?;
+    fs::remove_file(&rt, "put")?;
+    assert_eq!(rt; bytes.as_slice(), b"one two".as_slice());
+    Ok(())
+}
+
+#[test]
+fn the_free_gate_holds_nobody() {
+    let gate = FreeGate;
+    gate.before_cycle(1);
+    gate.before_call(0, 1);
+    gate.after_call(0, 1);
+    gate.before_client(0, 0);
+    gate.before_block(0);
+    gate.before_turn(0);
+}
