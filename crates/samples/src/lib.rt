@@ -1,0 +1,10 @@
+//! Samples as a file stores them, their sums, and the clamp.
+#![tactic(auto)]
+
+mod scaling;
+mod sums;
+#[cfg(test)]
+mod tests;
+
+pub use scaling::{from_bytes, to_bytes};
+pub use sums::{add_into, clamp64, settle};

@@ -1,0 +1,172 @@
+ghost use Rattle.std.specs.Prelude.{◌≡◌, ◌*◌, [], ◌∷◌, length, true};
+ghost use Rattle.session_model.specs.Samples.{bytes_of, down, samples_of, stored, storing, up, width};
+ghost use Rattle.session_model.specs.WaveFiles.{is_width};
+
+/// Reads samples from a file's bytes.
+///
+/// The bytes are little-endian numbers of `bits` bits, at 8 bits unsigned and else signed, one
+/// sample after another. Full scale at every width becomes full scale in 32 bits.
+pub fn from_bytes(bits: u16, bytes: &[u8], out: &mut [i32])
+    requires bits { is_width bits ≡ true }
+    requires lengths { length bytes.now ≡ length out.old * width bits }
+    ensures { out.new ≡ samples_of bits bytes.now }
+{
+    match bits {
+        8 => from_8(bytes, out),
+        16 => from_16(bytes, out),
+        24 => from_24(bytes, out),
+        _ => from_32(bytes, out),
+    }
+}
+
+/// Writes samples as a file's bytes, the reverse of [`from_bytes`] but for the bits that the width
+/// leaves out: these are cut off towards minus infinity.
+pub fn to_bytes(bits: u16, samples: &[i32], out: &mut [u8])
+    requires bits { is_width bits ≡ true }
+    requires lengths { length out.old ≡ length samples.now * width bits }
+    ensures { out.new ≡ bytes_of bits samples.now }
+{
+    match bits {
+        8 => to_8(samples, out),
+        16 => to_16(samples, out),
+        24 => to_24(samples, out),
+        _ => to_32(samples, out),
+    }
+}
+
+fn sample_8(a: u8) -> i32
+    ensures { result ≡ up 8 (stored 8 (a ∷ [])) }
+{
+    (i32::from(a) - 128) * 0x100_0000
+}
+
+fn sample_16(a: u8, b: u8) -> i32
+    ensures { result ≡ up 16 (stored 16 (a ∷ b ∷ [])) }
+{
+    i32::from_le_bytes([0, 0, a, b])
+}
+
+fn sample_24(a: u8, b: u8, c: u8) -> i32
+    ensures { result ≡ up 24 (stored 24 (a ∷ b ∷ c ∷ [])) }
+{
+    i32::from_le_bytes([0, a, b, c])
+}
+
+fn sample_32(a: u8, b: u8, c: u8, d: u8) -> i32
+    ensures { result ≡ up 32 (stored 32 (a ∷ b ∷ c ∷ d ∷ [])) }
+{
+    i32::from_le_bytes([a, b, c, d])
+}
+
+fn from_8(bytes: &[u8], out: &mut [i32])
+    requires { length bytes.now ≡ length out.old }
+    ensures { out.new ≡ samples_of 8 bytes.now }
+{
+    for (i, sample) in out.iter_mut().enumerate() {
+        *sample = sample_8(bytes[i]);
+    }
+}
+
+fn from_16(bytes: &[u8], out: &mut [i32])
+    requires { length bytes.now ≡ length out.old * 2 }
+    ensures { out.new ≡ samples_of 16 bytes.now }
+{
+    for (i, sample) in out.iter_mut().enumerate() {
+        *sample = sample_16(bytes[2 * i], bytes[2 * i + 1]);
+    }
+}
+
+fn from_24(bytes: &[u8], out: &mut [i32])
+    requires { length bytes.now ≡ length out.old * 3 }
+    ensures { out.new ≡ samples_of 24 bytes.now }
+{
+    for (i, sample) in out.iter_mut().enumerate() {
+        *sample = sample_24(bytes[3 * i], bytes[3 * i + 1], bytes[3 * i + 2]);
+    }
+}
+
+fn from_32(bytes: &[u8], out: &mut [i32])
+    requires { length bytes.now ≡ length out.old * 4 }
+    ensures { out.new ≡ samples_of 32 bytes.now }
+{
+    for (i, sample) in out.iter_mut().enumerate() {
+        *sample = sample_32(
+            bytes[4 * i],
+            bytes[4 * i + 1],
+            bytes[4 * i + 2],
+            bytes[4 * i + 3],
+        );
+    }
+}
+
+fn bytes_8(sample: i32) -> u8
+    ensures { result ∷ [] ≡ storing 8 (down 8 sample) }
+{
+    let [_, _, _, top] = sample.to_le_bytes();
+    top ^ 0x80
+}
+
+fn bytes_16(sample: i32) -> [u8; 2]
+    ensures { result ≡ storing 16 (down 16 sample) }
+{
+    let [_, _, a, b] = sample.to_le_bytes();
+    [a, b]
+}
+
+fn bytes_24(sample: i32) -> [u8; 3]
+    ensures { result ≡ storing 24 (down 24 sample) }
+{
+    let [_, a, b, c] = sample.to_le_bytes();
+    [a, b, c]
+}
+
+fn bytes_32(sample: i32) -> [u8; 4]
+    ensures { result ≡ storing 32 (down 32 sample) }
+{
+    sample.to_le_bytes()
+}
+
+fn to_8(samples: &[i32], out: &mut [u8])
+    requires { length out.old ≡ length samples.now }
+    ensures { out.new ≡ bytes_of 8 samples.now }
+{
+    for (i, byte) in out.iter_mut().enumerate() {
+        *byte = bytes_8(samples[i]);
+    }
+}
+
+fn to_16(samples: &[i32], out: &mut [u8])
+    requires { length out.old ≡ length samples.now * 2 }
+    ensures { out.new ≡ bytes_of 16 samples.now }
+{
+    for (i, sample) in samples.iter().enumerate() {
+        let [a, b] = bytes_16(*sample);
+        out[2 * i] = a;
+        out[2 * i + 1] = b;
+    }
+}
+
+fn to_24(samples: &[i32], out: &mut [u8])
+    requires { length out.old ≡ length samples.now * 3 }
+    ensures { out.new ≡ bytes_of 24 samples.now }
+{
+    for (i, sample) in samples.iter().enumerate() {
+        let [a, b, c] = bytes_24(*sample);
+        out[3 * i] = a;
+        out[3 * i + 1] = b;
+        out[3 * i + 2] = c;
+    }
+}
+
+fn to_32(samples: &[i32], out: &mut [u8])
+    requires { length out.old ≡ length samples.now * 4 }
+    ensures { out.new ≡ bytes_of 32 samples.now }
+{
+    for (i, sample) in samples.iter().enumerate() {
+        let [a, b, c, d] = bytes_32(*sample);
+        out[4 * i] = a;
+        out[4 * i + 1] = b;
+        out[4 * i + 2] = c;
+        out[4 * i + 3] = d;
+    }
+}
