@@ -1,13 +1,13 @@
 -- What stands in a store after each write that finishes its file.
-use Rattle.std.proofs.Common.{◌≡◌, ℕ, zero, suc, ◌+◌, ◌%◌, ◌≤◌, List, [], ◌∷◌, ◌++◌, length, take, drop, Some, None, ◌⊎◌, inl, inr, refl, sym, ap, subst, ◌∙◌, arith, length-append, append_assoc, append-nil}
-use Rattle.std.specs.Prelude.{replicate, codes, Option, Result, Ok, Err, OnOk, OnErr}
+use Rattle.std.proofs.Common.{◌≡◌, ℕ, zero, suc, ◌+◌, ◌%◌, ◌≤◌, List, [], ◌∷◌, ◌++◌, length, take, drop, Some, None, inl, inr, refl, sym, ap, subst, ◌∙◌, arith, length-append, append_assoc, append-nil}
+use Rattle.std.specs.Prelude.{replicate, slice_range, codes, Option, Result, Ok, Err, OnOk, OnErr}
 use Rattle.std.specs.Option.{ForSome}
 use Rattle.std.proofs.lemmas.List.{take_all, drop_all, length-take, length-drop}
 use Rattle.jack_types.specs.declared.files.Format.{Format}
 use Rattle.jack_host.specs.Bytes.{put_at, Holds, Gains, Writes}
-use Rattle.jack_host.specs.Told.{BothTold}
 use Rattle.session_model.specs.WaveFiles.{format_text, header_text, file_text, opening_text, u32_bytes}
-use Rattle.wave_write.specs.Tapes.{IsBetween, IsHeaded}
+use Rattle.session_laws.proofs.WaveSamples.{slice_at}
+use Rattle.wave_write.specs.Tapes.{AreInOrder, IsBetween, IsHeaded}
 use Rattle.wave_write.specs.Finishing.{Opens, Finished, FinishedPart}
 use Rattle.wave_write.proofs.Between.{AreBetween, between, between-append, between-same, between-cut}
 
@@ -32,7 +32,7 @@ gains_at_end (Some xs) (Some ys) n piece long h = h ∙ put_at_end xs piece n (l
 -- four bytes at 4, and at 40, of which maybe only a front is written
 patched_riff : (format : Format) (a b c d e f g h : ℕ) (size rest : List ℕ) (k : ℕ) → k ≤ 4
     → put_at (header_text format (a ∷ b ∷ c ∷ d ∷ []) size ++ rest) 4 (take k (e ∷ f ∷ g ∷ h ∷ []))
-      ≡ header_text format (take k (e ∷ f ∷ g ∷ h ∷ []) ++ drop k (a ∷ b ∷ c ∷ d ∷ [])) size ++ rest
+    ≡ header_text format (take k (e ∷ f ∷ g ∷ h ∷ []) ++ drop k (a ∷ b ∷ c ∷ d ∷ [])) size ++ rest
 patched_riff format a b c d e f g h size rest zero le = refl
 patched_riff format a b c d e f g h size rest (suc zero) le = refl
 patched_riff format a b c d e f g h size rest (suc (suc zero)) le = refl
@@ -42,7 +42,7 @@ patched_riff format a b c d e f g h size rest (suc (suc (suc (suc (suc k))))) le
 
 patched_size : (format : Format) (p q r s a b c d e f g h : ℕ) (rest : List ℕ) (k : ℕ) → k ≤ 4
     → put_at (header_text format (p ∷ q ∷ r ∷ s ∷ []) (a ∷ b ∷ c ∷ d ∷ []) ++ rest) 40 (take k (e ∷ f ∷ g ∷ h ∷ []))
-      ≡ header_text format (p ∷ q ∷ r ∷ s ∷ []) (take k (e ∷ f ∷ g ∷ h ∷ []) ++ drop k (a ∷ b ∷ c ∷ d ∷ [])) ++ rest
+    ≡ header_text format (p ∷ q ∷ r ∷ s ∷ []) (take k (e ∷ f ∷ g ∷ h ∷ []) ++ drop k (a ∷ b ∷ c ∷ d ∷ [])) ++ rest
 patched_size format p q r s a b c d e f g h rest zero le = refl
 patched_size format p q r s a b c d e f g h rest (suc zero) le = refl
 patched_size format p q r s a b c d e f g h rest (suc (suc zero)) le = refl
@@ -115,20 +115,61 @@ take_past (x ∷ xs) ys k =
 take_whole : (xs : List ℕ) → take (length xs) xs ≡ xs
 take_whole xs = take_all (length xs) xs (omega arith)
 
-headed_at_pad : (format : Format) (body ys : List ℕ) (k : ℕ) → ys ≡ opening_text format ++ (body ++ take k (pad_of body)) → IsHeaded (opening_text format) (file_text format body) ys
-headed_at_pad format body ys k e =
-    (opening_text format, length body + k, header-between format body opens opens (between-opens (riff_of body) refl) (between-opens (size_of body) refl),
-    e ∙ ap (λ (rest : List ℕ). opening_text format ++ rest) (sym (take_past body (pad_of body) k)))
+abbrev IsPart : Format → List ℕ → List ℕ → Type 0
+IsPart format body bytes = IsHeaded (opening_text format) (file_text format body) bytes × AreInOrder (opening_text format) (file_text format body) bytes
 
-headed_at_riff : (format : Format) (body zs : List ℕ) (k : ℕ) → zs ≡ header_text format (take k (riff_of body) ++ drop k opens) opens ++ (body ++ pad_of body) → IsHeaded (opening_text format) (file_text format body) zs
-headed_at_riff format body zs k e =
-    (header_text format (take k (riff_of body) ++ drop k opens) opens, length (body ++ pad_of body), header-between format body (take k (riff_of body) ++ drop k opens) opens (between-cut k opens (riff_of body) refl) (between-opens (size_of body) refl),
-    e ∙ ap (λ (rest : List ℕ). header_text format (take k (riff_of body) ++ drop k opens) opens ++ rest) (sym (take_whole (body ++ pad_of body))))
+-- the size at 40, whatever the four bytes at 4 are
+size_field : (format : Format) (riff size rest : List ℕ) → length riff ≡ 4 → length size ≡ 4 → slice_range (header_text format riff size ++ rest) 40 44 ≡ size
+size_field format riff size rest e f =
+    ap (λ (text : List ℕ). slice_range text 40 44) (append_assoc front size rest)
+    ∙ slice_at front size rest 40 4 (omega (arith, long)) f
+  where
+    front : List ℕ
+    front = codes "RIFF" ++ riff ++ codes "WAVE" ++ format_text format ++ codes "data"
 
-headed_at_size : (format : Format) (body ws : List ℕ) (k : ℕ) → ws ≡ header_text format (riff_of body) (take k (size_of body) ++ drop k opens) ++ (body ++ pad_of body) → IsHeaded (opening_text format) (file_text format body) ws
-headed_at_size format body ws k e =
-    (header_text format (riff_of body) (take k (size_of body) ++ drop k opens), length (body ++ pad_of body), header-between format body (riff_of body) (take k (size_of body) ++ drop k opens) (between-cut 4 opens (riff_of body) refl) (between-cut k opens (size_of body) refl),
-    e ∙ ap (λ (rest : List ℕ). header_text format (riff_of body) (take k (size_of body) ++ drop k opens) ++ rest) (sym (take_whole (body ++ pad_of body))))
+    long : length front ≡ 40
+    long =
+        length-append (codes "RIFF" ++ riff ++ codes "WAVE" ++ format_text format) (codes "data")
+        ∙ omega (arith, length-append (codes "RIFF" ++ riff ++ codes "WAVE") (format_text format), length-append (codes "RIFF" ++ riff) (codes "WAVE"), length-append (codes "RIFF") riff, format_long, e)
+      where
+        format_long : length (format_text format) ≡ 24
+        format_long = refl
+
+pad-part : (format : Format) (body ys : List ℕ) (k : ℕ) → ys ≡ opening_text format ++ (body ++ take k (pad_of body)) → IsPart format body ys
+pad-part format body ys k e = (
+  (
+    opening_text format,
+    length body + k,
+    header-between format body opens opens (between-opens (riff_of body) refl) (between-opens (size_of body) refl),
+    e ∙ ap (λ (rest : List ℕ). opening_text format ++ rest) (sym (take_past body (pad_of body) k)),
+  ),
+  inl (ap (λ (y : List ℕ). slice_range y 40 44) e),
+)
+
+cut-long : (k : ℕ) (os fs : List ℕ) → length os ≡ length fs → length (take k fs ++ drop k os) ≡ length os
+cut-long k os fs e = omega (arith, length-append (take k fs) (drop k os), length-take k fs, length-drop k os, e)
+
+riff-part : (format : Format) (body zs : List ℕ) (k : ℕ) → zs ≡ header_text format (take k (riff_of body) ++ drop k opens) opens ++ (body ++ pad_of body) → IsPart format body zs
+riff-part format body zs k e = (
+  (
+    header_text format (take k (riff_of body) ++ drop k opens) opens,
+    length (body ++ pad_of body),
+    header-between format body (take k (riff_of body) ++ drop k opens) opens (between-cut k opens (riff_of body) refl) (between-opens (size_of body) refl),
+    e ∙ ap (λ (rest : List ℕ). header_text format (take k (riff_of body) ++ drop k opens) opens ++ rest) (sym (take_whole (body ++ pad_of body))),
+  ),
+  inl (ap (λ (y : List ℕ). slice_range y 40 44) e ∙ size_field format (take k (riff_of body) ++ drop k opens) opens (body ++ pad_of body) (cut-long k opens (riff_of body) refl) refl),
+)
+
+size-part : (format : Format) (body ws : List ℕ) (k : ℕ) → ws ≡ header_text format (riff_of body) (take k (size_of body) ++ drop k opens) ++ (body ++ pad_of body) → IsPart format body ws
+size-part format body ws k e = (
+  (
+    header_text format (riff_of body) (take k (size_of body) ++ drop k opens),
+    length (body ++ pad_of body),
+    header-between format body (riff_of body) (take k (size_of body) ++ drop k opens) (between-cut 4 opens (riff_of body) refl) (between-cut k opens (size_of body) refl),
+    e ∙ ap (λ (rest : List ℕ). header_text format (riff_of body) (take k (size_of body) ++ drop k opens) ++ rest) (sym (take_whole (body ++ pad_of body))),
+  ),
+  inr (ap (λ (y : List ℕ). slice_range y 4 8) e),
+)
 
 -- ---- the three writes, where the store tells
 
@@ -191,7 +232,7 @@ pub part_at_pad : (a b : Option (List ℕ)) (written k : ℕ) → ForSome a (λ 
 part_at_pad None None written k long f = tt
 part_at_pad (Some xs) (Some ys) written k long f = λ format e.
     let is = counted xs format written e (long xs refl) in
-    headed_at_pad format (drop 44 xs) ys k (after_pad format (drop 44 xs) xs ys k e (f ∙ ap (λ (p : List ℕ). xs ++ take k p) (pad-counted (drop 44 xs) written is.count)))
+    pad-part format (drop 44 xs) ys k (after_pad format (drop 44 xs) xs ys k e (f ∙ ap (λ (p : List ℕ). xs ++ take k p) (pad-counted (drop 44 xs) written is.count)))
 part_at_pad None (Some ys) written k long f = absurd f
 part_at_pad (Some xs) None written k long f = absurd f
 
@@ -199,7 +240,7 @@ pub part_at_riff : (a b c : Option (List ℕ)) (written k : ℕ) → ForSome a (
     → k ≤ 4 → Holds b c 4 (take k (u32_bytes (36 + written + written % 2))) → FinishedPart a c
 part_at_riff None None None written k long f le g = tt
 part_at_riff (Some xs) (Some ys) (Some zs) written k long f le g = λ format e.
-    headed_at_riff format (drop 44 xs) zs k (riff_put xs ys zs format written k le (long xs refl) e f g)
+    riff-part format (drop 44 xs) zs k (riff_put xs ys zs format written k le (long xs refl) e f g)
 part_at_riff None (Some ys) c written k long f le g = absurd f
 part_at_riff (Some xs) None c written k long f le g = absurd f
 part_at_riff None None (Some zs) written k long f le g = absurd g
@@ -209,7 +250,7 @@ pub part_at_size : (a b c d : Option (List ℕ)) (written k : ℕ) → ForSome a
     → Holds b c 4 (u32_bytes (36 + written + written % 2)) → k ≤ 4 → Holds c d 40 (take k (u32_bytes written)) → FinishedPart a d
 part_at_size None None None None written k long f g le h = tt
 part_at_size (Some xs) (Some ys) (Some zs) (Some ws) written k long f g le h = λ format e.
-    headed_at_size format (drop 44 xs) ws k (size_put xs ys zs ws format written k le (long xs refl) e f g h)
+    size-part format (drop 44 xs) ws k (size_put xs ys zs ws format written k le (long xs refl) e f g h)
 part_at_size None (Some ys) c d written k long f g le h = absurd f
 part_at_size (Some xs) None c d written k long f g le h = absurd f
 part_at_size None None (Some zs) d written k long f g le h = absurd g

@@ -1,21 +1,21 @@
 -- A file that is written: what it keeps, what it has after one piece and after several, and what it is in the end.
-use Rattle.std.proofs.Common.{◌≡◌, ℕ, zero, suc, ◌+◌, ◌-◌, ◌*◌, ◌/◌, ◌%◌, ◌<◌, ◌≤◌, min, List, [], ◌∷◌, ◌++◌, length, take, drop, Some, None, ◌⊎◌, inl, inr, Bool, true, false, refl, sym, ap, subst, ◌∙◌, arith, length-append, append_assoc, append-nil, ℤ}
-use Rattle.std.specs.Prelude.{All, IfSome, is_some, map, Option, Result, Ok, Err, OnOk, OnErr, replicate, slice_range}
+use Rattle.std.proofs.Common.{◌≡◌, ℕ, zero, suc, ◌+◌, ◌-◌, ◌*◌, ◌/◌, ◌%◌, ◌<◌, ◌≤◌, List, [], ◌∷◌, ◌++◌, length, take, drop, Some, None, inl, inr, Bool, true, false, refl, sym, ap, subst, ◌∙◌, arith, length-append, append_assoc, append-nil, ℤ}
+use Rattle.std.specs.Prelude.{All, IfSome, map, Option, Result, Ok, Err, OnOk, OnErr, replicate, slice_range}
 use Rattle.std.specs.Option.{ForSome}
 use Rattle.std.specs.Int.{w32}
 use Rattle.std.specs.Int.RustNames.{FitsSigned}
-use Rattle.std.proofs.lemmas.List.{take_all, take-append-le, take-take, take-append-drop, length-take, length-take-le, drop-append-le}
+use Rattle.std.proofs.lemmas.List.{take_all, take-append-le, take-append-drop, length-take-le}
 use Rattle.std.proofs.lemmas.List.Concat.{flat_map-append}
 use Rattle.std.proofs.lemmas.Nat.{mul-le}
 use Rattle.jack_types.specs.declared.files.Format.{Format}
 use Rattle.jack_host.specs.Bytes.{put_at, Holds, Gains}
 use Rattle.session_model.specs.Samples.{bytes_of, storing, width, up, down}
-use Rattle.session_model.specs.WaveFiles.{IsFormat, AreWritable, IsWave, is_width, opening_text, file_text, wave_text}
+use Rattle.session_model.specs.WaveFiles.{IsFormat, IsWave, is_width, opening_text, file_text, wave_text}
 use Rattle.session_laws.proofs.WaveSamples.{by_width, length-bytes_of}
 use Rattle.session_laws.proofs.WaveWritten.{wave_text-wave}
-use Rattle.wave_write.specs.Tapes.{Tape, HasSamples, HasFront, IsHeaded, Gained, GainedPart, SameFile, IsKept}
+use Rattle.wave_write.specs.Tapes.{Tape, HasSamples, HasFront, AreInOrder, IsHeaded, Gained, GainedPart, SameFile, IsKept}
 use Rattle.wave_write.specs.Finishing.{Opens, Finished, FinishedPart}
-use Rattle.wave_write.proofs.FinishingLemmas.{put_at_end, gains_at_end, header-between, between-opens, none_is_not_some, opens, riff_of, size_of, take_past}
+use Rattle.wave_write.proofs.FinishingLemmas.{put_at_end, header-between, between-opens, none_is_not_some, opens, riff_of, size_of, take_past}
 
 -- ---- what a file keeps
 
@@ -117,9 +117,11 @@ gained_more a b c bits samples at end le f g =
     })
 
 pub gained_part : (a b c : Tape) (bits : ℕ) (samples : List ℤ) (at end : ℕ) → at ≤ end → Gained a b (bytes_of bits (take at samples)) → GainedPart b c (bytes_of bits (slice_range samples at end)) → GainedPart a c (bytes_of bits samples)
-gained_part a b c bits samples at end le f g =
-    (length one + g.0, omega (arith, ap length all, length-append one (two ++ three), length-append two three, g.1),
-    subst (λ (xs : List ℕ). Gains a.bytes c.bytes xs) (sym cut) (gains-trans a.bytes b.bytes c.bytes one (take g.0 two) f.told g.2))
+gained_part a b c bits samples at end le f g = (
+  length one + g.0,
+  omega (arith, ap length all, length-append one (two ++ three), length-append two three, g.1),
+  subst (λ (xs : List ℕ). Gains a.bytes c.bytes xs) (sym cut) (gains-trans a.bytes b.bytes c.bytes one (take g.0 two) f.told g.2),
+)
   where
     one : List ℕ
     one = bytes_of bits (take at samples)
@@ -192,9 +194,13 @@ front_more (Err e) a b samples part = λ before has. go a.bytes b.bytes before p
     go None (Some ys) before f h = absurd f
     go (Some xs) None before f h = absurd f
     go (Some xs) (Some ys) before f h =
-        inr (opening_text a.format, length one + part.0, header-between a.format body opens opens (between-opens (riff_of body) refl) (between-opens (size_of body) refl),
-        f ∙ ap (λ (x : List ℕ). x ++ take part.0 two) h ∙ append_assoc (opening_text a.format) one (take part.0 two)
-        ∙ ap (λ (x : List ℕ). opening_text a.format ++ x) (sym cut))
+        inr (
+          opening_text a.format,
+          length one + part.0,
+          header-between a.format body opens opens (between-opens (riff_of body) refl) (between-opens (size_of body) refl),
+          f ∙ ap (λ (x : List ℕ). x ++ take part.0 two) h ∙ append_assoc (opening_text a.format) one (take part.0 two)
+              ∙ ap (λ (x : List ℕ). opening_text a.format ++ x) (sym cut),
+        )
       where
         one : List ℕ
         one = bytes_of a.format.bits before
@@ -239,11 +245,24 @@ finish_front (Err e) tape now f = λ samples has. go tape.bytes now samples f ha
     go None (Some ys) samples f h = absurd f
     go (Some xs) None samples f h = absurd f
     go (Some xs) (Some ys) samples f h =
-        inr (subst (λ (body : List ℕ). IsHeaded (opening_text tape.format) (file_text tape.format body) ys) (ap (drop 44) h) (f tape.format (opens_as tape.format xs (bytes_of tape.format.bits samples) h)))
+        inr (subst (λ (body : List ℕ). IsHeaded (opening_text tape.format) (file_text tape.format body) ys) (ap (drop 44) h) (f tape.format (opens_as tape.format xs (bytes_of tape.format.bits samples) h)).0)
+
+pub finish_order : {T E : Type 0} (r : Result T E) (tape : Tape) (now : Option (List ℕ)) → OnErr r (FinishedPart tape.bytes now)
+    → OnErr r ((samples : List ℤ) → HasSamples tape samples → IfSome now (AreInOrder (opening_text tape.format) (wave_text tape.format samples)))
+finish_order (Ok v) tape now f = tt
+finish_order (Err e) tape now f = λ samples has. go tape.bytes now samples f has.bytes
+  where
+    go : (told now : Option (List ℕ)) (samples : List ℤ) → FinishedPart told now → IfSome told (λ bytes. bytes ≡ opening_text tape.format ++ bytes_of tape.format.bits samples)
+        → IfSome now (AreInOrder (opening_text tape.format) (wave_text tape.format samples))
+    go None None samples f h = tt
+    go None (Some ys) samples f h = absurd f
+    go (Some xs) None samples f h = absurd f
+    go (Some xs) (Some ys) samples f h =
+        subst (λ (body : List ℕ). AreInOrder (opening_text tape.format) (file_text tape.format body) ys) (ap (drop 44) h) (f tape.format (opens_as tape.format xs (bytes_of tape.format.bits samples) h)).1
 
 pub finish_wave : {T E : Type 0} (r : Result T E) (tape : Tape) (now : Option (List ℕ)) → IsKept tape.format tape.bytes tape.written tape.stopped → OnOk r (Finished tape.bytes now)
     → OnOk r ((samples : List ℤ) → HasSamples tape samples → length samples % tape.format.channels ≡ 0 → All (FitsSigned w32) samples
-        → IfSome now (λ text. IsWave text tape.format (map (λ x. up tape.format.bits (down tape.format.bits x)) samples)))
+    → IfSome now (λ text. IsWave text tape.format (map (λ x. up tape.format.bits (down tape.format.bits x)) samples)))
 finish_wave (Err e) tape now kept f = tt
 finish_wave (Ok v) tape now kept f = λ samples has whole fit.
     told samples now tape.bytes refl has whole fit (finished_text tape samples tape.bytes now f has.bytes) f

@@ -1,9 +1,9 @@
--- What contracts see of a WAVE file in the making.
+-- What contracts see of a WAVE file in the making. Callers cite this module.
 --     Tape      a file that is written: its format, its store's name and bytes where these are told, and how far it came
 --     HasSamples tape samples      it holds the unfinished header and the bytes of these samples
 --     HasFront format samples told      what a store holds behind a fault, if it tells
 --     Gained old new bytes, GainedPart old new bytes      all of the bytes were appended, or a front of them
-use Rattle.std.specs.Prelude.{◌≡◌, ℕ, ◌+◌, ◌-◌, ◌*◌, ◌^◌, ◌≤◌, ◌⊎◌, Bool, false, true, List, ◌++◌, length, take, drop, slice_get, ℤ, Option, IfSome, is_some}
+use Rattle.std.specs.Prelude.{◌≡◌, ℕ, ◌+◌, ◌≤◌, ◌⊎◌, Bool, false, List, ◌++◌, length, take, drop, slice_get, slice_range, ℤ, Option, IfSome, is_some}
 use Rattle.std.specs.Option.{ForSome}
 use Rattle.jack_types.specs.declared.files.Format.{Format}
 use Rattle.jack_host.specs.Bytes.{Gains}
@@ -37,6 +37,10 @@ IsCut format bytes = bytes ≡ take (length bytes) (opening_text format)
 -- a header between the opening and the final one, and a front of the finished file's other bytes
 abbrev pub IsHeaded : List ℕ → List ℕ → List ℕ → Type 0
 IsHeaded opening final bytes = (header : List ℕ) × (n : ℕ) × IsBetween opening (take 44 final) header × (bytes ≡ header ++ take n (drop 44 final))
+
+-- the size at 40 is written behind the size at 4: it is still the opening one, or that one is final
+abbrev pub AreInOrder : List ℕ → List ℕ → List ℕ → Type 0
+AreInOrder opening final bytes = (slice_range bytes 40 44 ≡ slice_range opening 40 44) ⊎ (slice_range bytes 4 8 ≡ slice_range final 4 8)
 
 -- behind a fault a store that tells is empty, holds a front of the header, or a header and a front of the sample bytes,
 -- the pad byte counted to them

@@ -16,8 +16,9 @@ pub fn opening(format: Format) -> [u8; 44]
     let [align_0, align_1] = align.to_le_bytes();
     let [bits_0, bits_1] = format.bits.to_le_bytes();
     [
-        b'R', b'I', b'F', b'F', 0xff, 0xff, 0xff, 0xff, b'W', b'A', b'V', b'E', b'f', b'm', b't', b' ',
-        16, 0, 0, 0, 1, 0, channels_0, channels_1, rate_0, rate_1, rate_2, rate_3, speed_0, speed_1,
-        speed_2, speed_3, align_0, align_1, bits_0, bits_1, b'd', b'a', b't', b'a', 0xff, 0xff, 0xff, 0xff,
+        b'R', b'I', b'F', b'F', 0xff, 0xff, 0xff, 0xff, b'W', b'A', b'V', b'E', b'f', b'm', b't',
+        b' ', 16, 0, 0, 0, 1, 0, channels_0, channels_1, rate_0, rate_1, rate_2, rate_3, speed_0,
+        speed_1, speed_2, speed_3, align_0, align_1, bits_0, bits_1, b'd', b'a', b't', b'a', 0xff,
+        0xff, 0xff, 0xff,
     ]
 }

@@ -4,5 +4,7 @@
 mod finishing;
 mod header;
 mod tape;
+#[cfg(test)]
+mod tests;
 
 pub use tape::WaveOut;

@@ -4,8 +4,8 @@ ghost use Rattle.std.specs.Int.{w32};
 ghost use Rattle.std.specs.Int.RustNames.{FitsSigned};
 ghost use Rattle.jack_host.specs.Causes.{HasCause, Rose};
 ghost use Rattle.session_model.specs.Samples.{bytes_of, down, up, width};
-ghost use Rattle.session_model.specs.WaveFiles.{IsFormat, IsWave, wave_text};
-ghost use Rattle.wave_write.specs.Tapes.{Gained, GainedPart, HasFront, HasSamples, SameFile};
+ghost use Rattle.session_model.specs.WaveFiles.{IsFormat, IsWave, opening_text, wave_text};
+ghost use Rattle.wave_write.specs.Tapes.{AreInOrder, Gained, GainedPart, HasFront, HasSamples, SameFile};
 
 use crate::finishing::{complete, write};
 use crate::header::opening;
@@ -163,6 +163,9 @@ impl<W: Store> WaveOut<W> {
         requires { self.stopped ≡ false }
         ensures finished { OnOk result.1 ((samples : List ℤ) → HasSamples self samples → IfSome (W.content result.0) (λ text. text ≡ wave_text self.format samples)) }
         ensures front { OnErr result.1 ((samples : List ℤ) → HasSamples self samples → HasFront self.format samples (W.content result.0)) }
+
+        // The size at 4 is written before the size at 40.
+        ensures order { OnErr result.1 ((samples : List ℤ) → HasSamples self samples → IfSome (W.content result.0) (AreInOrder (opening_text self.format) (wave_text self.format samples))) }
 
         // A finished file of whole frames is a wave, of the samples but for the bits that the width leaves out.
         ensures wave { OnOk result.1 ((samples : List ℤ) → HasSamples self samples → length samples % self.format.channels ≡ 0 → All (FitsSigned w32) samples

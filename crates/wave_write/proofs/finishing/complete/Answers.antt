@@ -1,6 +1,5 @@
-use Rattle.std.proofs.Common.{◌≡◌, ◌+◌, ◌%◌, ◌≤◌, List, ℕ, length, take, subst, ap, arith}
+use Rattle.std.proofs.Common.{◌≡◌, List, ℕ, length, take, subst, ap, arith}
 use Rattle.jack_host.specs.Bytes.{Holds}
-use Rattle.session_model.specs.WaveFiles.{u32_bytes}
 use Rattle.wave_write.proofs.FinishingLemmas.{on_err, part_at_pad, part_at_riff, part_last, finished_last, reaches_size}
 use Rattle.wave_write.proofs.finishing.complete.Goals as goal
 

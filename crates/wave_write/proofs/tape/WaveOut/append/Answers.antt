@@ -1,4 +1,4 @@
-use Rattle.std.proofs.Common.{◌≡◌, ◌+◌, ap, arith}
+use Rattle.std.proofs.Common.{◌+◌, ap, arith}
 use Rattle.wave_write.specs.Tapes.{Tape}
 use Rattle.wave_write.proofs.TapeLemmas.{kept_more}
 use Rattle.wave_write.proofs.tape.WaveOut.append.Goals as goal
