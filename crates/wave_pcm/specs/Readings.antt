@@ -6,11 +6,12 @@ use Rattle.jack_types.specs.declared.files.Format.{Format}
 use Rattle.session_model.specs.Samples.{samples_of}
 use Rattle.session_model.specs.WaveFiles.{is_width, whole_frames}
 
--- `left` are the samples that were not read yet, where the source tells; `given` is how many bytes of samples were given,
--- 0 before the first; `failed` is whether a read failed, and `faults` the source's count
+-- `left` are the samples that were not read yet, where the source tells; `size` is how many bytes of data the header tells, and
+-- `given` how many bytes of samples were given, 0 before the first; `failed` is whether a read failed, and `faults` the source's count
 pub record Reading : Type 0 where
   pub format : Format
   pub left : Option (List ℤ)
+  pub size : ℕ
   pub given : ℕ
   pub failed : Bool
   pub faults : ℕ
@@ -35,3 +36,14 @@ left_of format size (Some rest) = Some (samples_of format.bits (whole_frames for
 abbrev pub Gives : Option (List ℤ) → Option (List ℤ) → ℕ → ℕ → List ℤ → Type 0
 Gives None after count asked out = ⊤
 Gives (Some left) after count asked out = (count ≡ min asked (length left)) × (take count out ≡ take count left) × (after ≡ Some (drop count left))
+
+-- samples were read, one part after the other, and stand at the front of the buffer
+abbrev pub Gave : Option (List ℤ) → Option (List ℤ) → ℕ → List ℤ → Type 0
+Gave None after count out = ⊤
+Gave (Some left) after count out = (count ≤ length left) × (take count out ≡ take count left) × (after ≡ Some (drop count left))
+
+-- one file, before and after
+pub record SameReading (old new : Reading) : Type 0 where
+  pub format : new.format ≡ old.format
+  pub size : new.size ≡ old.size
+  pub later : old.faults ≤ new.faults

@@ -1,9 +1,10 @@
 -- What each step of reading a header takes from its source, and what it meets.
-use Rattle.std.specs.Prelude.{◌≡◌, ℕ, ◌+◌, ◌≤◌, ⊤, List, length, drop, Option, Some, None, Result, Ok, Err}
+use Rattle.std.specs.Prelude.{◌≡◌, ℕ, ◌+◌, ◌^◌, ◌<◌, ◌≤◌, ⊤, List, length, drop, Option, Some, None, IfSome, Result, Ok, Err}
 use Rattle.jack_types.specs.declared.files.Format.{Format}
 use Rattle.jack_types.specs.declared.files.WaveFault.{WaveFault}
 use Rattle.session_model.specs.WaveOpening.{Opened, Step}
 use Rattle.session_model.specs.WaveOpening.Step.{Stop, Go}
+use Rattle.wave_pcm.specs.Readings.{IsReadable}
 use Rattle.wave_pcm.specs.declared.chunks.Next.{Next}
 use Rattle.wave_pcm.specs.declared.chunks.Next.TheVariants.{Chunk, Data}
 
@@ -23,3 +24,8 @@ met (Err fault) bytes = Stop (Err fault)
 abbrev pub taken : Next → ℕ
 taken (Data format size) = 8
 taken (Chunk found total) = total
+
+-- the format that it knows may be read, and a size has four bytes
+abbrev pub IsReadableNext : Next → Type 0
+IsReadableNext (Data format size) = IsReadable format × (size < 2 ^ 32)
+IsReadableNext (Chunk found total) = IfSome found IsReadable

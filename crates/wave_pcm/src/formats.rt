@@ -60,7 +60,7 @@ fn is_align(align: u16, channels: u16, bits: u16) -> bool
 fn is_pcm(content: &[u8; 40]) -> bool
     ensures { result ≡ bytes_eq (slice_range content.now 24 40) pcm_guid }
 {
-    content[24..40] == PCM_GUID
+    &content[24..40] == PCM_GUID.as_slice()
 }
 
 // The first of the tests behind that of the size that fails, where all that they look at was read.
@@ -166,8 +166,10 @@ fn read_content<S: Source>(source: &mut S, content: &mut [u8; 40], size: u32, re
     if !is_long(size, u16_at(content, 0)) {
         return Ok(16);
     }
-    read_part(source, content, 16, 40, read + 16)?;
-    Ok(40)
+    match read_part(source, content, 16, 40, read + 16) {
+        Ok(()) => Ok(40),
+        Err(fault) => Err(fault),
+    }
 }
 
 // Reads one part of a content, all of it.

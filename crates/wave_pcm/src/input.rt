@@ -42,21 +42,34 @@ pub fn fill<S: Source>(source: &mut S, buffer: &mut [u8]) -> Result<usize, ReadF
     Ok(at)
 }
 
+// Reads over some bytes, at most so many; none is the input's end.
+fn skip_some<S: Source>(source: &mut S, most: u64) -> Result<u64, ReadFailed>
+    ensures bound { IfOk result (λ n. n ≤ most) }
+    ensures taken { IfOk result (λ n. Drops (S.left source.old) (S.left source.new) n) }
+    ensures end { IfOk result (λ n. n ≡ 0 → 0 < most → IsAtEnd (S.left source.new)) }
+    ensures cause { HasCause (S.faults source.old) (S.faults source.new) result }
+{
+    let mut buffer = [0u8; MOST_BYTES];
+    let want = most.min(MOST_BYTES as u64) as usize;
+    match read_from(source, &mut buffer[..want], 0) {
+        Ok(count) => Ok(count as u64),
+        Err(failed) => Err(failed),
+    }
+}
+
 // Reads over so many bytes, and says whether there were as many.
 pub fn skip<S: Source>(source: &mut S, count: u64) -> Result<bool, ReadFailed>
     ensures whole { IfOk result (λ all. IsTrue all → Drops (S.left source.old) (S.left source.new) count) }
     ensures short { IfOk result (λ all. all ≡ false → IfSome (S.left source.old) (λ bytes. length bytes < count)) }
     ensures cause { HasCause (S.faults source.old) (S.faults source.new) result }
 {
-    let mut buffer = [0u8; MOST_BYTES];
     let mut left = count;
     'skipping: while left > 0 {
-        let want = left.min(MOST_BYTES as u64) as usize;
-        let taken = read_from(source, &mut buffer[..want], 0)?;
+        let taken = skip_some(source, left)?;
         if taken == 0 {
             return Ok(false);
         }
-        left -= taken as u64;
+        left -= taken;
     }
     Ok(true)
 }
