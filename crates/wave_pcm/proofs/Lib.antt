@@ -1,0 +1,4 @@
+mod InputLemmas
+mod ContentLemmas
+mod ChunkLemmas
+mod FrameLemmas

@@ -1,0 +1,13 @@
+use Rattle.std.proofs.Common.{◌≤◌, ◌-◌}
+use Rattle.wave_pcm.specs.Steps.{Drops}
+use Rattle.wave_pcm.proofs.input.skip.Given as goal
+
+abbrev pub invariant-skipping : goal.invariant-skipping
+invariant-skipping g l = record {
+  within : l.left ≤ l.count;
+  taken : Drops (g.S.Source.left l.initial.source) (g.S.Source.left l.source) (l.count - l.left);
+  later : g.S.Source.faults l.initial.source ≤ g.S.Source.faults l.source;
+}
+
+abbrev pub decreases-skipping : goal.decreases-skipping
+decreases-skipping g l = l.left

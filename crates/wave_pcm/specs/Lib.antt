@@ -1,0 +1,4 @@
+pub mod Readings
+pub mod Contents
+pub mod Steps
+pub mod Openings

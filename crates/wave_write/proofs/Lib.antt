@@ -1,0 +1,3 @@
+mod Between
+mod FinishingLemmas
+mod TapeLemmas

@@ -1,0 +1,10 @@
+//! The writer of WAVE files: frames to bytes, with both sizes written at the end.
+#![tactic(auto)]
+
+mod finishing;
+mod header;
+mod tape;
+#[cfg(test)]
+mod tests;
+
+pub use tape::WaveOut;
