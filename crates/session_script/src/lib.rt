@@ -1,0 +1,10 @@
+//! The text of a session's script: reading with exact faults, and printing.
+#![tactic(auto)]
+
+mod lists;
+mod reading;
+mod script;
+#[cfg(test)]
+mod tests;
+
+pub use script::{Script, Text};
