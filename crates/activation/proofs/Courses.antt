@@ -1,41 +1,50 @@
 -- Each allowed step of a core, in the form in which the code does it.
-use Rattle.std.proofs.Common.{◌≡◌, ℕ, zero, suc, ◌+◌, ◌-◌, ◌<◌, ◌≤◌, Bool, true, false, cond, ◌==◌, List, [], ◌∷◌, length, map, set, get_or, slice_index, Some, None, refl, sym, ◌∙◌, ap, subst, arith, length-set, get_or-set_same, replicate, if◌then◌else◌}
+use Rattle.std.proofs.Common.{◌≡◌, ℕ, zero, suc, ◌+◌, ◌-◌, ◌<◌, ◌≤◌, Bool, true, false, cond, ◌==◌, List, [], ◌∷◌, length, map, set, get_or, slice_index, Option, Some, None, refl, sym, ◌∙◌, ap, subst, arith, eqb-true, length-set, get_or-set_same, replicate, if◌then◌else◌}
 use Rattle.std.proofs.lemmas.Bool.Decides.{nat_tests}
 use Rattle.std.proofs.lemmas.List.{map-set, length-map}
 use Rattle.jack_types.specs.declared.ports.Link.{Link}
-use Rattle.session_model.specs.Activation.{AreLinks, Waiting, Held, Machine, fresh, incoming, StartNode, ReleaseLink, HomeNode, PlayNode, no_link, link_at, IsConsistent, node_at_zero, with_fallen}
+use Rattle.session_model.specs.Activation.{AreLinks, Waiting, Held, AtHome, Machine, fresh, incoming, StartNode, ReleaseLink, HomeNode, PlayNode, no_link, link_at, IsConsistent, moved, node_at_zero, with_fallen, node_taken}
 use Rattle.session_laws.proofs.ActivationLemmas.{IsConsistent-moved, length-moved, length-below, length-map_below, IsConsistent-fresh}
 use Rattle.session_model.specs.Samples.{below}
 use Rattle.activation.specs.declared.stands.Stand.{Stand}
 use Rattle.activation.specs.declared.stands.Stand.TheVariants as stand
 use Rattle.activation.specs.declared.stands.Step.{Step}
 use Rattle.activation.specs.declared.stands.Step.TheVariants as step
-use Rattle.activation.specs.Steps.{Course, IsCourse, MayStep, behind, place, course_of, opening, played}
+use Rattle.activation.specs.Steps.{Course, IsCourse, MayStep, behind, place, course_of, opening, move, played, answer, seat_of}
 use Rattle.activation.proofs.Machines.{set_twice, open_counts, start_counts}
 
 -- a node whose counter falls to zero is held and played
-fallen_played : (links : List Link) (seat n : ℕ) (machine : Machine) (stands : List Stand) → machine.places ≡ map place stands → 0 < slice_index machine.counters n
+pub fallen_is : (links : List Link) (seat n : ℕ) (machine : Machine) → 0 < slice_index machine.counters n
     → played links seat (node_at_zero machine n) (with_fallen seat n machine)
-    ≡ record machine { counters = set machine.counters n (slice_index machine.counters n - 1); places = map place (cond (slice_index machine.counters n == 1) (set stands n (stand.Held seat)) stands) }
-fallen_played links seat n machine stands are more = go (slice_index machine.counters n == 1) refl
+    ≡ record machine { counters = set machine.counters n (slice_index machine.counters n - 1); places = cond (slice_index machine.counters n == 1) (set machine.places n (Held seat true)) machine.places }
+fallen_is links seat n machine more = go (slice_index machine.counters n == 1) refl
   where
     c : ℕ
     c = slice_index machine.counters n
 
     go : (b : Bool) → (c == 1) ≡ b
         → played links seat (if b then Some n else None) (record machine { counters = set machine.counters n (c - 1); places = if (c - 1) == 0 then set machine.places n (Held seat false) else machine.places })
-        ≡ record machine { counters = set machine.counters n (c - 1); places = map place (cond b (set stands n (stand.Held seat)) stands) }
+        ≡ record machine { counters = set machine.counters n (c - 1); places = cond b (set machine.places n (Held seat true)) machine.places }
     go true e =
         let hit : ((c - 1) == 0) ≡ true = grind (arith, nat_tests) in
-        let places : set (if (c - 1) == 0 then set machine.places n (Held seat false) else machine.places) n (Held seat true) ≡ map place (set stands n (stand.Held seat)) =
-        ap (λ b. set (if b then set machine.places n (Held seat false) else machine.places) n (Held seat true)) hit
-        ∙ set_twice machine.places n (Held seat false) (Held seat true) ∙ ap (λ ps. set ps n (Held seat true)) are ∙ sym (map-set place stands n (stand.Held seat)) in
+        let places : set (if (c - 1) == 0 then set machine.places n (Held seat false) else machine.places) n (Held seat true) ≡ set machine.places n (Held seat true) =
+        ap (λ b. set (if b then set machine.places n (Held seat false) else machine.places) n (Held seat true)) hit ∙ set_twice machine.places n (Held seat false) (Held seat true) in
         λ i. record machine { counters = set machine.counters n (c - 1); places = places i }
     go false e =
         let miss : ((c - 1) == 0) ≡ false = grind (arith, nat_tests) in
-        let places : (if (c - 1) == 0 then set machine.places n (Held seat false) else machine.places) ≡ map place stands =
-        ap (λ b. if b then set machine.places n (Held seat false) else machine.places) miss ∙ are in
+        let places : (if (c - 1) == 0 then set machine.places n (Held seat false) else machine.places) ≡ machine.places = ap (λ b. if b then set machine.places n (Held seat false) else machine.places) miss in
         λ i. record machine { counters = set machine.counters n (c - 1); places = places i }
+
+fallen_played : (links : List Link) (seat n : ℕ) (machine : Machine) (stands : List Stand) → machine.places ≡ map place stands → 0 < slice_index machine.counters n
+    → played links seat (node_at_zero machine n) (with_fallen seat n machine)
+    ≡ record machine { counters = set machine.counters n (slice_index machine.counters n - 1); places = map place (cond (slice_index machine.counters n == 1) (set stands n (stand.Held seat)) stands) }
+fallen_played links seat n machine stands are more =
+    fallen_is links seat n machine more
+    ∙ (λ i. record machine { counters = set machine.counters n (slice_index machine.counters n - 1); places = mapped (slice_index machine.counters n == 1) i })
+  where
+    mapped : (b : Bool) → cond b (set machine.places n (Held seat true)) machine.places ≡ map place (cond b (set stands n (stand.Held seat)) stands)
+    mapped true = ap (λ ps. set ps n (Held seat true)) are ∙ sym (map-set place stands n (stand.Held seat))
+    mapped false = are
 
 module _ (links : List Link) (nodes : ℕ) (are : AreLinks nodes links) (seats : ℕ) where
   -- a machine that is consistent behind the fall stays so when the taken node counts as played
@@ -62,6 +71,11 @@ module _ (links : List Link) (nodes : ℕ) (are : AreLinks nodes links) (seats :
             length-moved links fallen (PlayNode seat n) ∙ long ((c - 1) == 0),
           )
       go false e = (consistent, long ((c - 1) == 0))
+
+  -- the same machine, as it is written down
+  pub fell : (seat n : ℕ) (machine : Machine) → n < length machine.places → length machine.places ≡ nodes → IsConsistent links (with_fallen seat n machine) → 0 < slice_index machine.counters n
+      → IsConsistent links (record machine { counters = set machine.counters n (slice_index machine.counters n - 1); places = cond (slice_index machine.counters n == 1) (set machine.places n (Held seat true)) machine.places })
+  fell seat n machine inside size consistent more = subst (IsConsistent links) (fallen_is links seat n machine more) (played-consistent seat n machine inside size consistent).0
 
 -- each allowed step leaves a course
 pub behind-is : (course : Course) (s : Step) → IsCourse course → MayStep course s → IsCourse (behind course s)

@@ -1,2 +1,12 @@
 mod Machines
 mod Courses
+mod Keeping
+mod Lending
+mod Falling
+mod Homing
+mod Parting
+mod Stilling
+mod Acting
+mod Listed
+mod Played
+mod Slots

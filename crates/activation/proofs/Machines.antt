@@ -1,12 +1,13 @@
 -- What the counters of a machine say of its links, and the machine behind a step that takes a node and counts it as played.
-use Rattle.std.proofs.Common.{◌≡◌, ◌≢◌, ℕ, zero, suc, ◌+◌, ◌<◌, Bool, true, false, cond, not, ◌==◌, List, [], ◌∷◌, length, set, get_or, slice_index, count_by, Contains, refl, sym, ◌∙◌, ap, arith, true≢false, eqb-true, eq-eqb}
+use Rattle.std.proofs.Common.{◌≡◌, ◌≢◌, ℕ, zero, suc, ◌+◌, ◌-◌, ◌<◌, Bool, true, false, cond, not, ◌==◌, List, [], ◌∷◌, length, map, set, get_or, slice_index, count_by, Contains, refl, sym, ◌∙◌, ap, subst, arith, true≢false, eqb-true, eq-eqb, length-set, if◌then◌else◌}
 use Rattle.std.proofs.lemmas.Bool.Decides.{nat_tests}
+use Rattle.std.proofs.lemmas.List.{map-set}
 use Rattle.std.proofs.lemmas.List.Sums.{sum_by-cons}
 use Rattle.jack_types.specs.declared.ports.Link.{Link}
-use Rattle.session_model.specs.Activation.{Waiting, Machine, link_at, incoming, is_started, is_released, place_of, open_links, IsConsistent}
+use Rattle.session_model.specs.Activation.{AreLinks, Place, Waiting, Held, AtHome, Machine, Move, StartNode, ReleaseLink, PlayNode, no_link, link_at, incoming, is_started, is_released, place_of, Allowed, with_fallen, moved, open_links, IsConsistentNode, IsConsistent, node_at_zero}
 use Rattle.session_model.specs.Samples.{below}
 use Rattle.session_laws.proofs.ListLemmas.{Each, Each-contains, Contains-kept}
-use Rattle.session_laws.proofs.ActivationLemmas.{below-contains}
+use Rattle.session_laws.proofs.ActivationLemmas.{below-contains, IsConsistent-moved}
 
 pub set_twice : {A : Type 0} (l : List A) (i : ℕ) (a b : A) → set (set l i a) i b ≡ set l i b
 set_twice [] i a b = refl

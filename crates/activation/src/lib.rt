@@ -1,12 +1,21 @@
 //! Activation counters: a node of a graph is played as soon as all that feeds it was played.
 //!
-//! [`Core`] is the machine as plain data.
+//! [`Core`] is the machine as plain data. [`Crew`] does its steps on atomic words, for several seats at
+//! once, over benches that implement [`Work`].
 #![tactic(auto)]
 
 mod cores;
+mod crews;
+mod rules;
 mod stands;
+mod takens;
 #[cfg(test)]
 mod tests;
+mod views;
+mod work;
 
 pub use cores::Core;
+pub use crews::Crew;
 pub use stands::{Stand, Step};
+pub use takens::{Seat, Taken};
+pub use work::Work;
