@@ -1,0 +1,8 @@
+//! One clamped sum of parts.
+#![tactic(auto)]
+
+mod mixing;
+#[cfg(test)]
+mod tests;
+
+pub use mixing::Mixer;

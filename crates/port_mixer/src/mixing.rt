@@ -1,0 +1,115 @@
+//! The mixer.
+
+ghost use Rattle.std.specs.Prelude.{◌≡◌, ℕ, ◌+◌, ◌<◌, ◌≤◌, ◌++◌, ◌∷◌, [], ℤ, List, IfOk, length, map, take};
+ghost use Rattle.session_model.specs.Samples.{clamp, mix, sample, silence};
+ghost use Rattle.port_mixer.specs.Sums.{AreSamples, AreSumsOf, added, sums_of};
+ghost use Rattle.samples.specs.Sums.{IsSmall};
+
+use jack_types::Memory;
+use std::alloc::Global;
+use std::marker::Model;
+
+/// Sums of parts, one for each frame.
+///
+/// Contracts see a `Mix`: the room in frames, the sums, and how many parts are in them.
+#[derive(Drop)]
+pub struct Mixer {
+    sums: Vec<i64>,
+    frames: usize,
+    parts: u32,
+}
+
+impl Model for Mixer {
+    ghost use Rattle.port_mixer.specs.Sums.{Mix};
+
+    ghost Value = { Mix };
+
+    ghost use Rattle.port_mixer.specs.Insides.{mix_in, IsWithin};
+
+    ghost view = { mix_in };
+
+    ghost invariant = { IsWithin };
+}
+
+/// Makes the first sums 0.
+#[tactic(auto, using(crate::proofs::SumLemmas::sums_of_none))]
+fn silence_first(sums: &mut [i64], frames: usize)
+    requires { frames ≤ length sums.old }
+    ensures silence { take frames sums.new ≡ silence frames }
+    ensures parts { take frames sums.new ≡ sums_of frames [] }
+{
+    for i in 0..frames {
+        sums[i] = 0;
+    }
+}
+
+/// Sees that each sample is a number of 32 bits. Nothing else is done, and nothing is left of it in
+/// the program.
+fn see_samples(part: &[i32])
+    ensures { AreSamples part.now }
+{
+    for sample in part {
+        let _seen = *sample;
+    }
+}
+
+/// Adds a part to the first sums.
+fn add_to_first(sums: &mut [i64], frames: usize, part: &[i32])
+    requires within { frames ≤ length sums.old }
+    requires frames { length part.now ≡ frames }
+    requires small { (k : ℕ) → IsSmall (sample (take frames sums.old) k) }
+    ensures added { take frames sums.new ≡ added (take frames sums.old) part.now }
+    ensures parts { (parts : List (List ℤ)) → take frames sums.old ≡ sums_of frames parts → take frames sums.new ≡ sums_of frames (parts ++ part.now ∷ []) }
+    ensures bound { (n : ℕ) → AreSumsOf n (take frames sums.old) → AreSumsOf (n + 1) (take frames sums.new) }
+{
+    see_samples(part);
+    samples::add_into(&mut sums[..frames], part);
+}
+
+impl Mixer {
+    /// A mixer with room for so many sums. It has no sum.
+    pub fn new(alloc: Global, frames: u32) -> Result<Mixer, Memory>
+        ensures { IfOk result (λ mixer. mixer ≡ record { room = frames; sums = []; parts = 0 }) }
+    {
+        match vec![in alloc; 0; frames as usize] {
+            Ok(sums) => Ok(Mixer {
+                sums,
+                frames: 0,
+                parts: 0,
+            }),
+            Err(_) => Err(Memory),
+        }
+    }
+
+    /// Begins so many sums, with no part in them.
+    pub fn clear(&mut self, frames: u32)
+        requires { frames ≤ self.old.room }
+        ensures silence { self.new ≡ record self.old { sums = silence frames; parts = 0 } }
+        ensures parts { self.new.sums ≡ sums_of frames [] }
+    {
+        self.frames = frames as usize;
+        self.parts = 0;
+        silence_first(&mut self.sums, self.frames);
+    }
+
+    /// Adds a part, a sample to each sum.
+    pub fn add(&mut self, part: &[i32])
+        requires frames { length part.now ≡ length self.old.sums }
+        requires few { self.old.parts < 512 }
+        ensures added { self.new ≡ record self.old { sums = added self.old.sums part.now; parts = self.old.parts + 1 } }
+        ensures parts { (parts : List (List ℤ)) → self.old.sums ≡ sums_of (length part.now) parts → self.new.sums ≡ sums_of (length part.now) (parts ++ part.now ∷ []) }
+    {
+        add_to_first(&mut self.sums, self.frames, part);
+        self.parts += 1;
+    }
+
+    /// Clamps each sum once.
+    #[tactic(auto, using(crate::proofs::SumLemmas::clamped_sums))]
+    pub fn settle(&self, out: &mut [i32])
+        requires { length out.old ≡ length self.now.sums }
+        ensures clamped { out.new ≡ map clamp self.now.sums }
+        ensures mixed { (parts : List (List ℤ)) → self.now.sums ≡ sums_of (length out.old) parts → out.new ≡ mix (length out.old) parts }
+    {
+        samples::settle(&self.sums[..self.frames], out);
+    }
+}
