@@ -1,0 +1,4 @@
+pub mod LayoutLemmas
+mod NodeLemmas
+mod TableLemmas
+mod TestLemmas
