@@ -1,9 +1,9 @@
 -- Reading a header forward, chunk by chunk.
-use Rattle.std.proofs.Common.{◌≡◌, ◌⊎◌, ℕ, suc, ◌+◌, ◌-◌, ◌%◌, ◌^◌, ◌<◌, ◌≤◌, Bool, true, false, not, cond, List, [], ◌++◌, length, take, drop, Some, None, inl, inr, refl, sym, ap, subst, ◌∙◌, arith, length-append}
+use Rattle.std.proofs.Common.{◌≡◌, ◌⊎◌, ℕ, suc, ◌+◌, ◌-◌, ◌%◌, ◌<◌, ◌≤◌, true, false, not, cond, List, [], ◌++◌, length, take, drop, Some, None, inl, inr, refl, sym, ap, subst, ◌∙◌, arith, length-append}
 use Rattle.std.specs.Prelude.{codes, Err, IfErr, IfNone, IfOk, IfSome, nat_lt, Ok, OnOk, Option, Result, slice_range}
 use Rattle.std.specs.Str.{bytes_eq}
 use Rattle.std.specs.Io.KnownBytes.{Consumes, IsAtEnd}
-use Rattle.std.proofs.lemmas.List.{drop-append-le, drop_at, drop-drop, length-drop, length-take-le, take-append-le, take-take, take_all}
+use Rattle.std.proofs.lemmas.List.{drop_at, length-drop, length-take-le, take-append-le, take-take, take_all}
 use Rattle.std.proofs.lemmas.Bool.{cond-false, cond-true, le-ltb, lt-ltb, not_from_false, not_from_true}
 use Rattle.jack_types.specs.declared.files.Format.{Format}
 use Rattle.jack_types.specs.declared.files.WaveFault.{WaveFault}
@@ -94,9 +94,9 @@ begins (Some xs) (Some ys) head n e h here wave f =
     let rest : drop 12 xs ≡ ys = ap (drop 12) f ∙ drop_at (take n head) ys 12 count in (
       omega (arith, ap length f, length-append (take n head) ys, count),
       behind_riff xs head ys n e (omega (arith, h)) (omega (arith, h)) here f
-      ∙ cond-false (nat_lt (length xs) 12) (Err (Ends (length xs))) _ (le-ltb (length xs) 12 (omega (arith, is.long, h)))
-      ∙ cond-false (not (bytes_eq (slice_range xs 8 12) (codes "WAVE"))) (Err NotWave) _ (not_from_true (bytes_eq (slice_range xs 8 12) (codes "WAVE")) (ap (λ (x : List ℕ). bytes_eq x (codes "WAVE")) (is.wave h) ∙ wave))
-      ∙ ap (forward 4096 (length xs) None) rest,
+          ∙ cond-false (nat_lt (length xs) 12) (Err (Ends (length xs))) _ (le-ltb (length xs) 12 (omega (arith, is.long, h)))
+          ∙ cond-false (not (bytes_eq (slice_range xs 8 12) (codes "WAVE"))) (Err NotWave) _ (not_from_true (bytes_eq (slice_range xs 8 12) (codes "WAVE")) (ap (λ (x : List ℕ). bytes_eq x (codes "WAVE")) (is.wave h) ∙ wave))
+          ∙ ap (forward 4096 (length xs) None) rest,
     )
 
 -- ---- one chunk, behind its head
@@ -188,7 +188,7 @@ step_pass read size found (Some xs) (Some ys) c head r e f is other_id other ok 
 pub step_format : (read size : ℕ) (a b : Option (List ℕ)) (head : List ℕ) (r : Result Next WaveFault) → length head ≡ 8 → Consumes a b head → size ≡ u32_at head 4 → bytes_eq (take 4 head) (codes "data") ≡ false → bytes_eq (take 4 head) (codes "fmt ") ≡ true
     → IfOk r (λ next. IfSome b (λ content. (cut_format_fault (read + 8 + length content) size content ≡ None) × (size + size % 2 ≤ length content) × (next ≡ Chunk (Some (format_of content)) (8 + size + size % 2))))
     → IfErr r (λ fault. (fault ≡ Read → ⊥) → IfSome b (λ content. (cut_format_fault (read + 8 + length content) size content ≡ Some fault)
-        ⊎ ((cut_format_fault (read + 8 + length content) size content ≡ None) × (fault ≡ NoData) × (length content < size + size % 2))))
+    ⊎ ((cut_format_fault (read + 8 + length content) size content ≡ None) × (fault ≡ NoData) × (length content < size + size % 2))))
     → (r ≡ Err Read → ⊥) → IfSome a (λ bytes. step (read + length bytes) None bytes ≡ met r bytes)
 step_format read size None b head r e f is other_id here ok err good = tt
 step_format read size (Some xs) None head r e f is other_id here ok err good = absurd f

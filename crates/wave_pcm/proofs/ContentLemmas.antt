@@ -1,14 +1,13 @@
 -- The content of a `fmt ` chunk, of which its tests read a front.
-use Rattle.std.proofs.Common.{◌≡◌, ℕ, ◌+◌, ◌-◌, ◌*◌, ◌<◌, ◌≤◌, Bool, true, false, not, ◌&&◌, ◌||◌, cond, List, [], ◌∷◌, ◌++◌, length, take, drop, Some, None, refl, sym, ap, subst, ◌∙◌, arith, length-append, append_assoc}
+use Rattle.std.proofs.Common.{◌≡◌, ℕ, ◌+◌, ◌<◌, ◌≤◌, Bool, true, false, not, ◌&&◌, ◌||◌, cond, List, ◌++◌, length, take, drop, Some, None, refl, sym, ap, subst, ◌∙◌, arith, length-append, append_assoc}
 use Rattle.std.specs.Prelude.{IfSome, Option, slice_range, ◌==◌, nat_le, nat_lt}
-use Rattle.std.specs.Str.{bytes_eq}
 use Rattle.std.specs.Io.KnownBytes.{Consumes}
-use Rattle.std.proofs.lemmas.List.{length-drop, length-take, length-take-le, take-append-drop, take_all}
+use Rattle.std.proofs.lemmas.List.{length-drop, length-take-le, take-append-drop, take_all}
 use Rattle.std.proofs.lemmas.Bool.{and_from, and_parts, cond-false, cond-true, cond_both, le-leb, le-ltb, leb-true, lt-ltb, not-false}
 use Rattle.jack_types.specs.declared.files.WaveFault.{WaveFault}
 use Rattle.jack_types.specs.declared.files.WaveFault.TheVariants.{BadFormat, Ends}
 use Rattle.jack_types.specs.declared.files.Field.TheVariants.{Size}
-use Rattle.session_model.specs.Samples.{number_of, width}
+use Rattle.session_model.specs.Samples.{number_of}
 use Rattle.session_model.specs.WaveFiles.{cut_format_fault, failed_test, format_of, is_extended, is_width, needed, Test, test_fault, u16_at, u32_at}
 use Rattle.session_laws.proofs.WaveFormats.{failed_test-front, format_of-front, slice_front}
 use Rattle.session_laws.proofs.WaveFaults.{cond_none}

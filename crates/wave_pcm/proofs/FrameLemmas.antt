@@ -1,16 +1,16 @@
 -- Frames, read block by block.
-use Rattle.std.proofs.Common.{◌≡◌, ◌⊎◌, ℕ, zero, suc, ◌+◌, ◌-◌, ◌*◌, ◌/◌, ◌%◌, ◌<◌, ◌≤◌, min, true, List, [], ◌∷◌, ◌++◌, length, take, drop, Some, None, inl, inr, ⊎_elim, refl, sym, ap, subst, ◌∙◌, arith, length-append, append-nil, ℤ}
+use Rattle.std.proofs.Common.{◌≡◌, ◌⊎◌, ℕ, suc, ◌+◌, ◌-◌, ◌*◌, ◌/◌, ◌%◌, ◌<◌, ◌≤◌, min, List, [], ◌∷◌, ◌++◌, length, take, drop, Some, None, inl, inr, ⊎_elim, refl, sym, ap, subst, ◌∙◌, arith, length-append, append-nil, ℤ}
 use borrow.Rule.Slice.PartMut.{put_mid}
 use Rattle.std.specs.Prelude.{Err, IfOk, IfSome, Ok, Option, Result}
 use Rattle.std.specs.Io.KnownBytes.{Consumes, IsAtEnd}
 use Rattle.std.proofs.Math.Seq.{take-add}
-use Rattle.std.proofs.lemmas.List.{drop-drop, drop_all, drop_at, length-drop, length-take, length-take-le, drop-append-le, take-append-drop, take-append-le, take-take, take_all, take_at}
+use Rattle.std.proofs.lemmas.List.{drop-drop, drop_at, length-drop, length-take-le, drop-append-le, take-append-drop, take-take, take_all, take_at}
 use Rattle.std.proofs.lemmas.Bool.{cases_lt}
-use Rattle.std.proofs.lemmas.Nat.{div-add-mod', div-mul-add, div_below, le-div, mod_below, mul-le, mul-lt}
+use Rattle.std.proofs.lemmas.Nat.{div-add-mod', div-mul-add, le-div, mod_below, mul-le, mul-lt}
 use Rattle.jack_types.specs.declared.files.Format.{Format}
 use Rattle.jack_types.specs.declared.files.WaveFault.{WaveFault}
 use Rattle.session_model.specs.Samples.{samples_of, width}
-use Rattle.session_model.specs.WaveFiles.{frame_bytes, is_width, IsWave, wave_fault, whole_frames}
+use Rattle.session_model.specs.WaveFiles.{frame_bytes, IsWave, wave_fault, whole_frames}
 use Rattle.session_model.specs.WaveOpening.{fault_in, opened, Opened, wave_in}
 use Rattle.session_laws.proofs.WaveForward.{fault_in-opened, wave-opened}
 use Rattle.session_laws.proofs.WaveSamples.{length-samples_of, samples_of-append, width_some}

@@ -1,9 +1,9 @@
 -- What was taken from a source by several reads.
-use Rattle.std.proofs.Common.{◌≡◌, ◌≤◌, ◌<◌, ◌+◌, ◌-◌, ◌++◌, ℕ, List, [], Some, None, length, take, drop, arith, ap, sym, ◌∙◌, refl, length-append, length-drop}
+use Rattle.std.proofs.Common.{◌≡◌, ◌≤◌, ◌<◌, ◌+◌, ◌-◌, ℕ, List, Some, None, length, take, drop, arith, ap, sym, ◌∙◌, refl, length-append, length-drop}
 use Rattle.std.proofs.Math.Seq.{take-add}
 use Rattle.std.specs.Prelude.{IfSome, Option}
 use Rattle.std.proofs.KnownBytes.{Consumes-trans}
-use Rattle.std.proofs.lemmas.List.{drop-drop, drop_at, length-take-le, take_all}
+use Rattle.std.proofs.lemmas.List.{drop-drop, drop_at, length-take-le}
 use Rattle.std.specs.Io.KnownBytes.{Consumes, IsAtEnd}
 use Rattle.wave_pcm.specs.Steps.{Drops}
 

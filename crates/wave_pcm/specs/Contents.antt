@@ -8,10 +8,10 @@ use Rattle.session_model.specs.WaveFiles.{failed_test, format_of, needed, pcm_gu
 abbrev pub extended_test : ℕ → List ℕ → Option Test
 extended_test size content =
     find (λ test. not test.passes) (
-      record { field = Extended; value = size; passes = nat_le 40 size }
-      ∷ record { field = Extra; value = u16_at content 16; passes = nat_le 22 (u16_at content 16) }
-      ∷ record { field = Guid; value = u32_at content 24; passes = bytes_eq (slice_range content 24 40) pcm_guid }
-      ∷ []
+    record { field = Extended; value = size; passes = nat_le 40 size }
+    ∷ record { field = Extra; value = u16_at content 16; passes = nat_le 22 (u16_at content 16) }
+    ∷ record { field = Guid; value = u32_at content 24; passes = bytes_eq (slice_range content 24 40) pcm_guid }
+    ∷ []
     )
 
 -- a content is long enough for its tests, and what was read of it passes them and gives its format where it does

@@ -1,5 +1,5 @@
 -- How far the reading of a header came, where the source tells its bytes.
-use Rattle.std.specs.Prelude.{◌≡◌, ℕ, ◌+◌, ◌≤◌, ⊤, List, length, drop, Option, Some, None, Ok}
+use Rattle.std.specs.Prelude.{◌≡◌, ℕ, ◌+◌, ⊤, List, length, Option, Some, None, Ok}
 use Rattle.jack_types.specs.declared.files.Format.{Format}
 use Rattle.session_model.specs.WaveOpening.{forward, opened}
 

@@ -138,7 +138,11 @@ fn is_first_format(found: Option<Format>, head: &[u8; 8]) -> bool
 }
 
 // Reads one chunk, where so many bytes were read before it, or no more than the head of the data.
-fn read_chunk<S: Source>(source: &mut S, read: u64, found: Option<Format>) -> Result<Next, WaveFault>
+fn read_chunk<S: Source>(
+    source: &mut S,
+    read: u64,
+    found: Option<Format>,
+) -> Result<Next, WaveFault>
     requires room { read ≤ 2 ^ 59 }
     requires found { IfSome found IsReadable }
     ensures step { result ≢ Err WaveFault.Read → IfSome (S.left source.old) (λ bytes. step (read + length bytes) found bytes ≡ met result bytes) }
@@ -188,7 +192,12 @@ fn read_first_format<S: Source>(source: &mut S, read: u64, size: u32) -> Result<
 }
 
 // Reads over the rest of a chunk of this size and its pad, of which so many bytes were read behind its head.
-fn pass<S: Source>(source: &mut S, found: Option<Format>, size: u32, done: u64) -> Result<Next, WaveFault>
+fn pass<S: Source>(
+    source: &mut S,
+    found: Option<Format>,
+    size: u32,
+    done: u64,
+) -> Result<Next, WaveFault>
     requires { done ≤ size }
     ensures chunk { IfOk result (λ next. next ≡ Next.Chunk found (8 + size + size % 2)) }
     ensures taken { OnOk result (Drops (S.left source.old) (S.left source.new) (size + size % 2 - done)) }

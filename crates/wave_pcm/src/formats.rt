@@ -13,6 +13,7 @@ use jack_host::Source;
 use jack_types::{Field, Format, WaveFault};
 
 const EXTENDED: u16 = 0xfffe;
+
 const PCM_GUID: [u8; 16] = [
     0x01, 0x00, 0x00, 0x00, 0x00, 0x00, 0x10, 0x00, 0x80, 0x00, 0x00, 0xaa, 0x00, 0x38, 0x9b, 0x71,
 ];
@@ -114,7 +115,11 @@ fn extended_fault(size: u32, content: &[u8; 40]) -> Option<WaveFault>
 /// Reads and tests the content of a `fmt ` chunk of this size, where so many bytes were read before it.
 ///
 /// It takes the first 16 bytes, or 40 of an extended format that has as many, and says which.
-pub fn read_format<S: Source>(source: &mut S, size: u32, read: u64) -> Result<(Format, u64), WaveFault>
+pub fn read_format<S: Source>(
+    source: &mut S,
+    size: u32,
+    read: u64,
+) -> Result<(Format, u64), WaveFault>
     requires { read ≤ 2 ^ 60 }
     ensures passes { IfOk result (λ told. IfSome (S.left source.old) (λ content. (cut_format_fault (read + length content) size content ≡ None) × (told.0 ≡ format_of content))) }
     ensures taken { IfOk result (λ told. (told.1 ≤ size) × Drops (S.left source.old) (S.left source.new) told.1) }
@@ -153,7 +158,12 @@ fn is_long(size: u32, tag: u16) -> bool
 }
 
 // Reads as much of a content as its tests need, and says how much.
-fn read_content<S: Source>(source: &mut S, content: &mut [u8; 40], size: u32, read: u64) -> Result<u64, WaveFault>
+fn read_content<S: Source>(
+    source: &mut S,
+    content: &mut [u8; 40],
+    size: u32,
+    read: u64,
+) -> Result<u64, WaveFault>
     requires room { read ≤ 2 ^ 60 }
     requires size { 16 ≤ size }
     ensures taken { IfOk result (λ n. (n ≤ size) × Drops (S.left source.old) (S.left source.new) n) }
@@ -173,7 +183,13 @@ fn read_content<S: Source>(source: &mut S, content: &mut [u8; 40], size: u32, re
 }
 
 // Reads one part of a content, all of it.
-fn read_part<S: Source>(source: &mut S, content: &mut [u8; 40], from: usize, to: usize, read: u64) -> Result<(), WaveFault>
+fn read_part<S: Source>(
+    source: &mut S,
+    content: &mut [u8; 40],
+    from: usize,
+    to: usize,
+    read: u64,
+) -> Result<(), WaveFault>
     requires order { from ≤ to }
     requires bound { to ≤ 40 }
     requires room { read ≤ 2 ^ 61 }

@@ -4,6 +4,8 @@
 mod chunks;
 mod formats;
 mod input;
+#[cfg(test)]
+mod tests;
 mod wave;
 
 pub use wave::Wave;

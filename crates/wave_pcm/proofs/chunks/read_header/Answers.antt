@@ -1,4 +1,4 @@
-use Rattle.std.proofs.Common.{rules, arith, refl}
+use Rattle.std.proofs.Common.{arith, refl}
 use Rattle.wave_pcm.proofs.ChunkLemmas.{ok_is_no_read, onward_data, onward_end, onward_fault, onward_more, same_fault}
 use Rattle.wave_pcm.proofs.chunks.read_header.Goals as goal
 

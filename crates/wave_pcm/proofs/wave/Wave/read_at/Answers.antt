@@ -1,4 +1,4 @@
-use Rattle.std.proofs.Common.{rules, ◌≡◌, ◌+◌, ◌-◌, ◌*◌, ◌≤◌, ℕ, ap, arith, length, sym, ◌∙◌}
+use Rattle.std.proofs.Common.{rules, ◌≡◌, ◌+◌, ◌-◌, ◌*◌, ℕ, ap, arith, length, ◌∙◌}
 use Rattle.wave_pcm.specs.Readings.{Reading}
 use Rattle.wave_pcm.proofs.FrameLemmas.{rest_at}
 use Rattle.wave_pcm.proofs.wave.Wave.read_at.Goals as goal
