@@ -1,0 +1,11 @@
+pub mod ToldLemmas
+pub mod DigitLemmas
+pub mod WiresLemmas
+pub mod CallsLemmas
+pub mod WiredLemmas
+pub mod HistoryStraight
+pub mod CourseStraight
+pub mod ReportStraight
+pub mod NarrowLemmas
+pub mod PlayingStraight
+pub mod PlaybackStraight

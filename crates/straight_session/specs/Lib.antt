@@ -1,0 +1,5 @@
+pub mod Connecting
+pub mod Mixing
+pub mod Reporting
+pub mod Straight
+pub mod Laws
