@@ -1,0 +1,72 @@
+-- What the tasks that fill a file from a ring do.
+--     MayWrite getting tape      when they may be called
+--     Drains, Serves, Finishes      what they did
+--     Fails      what stands behind a failed put
+use Rattle.std.specs.Prelude.{◌≡◌, ℕ, ◌+◌, ◌*◌, ◌<◌, ◌≤◌, true, false, List, ◌++◌, length, take, flat_map, ℤ, Option, IfSome}
+use Rattle.session_model.specs.Rings.{RingBlock}
+use Rattle.session_model.specs.Samples.{width}
+use Rattle.session_model.specs.WaveFiles.{IsFormat, wave_text}
+use Rattle.record_ring.specs.Rings.{Getting, items_of}
+use Rattle.wave_write.specs.Tapes.{Tape, HasSamples, HasFront}
+
+abbrev pub samples_of_blocks : List RingBlock → List ℤ
+samples_of_blocks blocks = flat_map (λ (block : RingBlock). block.samples) blocks
+
+-- no put failed, and the file has no more samples than the blocks got, so that all blocks that the ring may carry fit
+pub record MayWrite (getting : Getting) (tape : Tape) : Type 0 where
+  pub going : tape.stopped ≡ false
+  pub lawful : IsFormat tape.format
+  pub few : getting.most ≤ 1000000000
+  pub got : items_of getting.got ≤ getting.most
+  pub written : tape.written ≤ items_of getting.got * width tape.format.bits
+
+-- one ring, and one file
+pub record SameEnds (getting : Getting) (tape : Tape) (getting_after : Getting) (tape_after : Tape) : Type 0 where
+  pub table : getting_after.table ≡ getting.table
+  pub room : getting_after.samples ≡ getting.samples
+  pub most : getting_after.most ≡ getting.most
+  pub format : tape_after.format ≡ tape.format
+  pub name : tape_after.name ≡ tape.name
+  pub later : tape.faults ≤ tape_after.faults
+  pub least : getting.least ≤ getting_after.least
+
+-- so many blocks were got and written, in their order: a tape that had all samples got before has them afterwards
+pub record Writes (count : ℕ) (getting : Getting) (tape : Tape) (getting_after : Getting) (tape_after : Tape) : Type 0 where
+  pub same : SameEnds getting tape getting_after tape_after
+  pub longer : getting.got ≡ take (length getting.got) getting_after.got
+  pub count_is : length getting_after.got ≡ length getting.got + count
+  pub samples : (samples : List ℤ) → HasSamples tape (samples ++ samples_of_blocks getting.got) → HasSamples tape_after (samples ++ samples_of_blocks getting_after.got)
+  pub may : MayWrite getting_after tape_after
+
+-- at most so many blocks; fewer only where a get found no more
+pub record Drains (most count : ℕ) (getting : Getting) (tape : Tape) (getting_after : Getting) (tape_after : Tape) : Type 0 where
+  pub writes : Writes count getting tape getting_after tape_after
+  pub at_most : count ≤ most
+  pub fewer : count < most → getting_after.least ≡ length getting_after.got
+
+-- all blocks up to the end
+pub record Serves (count : ℕ) (getting : Getting) (tape : Tape) (getting_after : Getting) (tape_after : Tape) : Type 0 where
+  pub writes : Writes count getting tape getting_after tape_after
+  pub done : getting_after.done ≡ true
+  pub all : getting_after.least ≡ length getting_after.got
+
+-- a put failed: the file holds a front of the header and of the samples of the blocks got
+pub record Fails (getting : Getting) (tape : Tape) (getting_after : Getting) (tape_after : Tape) : Type 0 where
+  pub same : SameEnds getting tape getting_after tape_after
+  pub longer : getting.got ≡ take (length getting.got) getting_after.got
+  pub stopped : tape_after.stopped ≡ true
+  pub front : (samples : List ℤ) → HasSamples tape (samples ++ samples_of_blocks getting.got) → HasFront tape_after.format (samples ++ samples_of_blocks getting_after.got) tape_after.bytes
+
+-- all blocks that were found, and then the file is finished
+pub record Finishes (count : ℕ) (getting : Getting) (tape : Tape) (getting_after : Getting) (bytes : Option (List ℕ)) : Type 0 where
+  pub longer : getting.got ≡ take (length getting.got) getting_after.got
+  pub count_is : length getting_after.got ≡ length getting.got + count
+  pub all : getting_after.least ≡ length getting_after.got
+  pub least : getting.least ≤ getting_after.least
+  pub file : (samples : List ℤ) → HasSamples tape (samples ++ samples_of_blocks getting.got) → IfSome bytes (λ text. text ≡ wave_text tape.format (samples ++ samples_of_blocks getting_after.got))
+
+-- or the finish failed, at a put or behind all puts
+pub record Breaks (getting : Getting) (tape : Tape) (getting_after : Getting) (bytes : Option (List ℕ)) : Type 0 where
+  pub longer : getting.got ≡ take (length getting.got) getting_after.got
+  pub least : getting.least ≤ getting_after.least
+  pub front : (samples : List ℤ) → HasSamples tape (samples ++ samples_of_blocks getting.got) → HasFront tape.format (samples ++ samples_of_blocks getting_after.got) bytes

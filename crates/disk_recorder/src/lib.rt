@@ -1,0 +1,7 @@
+//! From a ring to a file: the blocks got are written in their order, each by one put.
+#![tactic(auto)]
+
+mod passing;
+mod writing;
+
+pub use writing::{drain, finish, serve};
