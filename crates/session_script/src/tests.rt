@@ -120,10 +120,12 @@ fn limits_are_met_and_not_passed(rt: HostRuntime) -> Result<(), AllocError> {
         many_fault(alloc, "", "do open a mix\n", 257, "")?,
         too_many(263, Many::Opens, 256)
     );
+    assert_eq!(rt; many_fault(alloc, "", "run 1\n", 256, "")?, None);
     assert_eq!(rt;
         many_fault(alloc, "", "run 1\n", 257, "")?,
         too_many(263, Many::Segments, 256)
     );
+    assert_eq!(rt; many_fault(alloc, "", "period 8\n", 256, "")?, None);
     assert_eq!(rt;
         many_fault(alloc, "", "period 8\n", 257, "")?,
         too_many(263, Many::Periods, 256)
@@ -133,14 +135,17 @@ fn limits_are_met_and_not_passed(rt: HostRuntime) -> Result<(), AllocError> {
         body_fault(alloc, "run 1000000\nrun 1")?,
         too_many(8, Many::Cycles, 1000000)
     );
+    assert_eq!(rt; many_fault(alloc, "", "recorder 1 8\n", 4, "")?, None);
     assert_eq!(rt;
         many_fault(alloc, "", "recorder 1 8\n", 5, "")?,
         too_many(11, Many::Recorders, 4)
     );
+    assert_eq!(rt; many_fault(alloc, "", "disk 1\n", 4, "")?, None);
     assert_eq!(rt;
         many_fault(alloc, "", "disk 1\n", 5, "")?,
         too_many(11, Many::Disks, 4)
     );
+    assert_eq!(rt; many_fault(alloc, "", "event 0 1 80\n", 4096, "")?, None);
     assert_eq!(rt;
         many_fault(alloc, "", "event 0 1 80\n", 4097, "")?,
         too_many(4103, Many::Events, 4096)
