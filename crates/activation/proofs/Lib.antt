@@ -10,3 +10,6 @@ mod Acting
 mod Listed
 mod Played
 mod Slots
+mod Alone
+mod Begun
+mod Sharing

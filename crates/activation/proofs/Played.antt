@@ -43,6 +43,10 @@ pub room_is : (n : ℕ) → most_links ≤ n → 512 ≤ n
 unfolding most_links
 room_is n h = h
 
+pub has_room_is : (n : ℕ) → 512 ≤ n → most_links ≤ n
+unfolding most_links
+has_room_is n h = h
+
 pub map-snoc : {A C : Type 0} (f : A → C) (xs : List A) (x : A) → map f (xs ++ x ∷ []) ≡ map f xs ++ f x ∷ []
 map-snoc f [] x = refl
 map-snoc f (y ∷ ys) x = ap (λ l. f y ∷ l) (map-snoc f ys x)

@@ -2,7 +2,8 @@
 --     IsFull memory after gives links benches q x      before its node is taken: the bench as before the cycle, or the link's value
 --     IsDone memory has_room after gives links benches q x      when its node is home: a sequential bench, or some value
 --     first_view size      the view of the first seat
-use Rattle.std.specs.Prelude.{◌≡◌, ◌≢◌, ◌≤◌, ◌<◌, ◌+◌, ◌-◌, ℕ, zero, suc, Bool, true, false, cond, List, [], ◌∷◌, length, map, replicate, Option, Some, None, vec_capacity}
+use Rattle.std.specs.Prelude.{◌≡◌, ◌≢◌, ◌≤◌, ◌<◌, ◌+◌, ◌-◌, ℕ, zero, suc, Bool, true, false, cond, List, [], ◌∷◌, length, map, replicate, Option, Some, None, All, vec_capacity}
+use Rattle.std.specs.Global.{Vec}
 use mathlib.Core.Option.{some}
 use lib.ListN.{get_elem?}
 use Rattle.jack_types.specs.declared.ports.Link.{Link}
@@ -82,3 +83,7 @@ benches_in (None ∷ items) = []
 -- each of these benches lies in its slot, with the room for what it is given
 abbrev pub AreLaid : {B Y : Type 0} → List B → List (Option (Item B Y)) → Type 0
 AreLaid {B} {Y} benches items = (n : ℕ) (bench : B) → get_elem? benches n ≡ some bench → (desk : Desk B Y) × (get_elem? items n ≡ some (Some (Bench desk))) × (desk.bench ≡ bench) × HasRoomFor desk
+
+-- room for all that a bench can be given, by node
+abbrev pub AreEmpty : {Y : Type 0} → List (Vec (Option Y)) → Type 0
+AreEmpty rooms = All (λ room. (room.items ≡ []) × (most_links ≤ vec_capacity room)) rooms

@@ -6,6 +6,7 @@ use Rattle.atomic_table.specs.declared.shared.Seat.{Seat}
 use Rattle.jack_types.specs.declared.ports.Link.{Link}
 use Rattle.session_model.specs.Activation.{AreLinks, incoming, place_among}
 use Rattle.session_model.specs.Samples.{below}
+use Rattle.activation.specs.declared.views.Duty.{Duty}
 use Rattle.activation.specs.declared.views.View.{View}
 
 module _ {S B : Type 0} where
@@ -46,3 +47,14 @@ pub record IsShape (id : TableId) (links : List Link) (nodes : ℕ) (into : List
   pub few_links : length links ≤ 512
   pub into_are : into ≡ map (incoming links) (below nodes)
   pub places_are : places ≡ map (place_among links) (below (length links))
+
+-- what a new seat knows: the links, the benches and its share, and nothing of the cycle
+abbrev pub new_duty : {B : Type 0} → List Link → List B → ℕ → List ℕ → Duty B
+new_duty links before seats shares = record { links = links; before = before; seats = seats; shares = shares; started = []; released = []; held = [] }
+
+-- a new seat of this number, which is one of so many of the table's
+pub record IsShare {S B : Type 0} (id : TableId) (links : List Link) (before : List B) (count number : ℕ) (token : Seat S (View S B)) : Type 0 where
+  pub few : number < count
+  pub table : token.table_id ≡ id
+  pub idle : IsIdle token.me
+  pub duty : token.me.0.duty ≡ new_duty links before count (number ∷ [])

@@ -1,22 +1,24 @@
 //! The crew: the benches of a graph, and the seats that play them.
-ghost use Rattle.std.specs.Prelude.{◌≡◌, ◌≢◌, ◌≤◌, ◌<◌, ◌+◌, ℕ, true, false, List, [], ◌∷◌, length, map, Some, IfSome, IsNone, vec_capacity, ◌%◌};
+ghost use Rattle.std.specs.Prelude.{◌≡◌, ◌≢◌, ◌≤◌, ◌<◌, ◌+◌, ℕ, true, false, List, [], ◌∷◌, length, map, Some, All, IfOk, IfErr, IfSome, IsNone, vec_capacity, ◌%◌};
 ghost use Rattle.activation.specs.Rule.{has};
 ghost use Rattle.activation.specs.Plays.{IsSlotOf, Owns, out_after, open_after, fill_after};
 ghost use Rattle.activation.specs.declared.views.Item.TheVariants.{Value};
 ghost use mathlib.Core.Option.{some};
 ghost use lib.ListN.{get_elem?};
-ghost use Rattle.session_model.specs.Activation.{link_at, incoming, place_among};
+ghost use Rattle.session_model.specs.Activation.{AreLinks, link_at, incoming, place_among};
+ghost use Rattle.session_model.specs.Samples.{below};
 ghost use Rattle.activation.specs.Contents.{IsFull, IsDone, HasRoomFor, IsValueOf, AreValuesOf, most_links};
 ghost use Rattle.activation.specs.Takens.{IsUnplayed, IsPlayed, with_started, with_held, with_released, with_home};
-ghost use Rattle.activation.specs.Seats.{IsIdle, IsAt, Sits, IsShape};
+ghost use Rattle.activation.specs.Seats.{IsIdle, IsAt, Sits, IsShape, new_duty};
 
+use crate::making::{Parts, begin, prepare, share};
 use crate::rules::{ComeHome, CrewRule, Fill, Open, Release, Start, Take};
 use crate::takens::{Seat, Taken};
 use crate::views::{Desk, Item, Size, View};
 use crate::work::Work;
 use atomic_table::{Seat as Token, Table};
 use jack_types::Link;
-use std::alloc::Global;
+use std::alloc::{AllocError, Global};
 
 /// The benches of a graph's nodes, the counters of the nodes and the values of the links.
 pub struct Crew<B: Work> {
@@ -37,6 +39,57 @@ pub struct Crew<B: Work> {
 }
 
 impl<B: Work> Crew<B> {
+    /// A crew over these benches, one a node, with its seats.
+    ///
+    /// A link goes from a lower node to a higher one. The seat of number s starts the nodes n with n mod
+    /// `seats` equal to s. For want of memory the benches come back.
+    pub fn new(
+        alloc: Global,
+        links: &[Link],
+        mut benches: Vec<B>,
+        seats: u32,
+    ) -> Result<(Crew<B>, Vec<Seat<B>>), (Vec<B>, AllocError)>
+        requires links { AreLinks (length benches.items) links.now }
+        requires sizes { (length benches.items ≤ 64) × (length links.now ≤ 512) × (0 < seats) × (seats ≤ 16) }
+        ensures crew { IfOk result (λ made. (made.0.nodes ≡ length benches.items) × (made.0.links.items ≡ links.now) × (made.0.seats ≡ seats)) }
+        ensures numbers { IfOk result (λ made. map (λ seat. seat.number) made.1.items ≡ below seats) }
+        ensures each { IfOk result (λ made. All (λ seat. Sits made.0.board.shared.table_id links.now (length benches.items) seats seat.number seat.token × (seat.token.me.0.duty ≡ new_duty links.now benches.items seats (seat.number ∷ []))) made.1.items) }
+        ensures err { IfErr result (λ back. back.0.items ≡ benches.items) }
+    {
+        let nodes = benches.len();
+        let parts = match prepare(alloc, links, nodes, seats) {
+            Ok(parts) => parts,
+            Err(error) => return Err((benches, error)),
+        };
+        let Parts {
+            board,
+            mut token,
+            links: kept,
+            into,
+            places,
+            mut rooms,
+            seats: room,
+        } = parts;
+        begin(
+            &board,
+            &mut token,
+            into.as_slice(),
+            &mut rooms,
+            &mut benches,
+        );
+        let all = share(&board, token, seats, room);
+        let crew = Crew {
+            board,
+            links: kept,
+            nodes,
+            seats,
+            into,
+            places,
+            emptied: benches,
+        };
+        Ok((crew, all))
+    }
+
     // Takes what lies in a slot of the seat's.
     fn lift(
         &self,

@@ -6,6 +6,9 @@
 
 mod cores;
 mod crews;
+mod indexes;
+mod making;
+mod opening;
 mod rules;
 mod stands;
 mod takens;

@@ -1,0 +1,80 @@
+//! Which links go into each node, and the place of each link among those that go out from its node.
+ghost use Rattle.std.specs.Prelude.{◌≡◌, ◌≤◌, ◌<◌, ◌+◌, ◌==◌, ℕ, List, [], length, map, filter, count_by, IfOk, vec_capacity};
+ghost use Rattle.session_model.specs.Activation.{incoming, place_among, link_at};
+ghost use Rattle.session_model.specs.Samples.{below};
+ghost use Rattle.activation.specs.Contents.{AreEmpty};
+
+use jack_types::Link;
+use std::alloc::{AllocError, Global};
+
+/// The positions of the links into the node, in their order.
+pub(crate) fn links_into(alloc: Global, links: &[Link], node: usize) -> Result<Vec<u32>, AllocError>
+    requires { length links.now ≤ 512 }
+    ensures { IfOk result (λ into. into.items ≡ incoming links.now node) }
+{
+    let mut into = Vec::with_capacity(alloc, links.len())?;
+    for (position, link) in links.iter().enumerate() {
+        if link.to as usize == node {
+            into.push_reserved(position as u32);
+        }
+    }
+    Ok(into)
+}
+
+/// By node the positions of the links into it.
+pub(crate) fn all_into(
+    alloc: Global,
+    links: &[Link],
+    nodes: usize,
+) -> Result<Vec<Vec<u32>>, AllocError>
+    requires { length links.now ≤ 512 }
+    ensures { IfOk result (λ all. map (λ into. into.items) all.items ≡ map (incoming links.now) (below nodes)) }
+{
+    let mut all = Vec::with_capacity(alloc, nodes)?;
+    for node in 0..nodes {
+        let into = links_into(alloc, links, node)?;
+        all.push_reserved(into);
+    }
+    Ok(all)
+}
+
+/// The link's place among those that go out from its node.
+pub(crate) fn place_of(links: &[Link], position: usize) -> u32
+    requires { (length links.now ≤ 512) × (position < length links.now) }
+    ensures { result ≡ place_among links.now position }
+{
+    let from = links[position].from;
+    let mut place = 0;
+    for other in 0..position {
+        if links[other].from == from {
+            place += 1;
+        }
+    }
+    place
+}
+
+/// By link its place.
+pub(crate) fn all_places(alloc: Global, links: &[Link]) -> Result<Vec<u32>, AllocError>
+    requires { length links.now ≤ 512 }
+    ensures { IfOk result (λ all. all.items ≡ map (place_among links.now) (below (length links.now))) }
+{
+    let mut all = Vec::with_capacity(alloc, links.len())?;
+    for position in 0..links.len() {
+        all.push_reserved(place_of(links, position));
+    }
+    Ok(all)
+}
+
+/// By node the room for the values that its bench is given.
+pub(crate) fn all_rooms<Y: Drop>(
+    alloc: Global,
+    nodes: usize,
+) -> Result<Vec<Vec<Option<Y>>>, AllocError>
+    ensures { IfOk result (λ all. (length all.items ≡ nodes) × AreEmpty all.items) }
+{
+    let mut all = Vec::with_capacity(alloc, nodes)?;
+    for _ in 0..nodes {
+        all.push_reserved(Vec::with_capacity(alloc, 512)?);
+    }
+    Ok(all)
+}

@@ -1,0 +1,130 @@
+//! How a crew is made.
+ghost use Rattle.std.specs.Prelude.{◌≡◌, ◌≤◌, ◌<◌, ◌+◌, ℕ, List, [], ◌∷◌, length, map, All, IfOk, vec_capacity};
+ghost use Rattle.session_model.specs.Activation.{AreLinks, incoming, place_among};
+ghost use Rattle.session_model.specs.Samples.{below};
+ghost use Rattle.activation.specs.Contents.{AreEmpty, first_view, from_to};
+ghost use Rattle.activation.specs.Seats.{IsIdle, IsShare, new_duty};
+
+use crate::indexes::{all_into, all_places, all_rooms};
+use crate::opening::{lay_benches, set_counters};
+use crate::rules::{CrewRule, Leave, Shares};
+use crate::takens::Seat;
+use crate::views::{Item, Size, View};
+use crate::work::Work;
+use atomic_table::{Seat as Token, Table};
+use jack_types::Link;
+use std::alloc::{AllocError, Global};
+
+/// All that a crew takes memory for.
+#[derive(Drop)]
+pub(crate) struct Parts<B: Work> {
+    pub(crate) board: Table<
+        Option<Item<B, B::Value>>,
+        View<Option<Item<B, B::Value>>, B>,
+        Size,
+        CrewRule<B>,
+        Global,
+    >,
+    pub(crate) token: Token<Option<Item<B, B::Value>>, View<Option<Item<B, B::Value>>, B>>,
+    pub(crate) links: Vec<Link>,
+    pub(crate) into: Vec<Vec<u32>>,
+    pub(crate) places: Vec<u32>,
+    pub(crate) rooms: Vec<Vec<Option<B::Value>>>,
+    pub(crate) seats: Vec<Seat<B>>,
+}
+
+/// Takes all the memory that a crew needs.
+pub(crate) fn prepare<B: Work>(
+    alloc: Global,
+    links: &[Link],
+    nodes: usize,
+    seats: u32,
+) -> Result<Parts<B>, AllocError>
+    requires { (length links.now ≤ 512) × (nodes ≤ 64) }
+    ensures board { IfOk result (λ parts. (parts.board.shared.table_id.slots ≡ nodes + 512) × (parts.board.shared.table_id.words ≡ nodes + 513) × (parts.token.table_id ≡ parts.board.shared.table_id) × (parts.token.me ≡ (first_view links.now (nodes + 512) seats, []))) }
+    ensures index { IfOk result (λ parts. (parts.links.items ≡ links.now) × (map (λ into. into.items) parts.into.items ≡ map (incoming links.now) (below nodes)) × (parts.places.items ≡ map (place_among links.now) (below (length links.now)))) }
+    ensures room { IfOk result (λ parts. (length parts.rooms.items ≡ nodes) × AreEmpty parts.rooms.items × (parts.seats.items ≡ []) × (seats ≤ vec_capacity parts.seats)) }
+{
+    let size = Size {
+        links: links.to_vec(alloc)?,
+        slots: nodes + 512,
+        seats,
+    };
+    let words = vec![in alloc; 0u64; nodes + 513]?;
+    let into = all_into(alloc, links, nodes)?;
+    let places = all_places(alloc, links)?;
+    let rooms = all_rooms(alloc, nodes)?;
+    let seats = Vec::with_capacity(alloc, seats as usize)?;
+    let (board, token) = Table::vacant(alloc, words.as_slice(), nodes + 512, &size)?;
+    let Size {
+        links,
+        slots: _,
+        seats: _,
+    } = size;
+    Ok(Parts {
+        board,
+        token,
+        links,
+        into,
+        places,
+        rooms,
+        seats,
+    })
+}
+
+/// Lays the benches and the counters, and begins the first cycle.
+pub(crate) fn begin<B: Work>(
+    board: &Table<
+        Option<Item<B, B::Value>>,
+        View<Option<Item<B, B::Value>>, B>,
+        Size,
+        CrewRule<B>,
+        Global,
+    >,
+    token: &mut Token<Option<Item<B, B::Value>>, View<Option<Item<B, B::Value>>, B>>,
+    into: &[Vec<u32>],
+    rooms: &mut Vec<Vec<Option<B::Value>>>,
+    benches: &mut Vec<B>,
+)
+    requires board { (board.now.shared.table_id.words ≡ length benches.old.items + 513) × (token.old.table_id ≡ board.now.shared.table_id) × (token.old.me ≡ (first_view token.old.me.0.duty.links (length benches.old.items + 512) token.old.me.0.duty.seats, [])) }
+    requires index { AreLinks (length benches.old.items) token.old.me.0.duty.links × (length token.old.me.0.duty.links ≤ 512) × (map (λ into. into.items) into.now ≡ map (incoming token.old.me.0.duty.links) (below (length benches.old.items))) }
+    requires room { (length rooms.old.items ≡ length benches.old.items) × AreEmpty rooms.old.items × (0 < token.old.me.0.duty.seats) }
+    ensures token { (token.new.table_id ≡ token.old.table_id) × IsIdle token.new.me × (token.new.me.0.duty ≡ new_duty token.old.me.0.duty.links benches.old.items token.old.me.0.duty.seats (from_to 0 token.old.me.0.duty.seats)) }
+    ensures benches { (benches.new.items ≡ []) × (vec_capacity benches.new ≡ vec_capacity benches.old) }
+{
+    lay_benches(board, token, benches, rooms);
+    set_counters(board, token, into);
+    board.shared.load::<Leave>(token, 0);
+}
+
+/// Splits the first seat into one for each share.
+pub(crate) fn share<B: Work>(
+    board: &Table<
+        Option<Item<B, B::Value>>,
+        View<Option<Item<B, B::Value>>, B>,
+        Size,
+        CrewRule<B>,
+        Global,
+    >,
+    mut token: Token<Option<Item<B, B::Value>>, View<Option<Item<B, B::Value>>, B>>,
+    count: u32,
+    mut seats: Vec<Seat<B>>,
+) -> Vec<Seat<B>>
+    requires token { (token.table_id ≡ board.now.shared.table_id) × (0 < board.now.shared.table_id.words) × IsIdle token.me × (token.me.0.duty ≡ new_duty token.me.0.duty.links token.me.0.duty.before count (from_to 0 count)) }
+    requires room { (seats.items ≡ []) × (count ≤ vec_capacity seats) × (0 < count) }
+    ensures numbers { map (λ seat. seat.number) result.items ≡ below count }
+    ensures each { All (λ seat. IsShare board.now.shared.table_id token.me.0.duty.links token.me.0.duty.before count seat.number seat.token) result.items }
+{
+    for number in 0..count - 1 {
+        let part = board.shared.split_seat::<Shares>(&mut token);
+        seats.push_reserved(Seat {
+            number,
+            token: part,
+        });
+    }
+    seats.push_reserved(Seat {
+        number: count - 1,
+        token,
+    });
+    seats
+}
