@@ -1,0 +1,5 @@
+pub mod FillLemmas
+pub mod BufferLemmas
+pub mod LineLemmas
+pub mod ClickLemmas
+pub mod PlayLemmas

@@ -1,0 +1,9 @@
+pub mod Benches
+pub mod Buffers
+pub mod Healths
+pub mod Lines
+pub mod Rooms
+pub mod Seats
+pub mod Sounds
+pub mod Standings
+pub mod Voices
