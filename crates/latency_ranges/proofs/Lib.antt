@@ -1,0 +1,5 @@
+mod DepthLemmas
+mod JoinLemmas
+mod PortLemmas
+mod SweepLemmas
+mod WiringLemmas
