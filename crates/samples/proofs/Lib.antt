@@ -1,1 +1,2 @@
+mod KernelLemmas
 mod ScalingLemmas

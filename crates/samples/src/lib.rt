@@ -1,6 +1,7 @@
 //! Samples as a file stores them, their sums, and the clamp.
 #![tactic(auto)]
 
+mod kernels;
 mod scaling;
 mod sums;
 #[cfg(test)]

@@ -1,6 +1,8 @@
-ghost use Rattle.std.specs.Prelude.{◌≡◌, ◌*◌, [], ◌∷◌, length, true};
-ghost use Rattle.session_model.specs.Samples.{bytes_of, down, samples_of, stored, storing, up, width};
+ghost use Rattle.std.specs.Prelude.{◌≡◌, ◌+◌, ◌*◌, ◌<◌, ◌≤◌, ℕ, [], ◌∷◌, length, slice_index, true};
+ghost use Rattle.session_model.specs.Samples.{bytes_of, down, sample, samples_of, stored, storing, up, width};
 ghost use Rattle.session_model.specs.WaveFiles.{is_width};
+
+use crate::kernels::four_24;
 
 /// Reads samples from a file's bytes.
 ///
@@ -76,13 +78,27 @@ fn from_16(bytes: &[u8], out: &mut [i32])
     }
 }
 
+// Reads the samples from `start` on, one at a time.
+pub(crate) fn from_24_plain(bytes: &[u8], out: &mut [i32], start: usize)
+    requires lengths { length bytes.now ≡ length out.old * 3 }
+    requires start { start ≤ length out.old }
+    requires front { (k : ℕ) → k < start → sample out.old k ≡ up 24 (stored 24 (slice_index bytes.now (3 * k) ∷ slice_index bytes.now (3 * k + 1) ∷ slice_index bytes.now (3 * k + 2) ∷ [])) }
+    ensures { out.new ≡ samples_of 24 bytes.now }
+{
+    for i in start..out.len() {
+        out[i] = sample_24(bytes[3 * i], bytes[3 * i + 1], bytes[3 * i + 2]);
+    }
+}
+
 fn from_24(bytes: &[u8], out: &mut [i32])
     requires { length bytes.now ≡ length out.old * 3 }
     ensures { out.new ≡ samples_of 24 bytes.now }
 {
-    for (i, sample) in out.iter_mut().enumerate() {
-        *sample = sample_24(bytes[3 * i], bytes[3 * i + 1], bytes[3 * i + 2]);
+    let blocks = out.len().saturating_sub(2) / 4;
+    for block in 0..blocks {
+        four_24(bytes, out, 4 * block);
     }
+    from_24_plain(bytes, out, 4 * blocks);
 }
 
 fn from_32(bytes: &[u8], out: &mut [i32])

@@ -1,7 +1,8 @@
-ghost use Rattle.std.specs.Prelude.{◌≡◌, ◌<◌, ℕ, IsTrue, length};
+ghost use Rattle.std.specs.Prelude.{◌≡◌, ◌*◌, ◌<◌, ℕ, IsTrue, length};
 ghost use Rattle.session_model.specs.Samples.{sample};
 ghost use Rattle.samples.specs.Sums.{IsSmall};
 
+use crate::scaling::from_24_plain;
 use crate::{add_into, clamp64, from_bytes, settle, to_bytes};
 use std::alloc::{AllocError, Global};
 use std::test::Fail;
@@ -86,6 +87,48 @@ fn a_sum_is_clamped_once(rt: HostRuntime) -> Result<(), Fail> {
         assert!(rt; two.iter().all(|x| *x == i32::MAX));
         let three = mixed(rt.alloc(), &[LOUD, LOUD, SOFT], frames)?;
         assert!(rt; three.iter().all(|x| *x == 2_147_352_576));
+    }
+    Ok(())
+}
+
+// Stores 0, 1, 2 and so on in 24 bits.
+fn count_up(bytes: &mut [u8]) {
+    for k in 0..bytes.len() / 3 {
+        bytes[3 * k] = (k % 256) as u8;
+        bytes[3 * k + 1] = (k / 256 % 256) as u8;
+    }
+}
+
+// Whether samples are what 0, 1, 2 and so on in 24 bits are in 32 bits.
+fn counts_up(samples: &[i32]) -> bool {
+    let mut wanted = 0i32;
+    for sample in samples {
+        if *sample != wanted {
+            return false;
+        }
+        wanted = wanted.wrapping_add(256);
+    }
+    true
+}
+
+// Whether blocks and single samples both read what `count_up` stored.
+fn both_count(bytes: &mut [u8], blocks: &mut [i32], plain: &mut [i32]) -> bool
+    requires blocks { length bytes.old ≡ length blocks.old * 3 }
+    requires plain { length bytes.old ≡ length plain.old * 3 }
+{
+    count_up(bytes);
+    from_bytes(24, bytes, blocks);
+    from_24_plain(bytes, plain, 0);
+    counts_up(blocks) && counts_up(plain)
+}
+
+#[test]
+fn blocks_of_24_bits_are_read_as_single_samples_are(rt: HostRuntime) -> Result<(), Fail> {
+    for frames in [0usize, 1, 7, 8, 9, 4096] {
+        let mut bytes = vec![in rt.alloc(); 0u8; 3 * frames]?;
+        let mut blocks = vec![in rt.alloc(); 7i32; frames]?;
+        let mut plain = vec![in rt.alloc(); 7i32; frames]?;
+        assert!(rt; both_count(&mut bytes, &mut blocks, &mut plain));
     }
     Ok(())
 }
