@@ -13,7 +13,7 @@ use Rattle.session_model.specs.Samples.{bytes_of, storing, width, up, down}
 use Rattle.session_model.specs.WaveFiles.{IsFormat, IsWave, is_width, opening_text, file_text, wave_text}
 use Rattle.session_laws.proofs.WaveSamples.{by_width, length-bytes_of}
 use Rattle.session_laws.proofs.WaveWritten.{wave_text-wave}
-use Rattle.wave_write.specs.Tapes.{Tape, HasSamples, HasFront, AreInOrder, IsHeaded, Gained, GainedPart, SameFile, IsKept}
+use Rattle.wave_write.specs.Tapes.{Tape, HasSamples, HasFront, AreInOrder, IsCut, IsHeaded, Gained, GainedPart, SameFile, IsKept}
 use Rattle.wave_write.specs.Finishing.{Opens, Finished, FinishedPart}
 use Rattle.wave_write.proofs.FinishingLemmas.{put_at_end, header-between, between-opens, none_is_not_some, opens, riff_of, size_of, take_past}
 
@@ -68,14 +68,14 @@ kept_first format a b piece lawful empty e h =
         let same : bytes ≡ ys = cc in
         same ∙ first_piece xs ys piece (empty xs refl) h ∙ e
 
-pub front_of_header : (format : Format) (a b : Option (List ℕ)) (piece : List ℕ) (k : ℕ) → ForSome a (λ bytes. bytes ≡ []) → piece ≡ opening_text format → k ≤ length piece → Holds a b 0 (take k piece) → HasFront format [] b
+pub front_of_header : (format : Format) (a b : Option (List ℕ)) (piece : List ℕ) (k : ℕ) → ForSome a (λ bytes. bytes ≡ []) → piece ≡ opening_text format → k ≤ length piece → Holds a b 0 (take k piece) → IfSome b (IsCut format)
 front_of_header format None None piece k empty e le h = tt
 front_of_header format None (Some ys) piece k empty e le h = absurd h
 front_of_header format (Some xs) None piece k empty e le h = absurd h
 front_of_header format (Some xs) (Some ys) piece k empty e le h =
     let is : ys ≡ take k piece = first_piece xs ys (take k piece) (empty xs refl) h in
     let count : length ys ≡ k = ap length is ∙ length-take-le k piece le in
-    inl (is ∙ ap (take k) e ∙ ap (λ (n : ℕ). take n (opening_text format)) (sym count))
+    is ∙ ap (take k) e ∙ ap (λ (n : ℕ). take n (opening_text format)) (sym count)
 
 -- ---- pieces, one after another
 

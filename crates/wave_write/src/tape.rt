@@ -5,7 +5,7 @@ ghost use Rattle.std.specs.Int.RustNames.{FitsSigned};
 ghost use Rattle.jack_host.specs.Causes.{HasCause, Rose};
 ghost use Rattle.session_model.specs.Samples.{bytes_of, down, up, width};
 ghost use Rattle.session_model.specs.WaveFiles.{IsFormat, IsWave, opening_text, wave_text};
-ghost use Rattle.wave_write.specs.Tapes.{AreInOrder, Gained, GainedPart, HasFront, HasSamples, SameFile};
+ghost use Rattle.wave_write.specs.Tapes.{AreInOrder, Gained, GainedPart, HasFront, HasSamples, IsCut, SameFile};
 
 use crate::finishing::{complete, write};
 use crate::header::opening;
@@ -51,7 +51,7 @@ impl<W: Store> WaveOut<W> {
         ensures tells { IfOk result (λ out. is_some out.bytes ≡ is_some (W.content store)) }
         ensures later { IfOk result (λ out. W.faults store ≤ out.faults) }
 
-        ensures front { IfErr result (λ e. HasFront format [] (W.content e.0)) }
+        ensures front { IfErr result (λ e. IfSome (W.content e.0) (IsCut format)) }
         ensures back { IfErr result (λ e. (W.name e.0 ≡ W.name store) × (is_some (W.content e.0) ≡ is_some (W.content store))) }
         ensures cause { IfErr result (λ e. (W.faults store ≤ W.faults e.0) × Rose (W.faults store) (W.faults e.0)) }
     {
