@@ -1,0 +1,10 @@
+pub mod FileLemmas
+pub mod PlayLemmas
+pub mod RoomLemmas
+pub mod StraightLemmas
+pub mod WritingLemmas
+pub mod CaptureLemmas
+pub mod PreparingLemmas
+pub mod PlayedLemmas
+pub mod ExactLemmas
+pub mod WordLemmas

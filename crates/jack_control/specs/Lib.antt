@@ -1,0 +1,10 @@
+pub mod Statuses
+pub mod FaultLines
+pub mod Words
+pub mod Plays
+pub mod Sessions
+pub mod Captures
+pub mod Rooms
+pub mod Preparing
+pub mod Tops
+pub mod Exact

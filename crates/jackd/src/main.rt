@@ -1,0 +1,59 @@
+//! The program: the real files, standard output and the exit code.
+#![tactic(auto)]
+
+mod usage;
+
+use jack_control::{Status, jackd};
+use jack_host::{FileHost, WriterSink};
+use std::alloc::Global;
+use std::env::Env;
+use std::process::ExitCode;
+use std::{env, io};
+
+// The exit code where the help or the version can't be made or printed.
+const UNPRINTED: u8 = 6;
+
+// The words of the command line, without the program's name.
+fn words(rt: &(impl Env + AllocGlobal)) -> io::Result<Vec<String>> {
+    let mut words = Vec::new(rt.alloc());
+    for word in env::args(rt)?.skip(1) {
+        words.push(word)?;
+    }
+    Ok(words)
+}
+
+// Whether this is the one word.
+fn is_alone(words: &[String], word: &str) -> bool {
+    match words {
+        [only] => only.as_str() == word,
+        _ => false,
+    }
+}
+
+// The exit code of what was printed.
+fn code_of(printed: io::Result<()>) -> ExitCode {
+    match printed {
+        Ok(()) => ExitCode::SUCCESS,
+        Err(_) => ExitCode::from(UNPRINTED),
+    }
+}
+
+fn main(rt: HostRuntime) -> ExitCode {
+    let words = match words(&rt) {
+        Ok(words) => words,
+        Err(_) => Vec::new(rt.alloc()),
+    };
+    if is_alone(&words, "--help") {
+        return code_of(usage::print_help(&rt));
+    }
+    if is_alone(&words, "--version") {
+        return code_of(usage::print_version(&rt));
+    }
+    let mut host = FileHost::new(&rt);
+    let mut out = WriterSink::new(io::writer(&rt));
+    let status = jackd(rt.alloc(), &words, &mut host, &mut out);
+    if status == Status::Words {
+        let _ = usage::print_usage(&rt);
+    }
+    ExitCode::from(status.code())
+}

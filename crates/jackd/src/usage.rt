@@ -1,0 +1,63 @@
+//! The text on how the program is called.
+
+use clap::{Arg, ArgAction, Command};
+use std::alloc::{AllocError, Global};
+use std::io;
+
+// The lists of words that are taken.
+const USAGE: &str = "jackd play SCRIPT CAPTURE PLAYBACK
+       jackd --help
+       jackd --version";
+
+// What the words of a play name, and the exit codes.
+const NAMES: &str =
+    "SCRIPT is a session's script, CAPTURE the WAVE file that stands for the sound card's input, and
+PLAYBACK the WAVE file that is made, which stands for its output. The report goes to standard output.
+
+Exit codes: 0 played, 1 no memory, 2 other words, 3 a file could not be read, 4 the capture is no
+WAVE file that is read, 5 the script can't be played, 6 a file could not be written, 7 the script
+and the capture differ.";
+
+// How the program is called.
+fn program<'a>(alloc: Global) -> Result<Command<'a>, AllocError> {
+    let play = Command::new(alloc, "play").about("Plays a session, and prints its report");
+    let help = Arg::new(alloc, "help")
+        .long("help")
+        .action(ArgAction::SetTrue)
+        .help("Print this text");
+    let version = Arg::new(alloc, "version")
+        .long("version")
+        .action(ArgAction::SetTrue)
+        .help("Print the version");
+    Command::new(alloc, "jackd")
+        .version("0.1.0")
+        .about(
+            "An audio server whose output is proved: it plays a session's script over WAVE files",
+        )
+        .override_usage(USAGE)
+        .after_help(NAMES)
+        .disable_help_subcommand(true)
+        .disable_help_flag(true)
+        .disable_version_flag(true)
+        .subcommand(play)?
+        .arg(help)?
+        .arg(version)
+}
+
+/// Prints the help on standard output.
+pub fn print_help(rt: &(impl Print + AllocGlobal)) -> io::Result<()> {
+    let text = program(rt.alloc())?.render_long_help()?;
+    rt.print(text.as_str())
+}
+
+/// Prints the program's name and its version on standard output.
+pub fn print_version(rt: &(impl Print + AllocGlobal)) -> io::Result<()> {
+    let text = program(rt.alloc())?.render_version()?;
+    rt.print(text.as_str())
+}
+
+/// Prints how the program is called on standard error.
+pub fn print_usage(rt: &(impl Eprint + AllocGlobal)) -> io::Result<()> {
+    let text = program(rt.alloc())?.render_long_help()?;
+    rt.eprint(text.as_str())
+}
