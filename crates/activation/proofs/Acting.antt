@@ -1,5 +1,5 @@
 -- The steps of a seat as the calls of a crew make them.
-use Rattle.std.proofs.Common.{◌≡◌, ℕ, ◌+◌, ◌<◌, ◌≤◌, ◌%◌, ◌^◌, ◌-◌, Bool, true, false, List, [], ◌∷◌, length, All, sym, refl, subst}
+use Rattle.std.proofs.Common.{◌≡◌, ℕ, ◌+◌, ◌<◌, ◌≤◌, ◌%◌, ◌^◌, ◌-◌, true, false, List, [], ◌∷◌, length, All, sym, refl, subst}
 use mathlib.Core.Option.{none}
 use Rattle.atomic_table.specs.Table.{Me, step, Allows}
 use Rattle.jack_types.specs.declared.ports.Link.{Link}

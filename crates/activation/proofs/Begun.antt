@@ -1,5 +1,5 @@
 -- A new table, and what becomes of it once its benches and counters are laid.
-use Rattle.std.proofs.Common.{◌≡◌, ◌≢◌, ℕ, zero, suc, ◌+◌, ◌<◌, ◌≤◌, ◌⊎◌, Bool, true, false, cond, List, [], ◌∷◌, ◌++◌, length, map, set, get_or, replicate, All, Option, Some, None, refl, sym, ◌∙◌, ap, subst, ⊎_elim, inl, inr, arith, true≢false, vec_capacity}
+use Rattle.std.proofs.Common.{◌≡◌, ℕ, zero, suc, ◌+◌, ◌-◌, ◌<◌, ◌≤◌, Bool, true, List, [], ◌∷◌, ◌++◌, length, map, set, replicate, All, Option, Some, None, refl, sym, ◌∙◌, ap, subst, ⊎_elim, inr, arith, vec_capacity}
 use Rattle.std.proofs.lemmas.List.{get_or_append_left}
 use Rattle.std.proofs.Math.Seq.{get_or-append_seam}
 use Rattle.std.specs.Global.{Vec}
@@ -11,37 +11,19 @@ use native.Mathlib.Decide.{ℕ_discrete}
 use lib.ListN.{get_elem?}
 use Rattle.atomic_table.specs.Table.{Me, step, Allows, opening}
 use Rattle.jack_types.specs.declared.ports.Link.{Link}
-use Rattle.session_model.specs.Activation.{AreLinks, incoming, fresh}
+use Rattle.session_model.specs.Activation.{AreLinks, incoming}
 use Rattle.session_model.specs.Samples.{below}
 use Rattle.activation.specs.declared.views.Desk.{Desk}
 use Rattle.activation.specs.declared.views.View.{View}
 use Rattle.activation.specs.declared.views.Item.{Item}
-use Rattle.activation.specs.declared.views.Item.TheVariants.{Bench, Value}
+use Rattle.activation.specs.declared.views.Item.TheVariants.{Bench}
 use Rattle.activation.specs.Rule.{has, Rule}
-use Rattle.activation.specs.Contents.{most_links, AreEmpty, HasRoomFor, AreLaid, IsFull, IsDone, benches_in, first_view, from_to}
-use Rattle.activation.specs.Plays.{with_items, with_words, left_still}
-use Rattle.activation.proofs.Stilling.{leaves}
-use Rattle.activation.proofs.Keeping.{has_here, has_skip, has_there}
-
--- the shares of the first seat are those below the number of seats
-pub has_from_to : (first count seat : ℕ) → first ≤ seat → seat < first + count → has (from_to first count) seat ≡ true
-has_from_to first zero seat low high = absurd (omega (arith, low, high))
-has_from_to first (suc count) seat low high = dite (ℕ_discrete first seat)
-    (λ e. ap (has (from_to first (suc count))) (sym e) ∙ has_here first (from_to (suc first) count))
-    (λ ne. has_there first (from_to (suc first) count) seat (has_from_to (suc first) count seat (omega (arith, low, ne)) (omega (arith, high))))
-
-pub within_from_to : (first count seat : ℕ) → has (from_to first count) seat ≡ true → (first ≤ seat) × (seat < first + count)
-within_from_to first zero seat h = absurd (true≢false (sym h))
-within_from_to first (suc count) seat h = dite (ℕ_discrete first seat)
-    (λ e. (omega (arith, e), omega (arith, e)))
-    (λ ne. let r = within_from_to (suc first) count seat (sym (has_skip first (from_to (suc first) count) seat ne) ∙ h) in (omega (arith, r.0), omega (arith, r.1)))
-
-pub not_again : (first count : ℕ) → has (from_to (suc first) count) first ≡ false
-not_again first count = go (has (from_to (suc first) count) first) refl
-  where
-    go : (b : Bool) → has (from_to (suc first) count) first ≡ b → b ≡ false
-    go true e = let r = within_from_to (suc first) count first e in absurd (omega (arith, r.0))
-    go false e = refl
+use Rattle.activation.specs.Contents.{most_links, AreEmpty, HasRoomFor, AreLaid, IsFull, IsDone, benches_in, benches_of, first_view, from_to}
+use Rattle.activation.specs.Plays.{leave_after, left_still}
+use Rattle.activation.specs.Seats.{IsIdle, IsSole, new_duty}
+use Rattle.activation.specs.Rounds.{IsLaidOut}
+use Rattle.activation.proofs.Leaving.{leaves}
+use Rattle.activation.proofs.Shares.{has_from_to, within_from_to}
 
 pub opens_still : {B Y : Type 0} (full done : List Link → List B → ℕ → Option (Item B Y) → Type 0) (links : List Link) (words : List ℕ) (slots seats : ℕ) → words ≡ replicate (slots + 1) 0
     → Rule full done (opening words (replicate slots None) (first_view links slots seats))
@@ -60,19 +42,29 @@ opens_still {B} {Y} full done links words slots seats is = inr record {
     first_only (suc j) u e = absurd (some-ne-none u (sym e))
 
 -- the benches that were laid are those in the slots
-pub laid-in : {B Y : Type 0} (benches : List B) (items : List (Option (Item B Y))) → AreLaid benches items → get_elem? items (length benches) ≡ some None → benches_in items ≡ benches
-laid-in [] [] laid end = refl
-laid-in [] (None ∷ items) laid end = refl
-laid-in [] (Some (Bench desk) ∷ items) laid end = absurd (bench_none (some-injective (Some (Bench desk)) None end))
-  where
-    bench_none : {B Y : Type 0} {desk : Desk B Y} → Some (Bench desk) ≡ None → ⊥
-    bench_none e = cc
-laid-in [] (Some (Value y) ∷ items) laid end = refl
-laid-in {B} {Y} (b ∷ benches) [] laid end = absurd (some-ne-none (Some (Bench (laid 0 b refl).0)) (sym (laid 0 b refl).1))
-laid-in {B} {Y} (b ∷ benches) (x ∷ items) laid end =
+pub laid-in : {B Y : Type 0} (benches : List B) (items : List (Option (Item B Y))) → AreLaid benches items → benches_in (length benches) items ≡ benches
+laid-in [] items laid = refl
+laid-in {B} {Y} (b ∷ benches) [] laid = absurd (some-ne-none (Some (Bench (laid 0 b refl).0)) (sym (laid 0 b refl).1))
+laid-in {B} {Y} (b ∷ benches) (x ∷ items) laid =
     let first = laid 0 b refl in
     let is : x ≡ Some (Bench first.0) = some-injective x (Some (Bench first.0)) first.1 in
-    ap (λ o. benches_in (o ∷ items)) is ∙ (λ i. first.2 i ∷ laid-in benches items (λ n bench e. laid (suc n) bench e) end i)
+    ap (λ o. benches_in (suc (length benches)) (o ∷ items)) is ∙ (λ i. first.2 i ∷ laid-in benches items (λ n bench e. laid (suc n) bench e) i)
+
+pub laid-of : {B Y : Type 0} (benches : List B) (items : List (Option (Item B Y))) (slots : ℕ) → slots ≡ length benches + 512 → AreLaid benches items → benches_of slots items ≡ benches
+laid-of benches items slots is laid = let n : slots - 512 ≡ length benches = omega (arith, is) in ap (λ k. benches_in k items) n ∙ laid-in benches items laid
+
+pub laid_out : {B Y : Type 0} (benches : List B) (slots : ℕ) (v : View (Option (Item B Y)) B) → slots ≡ length benches + 512 → AreLaid benches v.shelf.items → AreLinks (length benches) v.duty.links
+    → ((others : List ℕ) × (v.shelf.words ≡ map (λ n. length (incoming v.duty.links n) + 1) (below (length benches)) ++ others)) → length benches + length v.duty.links ≤ length v.shelf.items
+    → 0 < v.duty.seats → v.duty.shares ≡ from_to 0 v.duty.seats → IsLaidOut slots v
+laid_out benches slots v is laid are counters long more shares =
+    let same : benches ≡ benches_of slots v.shelf.items = sym (laid-of benches v.shelf.items slots is laid) in record {
+      are = subst (λ bs. AreLinks (length bs) v.duty.links) same are;
+      laid = subst (λ bs. AreLaid bs v.shelf.items) same laid;
+      counters = (counters.0, counters.1 ∙ ap (λ bs. map (λ n. length (incoming v.duty.links n) + 1) (below (length bs)) ++ counters.0) same);
+      long = subst (λ bs. length bs + length v.duty.links ≤ length v.shelf.items) same long;
+      some_seat = more;
+      shares = shares;
+    }
 
 pub full_bench : {B M Y : Type 0} (memory : B → M) (has_room : B → ℕ → Bool) (after : M → List Y → M) (gives : M → List Y → ℕ → Y) (links : List Link) (benches : List B) (items : List (Option (Item B Y))) → AreLaid benches items
     → (n : ℕ) → n < length benches → (x : Option (Item B Y)) × IsFull memory has_room after gives links benches n x × (get_elem? items n ≡ some x)
@@ -93,18 +85,28 @@ pub map-map : {A C D : Type 0} (f : C → D) (g : A → C) (xs : List A) → map
 map-map f g [] = refl
 map-map f g (x ∷ xs) = ap (λ ys. f (g x) ∷ ys) (map-map f g xs)
 
--- the first cycle begins
-pub leaves_new : {B M Y : Type 0} (memory : B → M) (has_room : B → ℕ → Bool) (after : M → List Y → M) (gives : M → List Y → ℕ → Y) (links : List Link) (benches : List B) (items : List (Option (Item B Y))) (words others : List ℕ) (slots seats n id i : ℕ)
-    → AreLinks (length benches) links → 0 < seats → AreLaid benches items → get_elem? items (length benches) ≡ some None → words ≡ map (λ k. length (incoming links k) + 1) (below (length benches)) ++ others → length benches + length links ≤ length items
-    → (me : Me (Option (Item B Y)) (View (Option (Item B Y)) B)) → me ≡ (with_words (with_items (first_view links slots seats) items) words, [])
-    → Allows (Rule (IsFull memory has_room after gives) (IsDone memory has_room after gives)) n id me i (λ c. c) (left_still benches_in (step n i 0 0 none) me)
-leaves_new {B} {M} {Y} memory has_room after gives links benches items words others slots seats n id i are more laid end words_are long me is =
-    let same : benches ≡ benches_in items = sym (laid-in benches items laid end) in
-    subst (λ m. Allows (Rule (IsFull memory has_room after gives) (IsDone memory has_room after gives)) n id m i (λ c. c) (left_still benches_in (step n i 0 0 none) m)) (sym is)
-    (leaves (IsFull memory has_room after gives) (IsDone memory has_room after gives) benches_in n id (with_words (with_items (first_view links slots seats) items) words) i others [] refl refl refl
-    (λ seat h. let r = within_from_to 0 seats seat h in omega (arith, r.1)) (0, has_from_to 0 seats 0 (omega arith) (omega (arith, more))) (subst (λ bs. AreLinks (length bs) links) same are)
-    (subst (λ bs. words ≡ (fresh (length bs) links).counters ++ others) same words_are) (subst (λ bs. length bs + length links ≤ length items) same long)
-    (subst (λ bs. (q : ℕ) → q < length bs → (x : Option (Item B Y)) × IsFull memory has_room after gives links bs q x × (get_elem? items q ≡ some x)) same (full_bench memory has_room after gives links benches items laid)))
+-- the next cycle begins
+pub leaves_laid : {B M Y : Type 0} (memory : B → M) (has_room : B → ℕ → Bool) (after : M → List Y → M) (gives : M → List Y → ℕ → Y) (n id i : ℕ) (me : Me (Option (Item B Y)) (View (Option (Item B Y)) B)) → IsSole me → IsLaidOut n me.0
+    → Allows (Rule (IsFull memory has_room after gives) (IsDone memory has_room after gives)) n id me i (λ c. c) (left_still benches_of (step n i 0 0 none) me)
+leaves_laid memory has_room after gives n id i me sole out =
+    let links = me.0.duty.links in
+    let benches = benches_of n me.0.shelf.items in
+    leaves (IsFull memory has_room after gives) (IsDone memory has_room after gives) benches_of n id me.0 i out.counters.0 me.1 sole.live sole.on sole.none_out
+    (λ seat h. let r = within_from_to 0 me.0.duty.seats seat (subst (λ (xs : List ℕ). has xs seat ≡ true) out.shares h) in omega (arith, r.1))
+    (0, subst (λ (xs : List ℕ). has xs 0 ≡ true) (sym out.shares) (has_from_to 0 me.0.duty.seats 0 (omega arith) (let some = out.some_seat in omega (arith, some))))
+    out.are out.counters.1 out.long (full_bench memory has_room after gives links benches me.0.shelf.items out.laid)
+
+pub left_laid : {B Y : Type 0} (slots : ℕ) (me new : Me (Option (Item B Y)) (View (Option (Item B Y)) B)) → IsSole me → IsLaidOut slots me.0 → new ≡ (leave_after (benches_of slots) me.0, me.1)
+    → IsIdle new × (new.0.duty ≡ new_duty me.0.duty.links (benches_of slots me.0.shelf.items) me.0.duty.seats (from_to 0 me.0.duty.seats))
+left_laid {B} {Y} slots me new sole out is = (
+  record {
+    live = ap (λ (m : Me (Option (Item B Y)) (View (Option (Item B Y)) B)). m.0.is_live) is ∙ sole.live;
+    off = ap (λ (m : Me (Option (Item B Y)) (View (Option (Item B Y)) B)). m.0.is_still) is;
+    none_out = ap (λ (m : Me (Option (Item B Y)) (View (Option (Item B Y)) B)). m.0.hand.out) is;
+    clear = ap (λ (m : Me (Option (Item B Y)) (View (Option (Item B Y)) B)). m.1) is ∙ sole.clear;
+  },
+  ap (λ (m : Me (Option (Item B Y)) (View (Option (Item B Y)) B)). m.0.duty) is ∙ ap (new_duty me.0.duty.links (benches_of slots me.0.shelf.items) me.0.duty.seats) out.shares,
+)
 
 pub at_replicate : {A : Type 0} (n k : ℕ) (a : A) → k < n → get_elem? (replicate n a) k ≡ some a
 at_replicate zero k a h = absurd (omega (arith, h))

@@ -1,16 +1,16 @@
 -- Each allowed step of a core, in the form in which the code does it.
-use Rattle.std.proofs.Common.{◌≡◌, ℕ, zero, suc, ◌+◌, ◌-◌, ◌<◌, ◌≤◌, Bool, true, false, cond, ◌==◌, List, [], ◌∷◌, length, map, set, get_or, slice_index, Option, Some, None, refl, sym, ◌∙◌, ap, subst, arith, eqb-true, length-set, get_or-set_same, replicate, if◌then◌else◌}
+use Rattle.std.proofs.Common.{◌≡◌, ℕ, zero, suc, ◌+◌, ◌-◌, ◌<◌, ◌≤◌, Bool, true, false, cond, ◌==◌, List, [], ◌∷◌, length, map, set, get_or, slice_index, Some, None, refl, sym, ◌∙◌, ap, subst, arith, length-set, get_or-set_same, replicate, if◌then◌else◌}
 use Rattle.std.proofs.lemmas.Bool.Decides.{nat_tests}
 use Rattle.std.proofs.lemmas.List.{map-set, length-map}
 use Rattle.jack_types.specs.declared.ports.Link.{Link}
-use Rattle.session_model.specs.Activation.{AreLinks, Waiting, Held, AtHome, Machine, fresh, incoming, StartNode, ReleaseLink, HomeNode, PlayNode, no_link, link_at, IsConsistent, moved, node_at_zero, with_fallen, node_taken}
+use Rattle.session_model.specs.Activation.{AreLinks, Waiting, Held, Machine, fresh, incoming, StartNode, ReleaseLink, HomeNode, PlayNode, no_link, link_at, IsConsistent, node_at_zero, with_fallen}
 use Rattle.session_laws.proofs.ActivationLemmas.{IsConsistent-moved, length-moved, length-below, length-map_below, IsConsistent-fresh}
 use Rattle.session_model.specs.Samples.{below}
 use Rattle.activation.specs.declared.stands.Stand.{Stand}
 use Rattle.activation.specs.declared.stands.Stand.TheVariants as stand
 use Rattle.activation.specs.declared.stands.Step.{Step}
 use Rattle.activation.specs.declared.stands.Step.TheVariants as step
-use Rattle.activation.specs.Steps.{Course, IsCourse, MayStep, behind, place, course_of, opening, move, played, answer, seat_of}
+use Rattle.activation.specs.Steps.{Course, IsCourse, MayStep, behind, place, course_of, opening, played}
 use Rattle.activation.proofs.Machines.{set_twice, open_counts, start_counts}
 
 -- a node whose counter falls to zero is held and played

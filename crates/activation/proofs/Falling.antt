@@ -1,25 +1,22 @@
 -- The decrement of a node's counter, for its start and for a link, keeps the rule.
-use Rattle.std.proofs.Common.{◌≡◌, ◌≢◌, ℕ, suc, ◌+◌, ◌-◌, ◌%◌, ◌^◌, ◌<◌, ◌≤◌, ◌⊎◌, Bool, true, false, cond, ◌==◌, List, [], ◌∷◌, ◌++◌, length, get_or, set, slice_index, refl, sym, ◌∙◌, ap, subst, ⊎_elim, inl, inr, arith, true≢false, eq-eqb, ne_eqb, length-set, get_or-set_same, get_or-set_other}
+use Rattle.std.proofs.Common.{◌≡◌, ◌≢◌, ℕ, ◌+◌, ◌-◌, ◌%◌, ◌^◌, ◌<◌, ◌≤◌, ◌⊎◌, Bool, true, false, cond, ◌==◌, List, [], ◌∷◌, ◌++◌, length, get_or, set, slice_index, refl, sym, ◌∙◌, ap, subst, ⊎_elim, inl, inr, arith, true≢false, eq-eqb, ne_eqb, length-set, get_or-set_same, get_or-set_other}
 use Rattle.std.proofs.lemmas.List.{set-append_left, get_or_append_left}
 use mathlib.Core.Logic.{dite}
 use mathlib.Core.Option.{Option, none, some}
 use native.Mathlib.Decide.{ℕ_discrete}
 use lib.ListN.{get_elem?}
-use Rattle.atomic_table.specs.Table.{State, Act, keeps, gives, step, stepped, Allows}
+use Rattle.atomic_table.specs.Table.{State, keeps, gives, step, stepped, Allows}
 use Rattle.atomic_table.proofs.Lists.{set_here, set_else}
 use Rattle.jack_types.specs.declared.ports.Link.{Link}
 use Rattle.session_model.specs.Activation.{Place, Waiting, Held, Machine, StartNode, ReleaseLink, no_link, link_at, is_started, is_released, place_of, IsConsistent, IsDone}
 use Rattle.session_laws.proofs.ActivationLemmas.{IsConsistent-moved}
 use Rattle.activation.specs.declared.views.View.{View}
-use Rattle.activation.specs.Rule.{has, IsUsual, node_of, Goes, Knows, Keeps, Lies, Cycle, Rule}
+use Rattle.activation.specs.Rule.{has, IsUsual, node_of, Knows, Lies, AreTold, Cycle, Rule}
 use Rattle.activation.specs.Plays.{mark_after, hold_after, start_after, release_after, started_by, released_by, IsNew}
 use Rattle.activation.proofs.Machines.{start_counts, open_counts}
 use Rattle.activation.proofs.Courses.{fell}
-use Rattle.activation.proofs.Keeping.{has_here, has_skip, has_there, same_seat, held_waiting, in_cycle, mine, inside, renew, slot_stays, slot_own, others_know}
-
-off_or_on : (b : Bool) → (b ≡ true → ⊥) → b ≡ false
-off_or_on true h = absurd (h refl)
-off_or_on false h = refl
+use Rattle.activation.proofs.Keeping.{same_seat, held_waiting, in_cycle, mine, renew, slot_stays, slot_own, others_know, told_start, told_release}
+use Rattle.activation.proofs.Testing.{has_here, has_skip, has_there, off_or_on}
 
 module _ {S B : Type 0} (full done : List Link → List B → ℕ → S → Type 0) where
   abbrev pub St : Type 0
@@ -76,6 +73,8 @@ module _ {S B : Type 0} (full done : List Link → List B → ℕ → S → Type
       pub far_released : (l : ℕ) → place_of m (link_at links l).from ≢ Held a true → get_or released l false ≡ is_released m l
       pub more_started : (n : ℕ) → is_started m n ≡ true → get_or started n false ≡ true
       pub more_released : (l : ℕ) → is_released m l ≡ true → get_or released l false ≡ true
+      pub told : (w : View S B) → w.duty.shares ≡ v.duty.shares → w.is_live ≡ true → w.is_still ≡ false → w.duty.started ≡ starts → w.duty.released ≡ frees → (places : List Place)
+          → AreTold links N record { counters = set m.counters t (c - 1); started = started; places = places; released = released } (set s.views id w)
       pub slots : (q : ℕ) (b : Bool) (n : ℕ) → ((q < N) × (n ≡ q) × (b ≡ true)) ⊎ ((l : ℕ) × (l < length links) × (q ≡ N + l) × (b ≡ get_or released l false) × (n ≡ node_of links (get_or released l false) l))
           → (Lies full done links v.duty.before s (place_of m n) b n q × (get_elem? hs q ≡ get_elem? s.homes q) × (has v.hand.out q ≡ false)) ⊎ ((b ≡ true) × (n ≡ t) × ((x : S) × full links v.duty.before q x × (get_elem? hs q ≡ some (some x))))
 
@@ -117,6 +116,7 @@ module _ {S B : Type 0} (full done : List Link → List B → ℕ → S → Type
           let there : Lies full done links v.duty.before st Waiting true n q = x.2 in
           subst (λ (k : Bool × Place). Lies full done links v.duty.before st k.1 k.0 n q) (λ i. (sym x.0 i, (sym idle ∙ ap (place_of m) (sym x.1)) i)) there)
           (marks.slots q b n goes))
+          (marks.told (mark_after v starts frees) refl live off refl refl m.places)
 
       -- the node was not held, and none of its links was released
       pub is_new : IsNew v (hold_after (mark_after v starts frees) t) t
@@ -190,6 +190,7 @@ module _ {S B : Type 0} (full done : List Link → List B → ℕ → S → Type
           (λ y h. ((λ on node _. absurd (ne (sym node))), (λ _ h'. absurd (true≢false (sym h'))))) x.0)
           (λ (x : (b ≡ true) × (n ≡ t) × ((y : S) × full links v.duty.before q y × (get_elem? hs q ≡ some (some y)))). absurd (ne x.1))
           (marks.slots q b n goes))))
+          (marks.told held refl live off refl refl places)
 
   pub starts_node : (n id : ℕ) (v : View S B) (t a : ℕ) (tail : List (ℕ × S)) → v.is_live ≡ true → v.is_still ≡ false → v.duty.shares ≡ a ∷ [] → a < v.duty.seats → t % v.duty.seats ≡ a → t < length v.duty.before
       → has v.duty.started t ≡ false → v.hand.out ≡ []
@@ -230,6 +231,7 @@ module _ {S B : Type 0} (full done : List Link → List B → ℕ → S → Type
             (λ e. ap (λ j. get_or (set m.started t true) j false) e ∙ get_or-set_same m.started t true false (omega (arith, low, r.consistent.started)))
             (λ ne. get_or-set_other m.started t q true false ne ∙ h);
         more_released = λ l h. h;
+        told = λ w same stays on starts frees places. told_start full done v.duty.links v.duty.before v.duty.seats s r id v at live w same stays on t (set m.started t true) starts frees not_yet (λ j ne h. sym (get_or-set_other m.started t j true false ne) ∙ h);
         slots = λ q b j goes. inl (r.slots q b j goes, refl, ap (λ (xs : List ℕ). has xs q) empty);
       } in
       dite (ℕ_discrete c 1)
@@ -300,6 +302,7 @@ module _ {S B : Type 0} (full done : List Link → List B → ℕ → S → Type
         far_released = λ j ne. other j (λ e. ne (ap (λ z. place_of m (link_at v.duty.links z).from) e ∙ held));
         more_started = λ q h. h;
         more_released = λ j h. dite (ℕ_discrete j l) (λ e. ap (λ z. get_or rs z false) e ∙ on) (λ ne. other j ne ∙ h);
+        told = λ w same stays on' starts frees places. told_release full done v.duty.links v.duty.before v.duty.seats s r id v at live w same stays on' l rs starts frees not_yet (λ j ne h. sym (other j ne) ∙ h);
         slots = λ q b j goes. dite (ℕ_discrete q q0)
             (λ e. ⊎_elim
             (λ (g : (q < N) × (j ≡ q) × (b ≡ true)). absurd (omega (arith, g.0, e)))

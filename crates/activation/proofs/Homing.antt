@@ -1,22 +1,19 @@
 -- The decrement that sends a node home keeps the rule, and so do the split and the join of seats that hold nothing.
-use Rattle.std.proofs.Common.{◌≡◌, ◌≢◌, ℕ, suc, ◌+◌, ◌-◌, ◌%◌, ◌^◌, ◌<◌, ◌≤◌, ◌⊎◌, Bool, true, false, cond, ◌==◌, List, [], ◌∷◌, ◌++◌, length, get_or, set, All, refl, sym, ◌∙◌, ap, subst, ⊎_elim, inl, inr, arith, true≢false, eq-eqb, eqb-true, length-set, get_or-set_same, get_or-set_other}
-use Rattle.std.proofs.lemmas.Bool.Decides.{nat_tests}
+use Rattle.std.proofs.Common.{◌≡◌, ◌≢◌, ℕ, ◌+◌, ◌-◌, ◌%◌, ◌^◌, ◌<◌, ◌≤◌, Bool, true, false, cond, ◌==◌, List, [], ◌∷◌, length, get_or, set, All, refl, sym, ◌∙◌, ap, subst, inl, inr, arith, true≢false, eq-eqb, eqb-true, length-set, get_or-set_same, get_or-set_other}
 use mathlib.Core.Logic.{dite}
-use mathlib.Core.Option.{Option, none, some}
+use mathlib.Core.Option.{none, some}
 use native.Mathlib.Decide.{ℕ_discrete}
 use lib.ListN.{get_elem?}
-use Rattle.atomic_table.specs.Table.{State, Act, keeps, step, stepped, Allows}
+use Rattle.atomic_table.specs.Table.{State, keeps, step, Allows}
 use Rattle.jack_types.specs.declared.ports.Link.{Link}
-use Rattle.session_model.specs.Activation.{Place, Waiting, Held, AtHome, Machine, HomeNode, no_link, link_at, outgoing, is_released, place_of, IsConsistent}
-use Rattle.session_model.specs.Samples.{below}
-use Rattle.session_laws.proofs.ListLemmas.{Each, Each-below, Each-filter, Each-filter_kept, Each-both}
+use Rattle.session_model.specs.Activation.{Place, Waiting, Held, AtHome, Machine, HomeNode, link_at, outgoing, is_released, place_of}
 use Rattle.session_laws.proofs.ActivationLemmas.{IsConsistent-moved}
 use Rattle.activation.specs.declared.views.Hand.{Hand}
 use Rattle.activation.specs.declared.views.View.{View}
-use Rattle.activation.specs.Rule.{has, IsUsual, node_of, Goes, Knows, Keeps, Lies, Cycle, Rule}
-use Rattle.activation.specs.Plays.{IsSlotOf, without, first_of, home_after, came_home}
-use Rattle.activation.proofs.Machines.{taken_released}
-use Rattle.activation.proofs.Keeping.{has_here, has_skip, has_there, same_seat, held_waiting, held_home, set_behind, in_cycle, mine, inside, renew, slot_stays, slot_own, others_know}
+use Rattle.activation.specs.Rule.{has, IsUsual, node_of, Goes, Keeps, Lies, Rule}
+use Rattle.activation.specs.Plays.{without, first_of, home_after, came_home}
+use Rattle.activation.proofs.Keeping.{same_seat, held_waiting, held_home, set_behind, in_cycle, mine, inside, renew, slot_stays, others_know, told_same}
+use Rattle.activation.proofs.Testing.{has_here, has_skip}
 
 -- what is left when n is taken out of a list
 pub has_without : (n : ℕ) (xs : List ℕ) (q : ℕ) → q ≢ n → has (without n xs) q ≡ has xs q
@@ -117,7 +114,8 @@ module _ {S B : Type 0} (full done : List Link → List B → ℕ → S → Type
               (laid_down links v.duty.before s (set s.words i y) (set s.views id w) v.hand b j q (λ on. ready_at links N m v.hand.ready more t ready filled q b j goes on e)
               (subst (λ p. Lies full done links v.duty.before s p b j q) (ap (place_of m) e ∙ held) (r.slots q b j goes) id v at live here (none_out q))))
               (λ ne. subst (λ p. Lies full done links v.duty.before st p b j q) (sym (elsewhere j ne))
-              (slot_stays full done links v.duty.before v.duty.seats s r id v at live w refl live off (set s.words i y) s.homes (place_of m j) b j q refl (λ o. o) (λ x h. (h.0, (λ on h'. absurd (true≢false (sym h'))))) (r.slots q b j goes)))),
+              (slot_stays full done links v.duty.before v.duty.seats s r id v at live w refl live off (set s.words i y) s.homes (place_of m j) b j q refl (λ o. o) (λ x h. (h.0, (λ on h'. absurd (true≢false (sym h'))))) (r.slots q b j goes))))
+              (told_same full done links v.duty.before v.duty.seats s r id v at live w refl live off machine refl refl (λ j h. h) (λ l h. h)),
         )),
         refl,
       )

@@ -1,28 +1,15 @@
 -- What every step of a seat keeps of the rule, over plain data.
-use Rattle.std.proofs.Common.{◌≡◌, ◌≢◌, ℕ, zero, suc, ◌+◌, ◌-◌, ◌%◌, ◌<◌, ◌≤◌, ◌⊎◌, Bool, true, false, cond, ◌==◌, List, [], ◌∷◌, ◌++◌, length, get_or, set, map, refl, sym, ◌∙◌, ap, subst, ⊎_elim, inl, inr, arith, true≢false, eq-eqb, ne_eqb, eqb-true, length-set, get_or-set_same, get_or-set_other}
-use Rattle.std.proofs.lemmas.List.{set-append_left, get_or_append_left}
-use mathlib.Core.Logic.{dite}
-use mathlib.Core.Option.{Option, none, some, some-injective, some-ne-none}
-use native.Mathlib.Decide.{ℕ_discrete}
+use Rattle.std.proofs.Common.{◌≡◌, ◌≢◌, ℕ, zero, suc, ◌+◌, ◌%◌, ◌<◌, ◌≤◌, Bool, true, false, List, [], ◌∷◌, ◌++◌, length, get_or, set, refl, sym, ◌∙◌, ap, subst, ⊎_elim, inl, inr, arith, true≢false}
+use mathlib.Core.Option.{Option, some, some-injective}
 use lib.ListN.{get_elem?}
 use Rattle.atomic_table.specs.Table.{State}
-use Rattle.atomic_table.proofs.Lists.{at_set, set_here, set_else}
+use Rattle.atomic_table.proofs.Lists.{at_set}
 use Rattle.table_lemmas.proofs.Views.{each_set}
 use Rattle.jack_types.specs.declared.ports.Link.{Link}
-use Rattle.session_model.specs.Activation.{AreLinks, Place, Waiting, Held, Left, AtHome, Machine, link_at, no_link, is_started, is_released, place_of, IsConsistent}
-use Rattle.activation.specs.declared.views.Duty.{Duty}
-use Rattle.activation.specs.declared.views.Hand.{Hand}
+use Rattle.session_model.specs.Activation.{Place, Waiting, Held, Left, AtHome, Machine, link_at, is_started, is_released, place_of, IsConsistent}
 use Rattle.activation.specs.declared.views.View.{View}
-use Rattle.activation.specs.Rule.{has, IsUsual, node_of, Goes, Knows, At, Keeps, HeldAt, Lies, Cycle, Running, Still, Rule}
-
-pub has_here : (x : ℕ) (xs : List ℕ) → has (x ∷ xs) x ≡ true
-has_here x xs = ap (λ b. cond b true (has xs x)) (eq-eqb x x refl)
-
-pub has_skip : (x : ℕ) (xs : List ℕ) (n : ℕ) → x ≢ n → has (x ∷ xs) n ≡ has xs n
-has_skip x xs n ne = ap (λ b. cond b true (has xs n)) (ne_eqb x n ne)
-
-pub has_there : (x : ℕ) (xs : List ℕ) (n : ℕ) → has xs n ≡ true → has (x ∷ xs) n ≡ true
-has_there x xs n h = dite (ℕ_discrete x n) (λ e. ap (λ b. cond b true (has xs n)) (eq-eqb x n e)) (λ ne. has_skip x xs n ne ∙ h)
+use Rattle.activation.specs.Rule.{has, IsUsual, Goes, Knows, Keeps, Lies, AreTold, Cycle, Rule}
+use Rattle.activation.proofs.Telling.{told_kept, told_more}
 
 pub same_seat : (i j : ℕ) (b c : Bool) → Held i b ≡ Held j c → i ≡ j
 same_seat i j b c e = cc
@@ -81,13 +68,37 @@ module _ {S B : Type 0} (full done : List Link → List B → ℕ → S → Type
           (λ (x : (j ≢ id) × (get_elem? s.views j ≡ some u)). (u, x.1, l, refl))
           (at_set s.views id j w u e)
 
+      -- the seat starts and releases nothing
+      pub told_same : (machine : Machine) → w.duty.started ≡ v.duty.started → w.duty.released ≡ v.duty.released → ((n : ℕ) → is_started machine n ≡ true → is_started r.machine n ≡ true)
+          → ((l : ℕ) → is_released machine l ≡ true → is_released r.machine l ≡ true) → AreTold links (length before) machine (set s.views id w)
+      told_same machine same same' back back' = (
+        told_kept (λ (u : Seen). u.is_live) (λ u. u.duty.started) (length before) (is_started r.machine) (is_started machine) s.views id v w at live stays same (λ n low h. back n h) r.told.0,
+        told_kept (λ (u : Seen). u.is_live) (λ u. u.duty.released) (length links) (is_released r.machine) (is_released machine) s.views id v w at live stays same' (λ l low h. back' l h) r.told.1,
+      )
+
+      -- the seat starts a node, or releases a link
+      pub told_start : (n : ℕ) (started : List Bool) → w.duty.started ≡ n ∷ v.duty.started → w.duty.released ≡ v.duty.released → is_started r.machine n ≡ false → ((j : ℕ) → j ≢ n → get_or started j false ≡ true → is_started r.machine j ≡ true)
+          → AreTold links (length before) (record r.machine { started = started }) (set s.views id w)
+      told_start n started more same off back = (
+        told_more (λ (u : Seen). u.is_live) (λ u. u.duty.started) (length before) (is_started r.machine) (λ j. get_or started j false) s.views id n v w at live stays more off back (λ j u x e l h. (r.each_seat j u e l).1.all_started x h) r.told.0,
+        told_kept (λ (u : Seen). u.is_live) (λ u. u.duty.released) (length links) (is_released r.machine) (is_released r.machine) s.views id v w at live stays same (λ l low h. h) r.told.1,
+      )
+
+      pub told_release : (l : ℕ) (released : List Bool) → w.duty.started ≡ v.duty.started → w.duty.released ≡ l ∷ v.duty.released → is_released r.machine l ≡ false → ((j : ℕ) → j ≢ l → get_or released j false ≡ true → is_released r.machine j ≡ true)
+          → AreTold links (length before) (record r.machine { released = released }) (set s.views id w)
+      told_release l released same more off back = (
+        told_kept (λ (u : Seen). u.is_live) (λ u. u.duty.started) (length before) (is_started r.machine) (is_started r.machine) s.views id v w at live stays same (λ n low h. h) r.told.0,
+        told_more (λ (u : Seen). u.is_live) (λ u. u.duty.released) (length links) (is_released r.machine) (λ j. get_or released j false) s.views id l v w at live stays more off back (λ j u x e m h. (r.each_seat j u e m).1.all_released x h) r.told.1,
+      )
+
       -- the state behind a step
       pub renew : (machine : Machine) (ws others : List ℕ) (hs : List (Option S)) → length machine.places ≡ length before → IsConsistent links machine → ((n : ℕ) → IsUsual seats (place_of machine n))
           → ws ≡ machine.counters ++ others → length hs ≡ length s.homes → ((q : ℕ) → length before + length links ≤ q → get_elem? hs q ≡ get_elem? s.homes q) → Knows links before seats machine w.duty
           → ((j : ℕ) (u : Seen) → j ≢ id → get_elem? s.views j ≡ some u → u.is_live ≡ true → Knows links before seats machine u.duty)
           → ((q : ℕ) (b : Bool) (n : ℕ) → Goes links (length before) machine q b n → Lies full done links before (behind ws hs) (place_of machine n) b n q)
+          → AreTold links (length before) machine (set s.views id w)
           → Cycle full done links before seats (behind ws hs)
-      renew machine ws others hs size consistent usual words long same own knows slots = record {
+      renew machine ws others hs size consistent usual words long same own knows slots told = record {
         machine = machine;
         others = others;
         are = r.are;
@@ -101,6 +112,7 @@ module _ {S B : Type 0} (full done : List Link → List B → ℕ → S → Type
         spare = λ q h i. let x = r.spare q h (omega (arith, i, long)) in (x.0, tt, same q h ∙ x.2);
         each_seat = each_set (λ j u. u.is_live ≡ true → (u.is_still ≡ false) × Knows links before seats machine u.duty) s.views id w
             (λ _. (off, own)) (λ j u other e l. ((r.each_seat j u e l).0, knows j u other e l));
+        told = told;
         alone = λ i j a b seat e f l m g h.
             let p = was i a e l in
             let q = was j b f m in

@@ -1,21 +1,22 @@
 -- A seat takes a slot of its own out, and gives it back.
-use Rattle.std.proofs.Common.{◌≡◌, ◌≢◌, ℕ, suc, ◌+◌, ◌<◌, ◌≤◌, ◌⊎◌, Bool, true, false, List, [], ◌∷◌, length, get_or, set, refl, sym, ◌∙◌, ap, subst, ⊎_elim, inl, inr, arith, true≢false}
+use Rattle.std.proofs.Common.{◌≡◌, ◌≢◌, ℕ, suc, ◌+◌, ◌<◌, ◌≤◌, Bool, true, false, List, [], ◌∷◌, length, get_or, set, refl, sym, ◌∙◌, ap, subst, ⊎_elim, inl, inr, arith, true≢false}
 use Rattle.std.proofs.lemmas.List.{set-get_or}
 use Rattle.std.proofs.Common.{length-set}
 use mathlib.Core.Logic.{dite}
-use mathlib.Core.Option.{Option, none, some}
+use mathlib.Core.Option.{none, some}
 use native.Mathlib.Decide.{ℕ_discrete}
 use lib.ListN.{get_elem?}
-use Rattle.atomic_table.specs.Table.{State, Act, takes, gives, step, Allows}
+use Rattle.atomic_table.specs.Table.{State, takes, gives, step, Allows}
 use Rattle.atomic_table.proofs.Lists.{set_here, set_else}
 use Rattle.jack_types.specs.declared.ports.Link.{Link}
 use Rattle.session_model.specs.Activation.{Held, link_at, is_released, place_of}
 use Rattle.activation.specs.declared.views.Hand.{Hand}
 use Rattle.activation.specs.declared.views.View.{View}
 use Rattle.activation.specs.Rule.{has, node_of, Goes, Keeps, Lies, Cycle, Rule}
-use Rattle.activation.specs.Plays.{IsSlotOf, IsRoomOf, Owns, with_hand, out_after, open_after, fill_after, taken, opened, filled}
+use Rattle.activation.specs.Plays.{IsSlotOf, Owns, with_hand, out_after, taken, opened, filled}
 use Rattle.activation.proofs.Machines.{taken_released}
-use Rattle.activation.proofs.Keeping.{has_here, has_skip, held_waiting, in_cycle, mine, inside, renew, slot_stays, slot_own}
+use Rattle.activation.proofs.Keeping.{held_waiting, in_cycle, mine, inside, renew, slot_stays, slot_own, told_same}
+use Rattle.activation.proofs.Testing.{has_here, has_skip}
 
 module _ {S B : Type 0} (full done : List Link → List B → ℕ → S → Type 0) where
   module _ (s : State S (View S B)) (id : ℕ) (v : View S B) (at : get_elem? s.views id ≡ some v) (live : v.is_live ≡ true) (r : Cycle full done v.duty.links v.duty.before v.duty.seats s) where
@@ -84,7 +85,8 @@ module _ {S B : Type 0} (full done : List Link → List B → ℕ → S → Type
               subst (λ p. Lies full done v.duty.links v.duty.before record { words = set s.words q (get_or s.words q 0); homes = set s.homes q none; views = set s.views id w } p b m k) (sym mine'.2)
               (slot_own full done v.duty.links v.duty.before v.duty.seats s r id v at live w refl live off (set s.words q (get_or s.words q 0)) (set s.homes q none) mine'.0 true b m k mine'.1
               (λ gone. absurd (true≢false (sym (ap (has (q ∷ [])) is ∙ has_here q []) ∙ gone)))))
-              (λ ne. slot_stays full done v.duty.links v.duty.before v.duty.seats s r id v at live w refl live off (set s.words q (get_or s.words q 0)) (set s.homes q none) (place_of r.machine m) b m k (set_else s.homes q k none ne) (λ _. none_out k) (λ x h. h) (r.slots k b m goes))),
+              (λ ne. slot_stays full done v.duty.links v.duty.before v.duty.seats s r id v at live w refl live off (set s.words q (get_or s.words q 0)) (set s.homes q none) (place_of r.machine m) b m k (set_else s.homes q k none ne) (λ _. none_out k) (λ x h. h) (r.slots k b m goes)))
+              (told_same full done v.duty.links v.duty.before v.duty.seats s r id v at live w refl live off r.machine refl refl (λ j h. h) (λ l h. h)),
         ),
         (
           refl,
@@ -117,7 +119,8 @@ module _ {S B : Type 0} (full done : List Link → List B → ℕ → S → Type
               (slot_own full done v.duty.links v.duty.before v.duty.seats s r id v at live w refl live off (set s.words i (get_or s.words i 0)) (set s.homes q (some x)) mine'.0 true b m k mine'.1
               (λ _. (x, subst (λ j. Keeps full done v.duty.links v.duty.before s hand b m j x) (sym is) (here b m within), ap (get_elem? (set s.homes q (some x))) is ∙ set_here s.homes q (some x) (omega (arith, within, r.homes_long))))))
               (λ ne. slot_stays full done v.duty.links v.duty.before v.duty.seats s r id v at live w refl live off (set s.words i (get_or s.words i 0)) (set s.homes q (some x)) (place_of r.machine m) b m k (set_else s.homes q k (some x) ne)
-              (λ _. ap (λ (xs : List ℕ). has xs k) out ∙ has_skip q [] k (λ e. ne (sym e))) (λ y h. there k b m y ne (low s id v at live r k b m goes) h) (r.slots k b m goes))),
+              (λ _. ap (λ (xs : List ℕ). has xs k) out ∙ has_skip q [] k (λ e. ne (sym e))) (λ y h. there k b m y ne (low s id v at live r k b m goes) h) (r.slots k b m goes)))
+              (told_same full done v.duty.links v.duty.before v.duty.seats s r id v at live w refl live off r.machine refl refl (λ j h. h) (λ l h. h)),
         ),
         refl,
       )

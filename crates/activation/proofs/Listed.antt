@@ -1,10 +1,13 @@
 -- Lists of the links of a node.
-use Rattle.std.proofs.Common.{◌≡◌, ◌≢◌, ℕ, ◌⊎◌, inl, inr, zero, suc, ◌+◌, ◌<◌, ◌≤◌, Bool, true, false, cond, ◌==◌, List, [], ◌∷◌, ◌++◌, length, map, filter, get_or, All, Contains, Option, Some, None, refl, sym, ◌∙◌, ap, subst, ⊎_elim, arith, eqb-true, eq-eqb}
+use Rattle.std.proofs.Common.{◌≡◌, ℕ, zero, suc, ◌+◌, ◌<◌, ◌≤◌, Bool, true, false, cond, ◌==◌, List, [], ◌∷◌, length, map, filter, get_or, set, All, Contains, Some, refl, sym, ◌∙◌, ap, subst, arith, eqb-true, eq-eqb, length-set, get_or-set_same, get_or-set_other}
+use Rattle.std.proofs.lemmas.List.{map-set, length-map, ext_get_or}
+use mathlib.Core.Logic.{dite}
+use native.Mathlib.Decide.{ℕ_discrete}
 use Rattle.jack_types.specs.declared.ports.Link.{Link}
 use Rattle.session_model.specs.Activation.{link_at, incoming, outgoing}
 use Rattle.session_model.specs.Samples.{below}
-use Rattle.session_laws.proofs.ListLemmas.{Ordered, Ordered-append, Ordered-filter, Each, Each-below, Each-filter, Each-filter_kept, Each-both, Each-contains, Contains-kept}
-use Rattle.session_laws.proofs.ActivationLemmas.{below-contains, length-below}
+use Rattle.session_laws.proofs.ListLemmas.{Ordered, Ordered-append, Ordered-filter, Each, Each-below, Each-filter, Each-filter_kept, Each-both, Contains-kept}
+use Rattle.session_laws.proofs.ActivationLemmas.{below-contains, length-below, length-map_below, get_or-map_below}
 use Rattle.activation.specs.Values.{values_of}
 
 pub each_at : {A : Type 0} (P : A → Type 0) (xs : List A) → Each P xs → (j : ℕ) (d : A) → j < length xs → P (get_or xs j d)
@@ -39,11 +42,11 @@ module _ (links : List Link) (n : ℕ) where
 
 -- ---- the links of a node stand in rising order
 
-ordered-below : (n : ℕ) → Ordered (λ a b. a < b) (below n)
+pub ordered-below : (n : ℕ) → Ordered (λ a b. a < b) (below n)
 ordered-below zero = tt
 ordered-below (suc n) = Ordered-append (λ a b. a < b) (λ x. x < n) (λ y. y ≡ n) (λ x y p q. omega (arith, p, q)) (below n) (n ∷ []) (ordered-below n) (Each-below (λ x. x < n) n (λ x h. h)) (tt, tt) (refl, tt)
 
-ordered-at : (xs : List ℕ) → Ordered (λ a b. a < b) xs → (j k : ℕ) → j < k → k < length xs → get_or xs j 0 < get_or xs k 0
+pub ordered-at : (xs : List ℕ) → Ordered (λ a b. a < b) xs → (j k : ℕ) → j < k → k < length xs → get_or xs j 0 < get_or xs k 0
 ordered-at [] h j k lt low = absurd (omega (arith, low))
 ordered-at (x ∷ xs) h zero zero lt low = absurd (omega (arith, lt))
 ordered-at (x ∷ xs) h zero (suc k) lt low = each_at (λ y. x < y) xs h.0 k 0 (omega (arith, low))
@@ -63,3 +66,17 @@ filter-short p (x ∷ xs) = go (p x) (filter-short p xs)
 
 pub incoming-short : (links : List Link) (n : ℕ) → length (incoming links n) ≤ length links
 incoming-short links n = omega (arith, filter-short (λ l. (link_at links l).to == n) (below (length links)), length-below (length links))
+
+pub all_set : {A : Type 0} (P : A → Type 0) (xs : List A) (k : ℕ) (y : A) → All P xs → P y → All P (set xs k y)
+all_set P xs k y all one j d low = dite (ℕ_discrete j k)
+    (λ is. subst P (sym (ap (λ i. get_or (set xs k y) i d) is ∙ get_or-set_same xs k y d (omega (arith, low, is, length-set xs k y)))) one)
+    (λ ne. subst P (sym (get_or-set_other xs k j y d ne)) (all j d (omega (arith, low, length-set xs k y))))
+
+pub mapped_set : {A C : Type 0} (f : A → List C) (xs : List A) (g : ℕ → List C) (n : ℕ) (y : A) → n < length xs → f y ≡ g n → ((k : ℕ) → k < n → get_or (map f xs) k [] ≡ g k) → (k : ℕ) → k < n + 1 → get_or (map f (set xs n y)) k [] ≡ g k
+mapped_set f xs g n y low is old k h = ap (λ l. get_or l k []) (map-set f xs n y) ∙ dite (ℕ_discrete k n)
+    (λ e. ap (λ i. get_or (set (map f xs) n (f y)) i []) e ∙ (get_or-set_same (map f xs) n (f y) [] (omega (arith, low, length-map xs f)) ∙ (is ∙ ap g (sym e))))
+    (λ ne. get_or-set_other (map f xs) n k (f y) [] ne ∙ old k (omega (arith, h, ne)))
+
+pub mapped_all : {A C : Type 0} (f : A → List C) (xs : List A) (g : ℕ → List C) (n : ℕ) → length xs ≡ n → ((k : ℕ) → k < n → get_or (map f xs) k [] ≡ g k) → map f xs ≡ map g (below n)
+mapped_all f xs g n long each = ext_get_or [] (map f xs) (map g (below n)) (length-map xs f ∙ (long ∙ sym (length-map_below g n)))
+    (λ k h. let low : k < n = omega (arith, h, long, length-map xs f) in each k low ∙ sym (get_or-map_below g n k [] low))

@@ -1,13 +1,12 @@
 -- What the counters of a machine say of its links, and the machine behind a step that takes a node and counts it as played.
-use Rattle.std.proofs.Common.{◌≡◌, ◌≢◌, ℕ, zero, suc, ◌+◌, ◌-◌, ◌<◌, Bool, true, false, cond, not, ◌==◌, List, [], ◌∷◌, length, map, set, get_or, slice_index, count_by, Contains, refl, sym, ◌∙◌, ap, subst, arith, true≢false, eqb-true, eq-eqb, length-set, if◌then◌else◌}
+use Rattle.std.proofs.Common.{◌≡◌, ◌≢◌, ℕ, zero, suc, ◌+◌, ◌<◌, Bool, true, false, cond, not, ◌==◌, List, [], ◌∷◌, length, set, get_or, slice_index, count_by, Contains, refl, sym, ◌∙◌, ap, arith, true≢false, eqb-true, eq-eqb}
 use Rattle.std.proofs.lemmas.Bool.Decides.{nat_tests}
-use Rattle.std.proofs.lemmas.List.{map-set}
 use Rattle.std.proofs.lemmas.List.Sums.{sum_by-cons}
 use Rattle.jack_types.specs.declared.ports.Link.{Link}
-use Rattle.session_model.specs.Activation.{AreLinks, Place, Waiting, Held, AtHome, Machine, Move, StartNode, ReleaseLink, PlayNode, no_link, link_at, incoming, is_started, is_released, place_of, Allowed, with_fallen, moved, open_links, IsConsistentNode, IsConsistent, node_at_zero}
+use Rattle.session_model.specs.Activation.{Waiting, Machine, link_at, incoming, is_started, is_released, place_of, open_links, IsConsistent}
 use Rattle.session_model.specs.Samples.{below}
 use Rattle.session_laws.proofs.ListLemmas.{Each, Each-contains, Contains-kept}
-use Rattle.session_laws.proofs.ActivationLemmas.{below-contains, IsConsistent-moved}
+use Rattle.session_laws.proofs.ActivationLemmas.{below-contains}
 
 pub set_twice : {A : Type 0} (l : List A) (i : ℕ) (a b : A) → set (set l i a) i b ≡ set l i b
 set_twice [] i a b = refl
@@ -21,6 +20,13 @@ count_zero p (x ∷ xs) h = go (p x) refl (λ e. count_zero p xs e) (sym (sum_by
     go : (b : Bool) → p x ≡ b → (count_by p xs ≡ 0 → Each (λ y. p y ≡ false) xs) → cond (p x) 1 0 + count_by p xs ≡ 0 → Each (λ y. p y ≡ false) (x ∷ xs)
     go true e f k = absurd (omega (arith, rw e at k))
     go false e f k = (e, f (omega (arith, rw e at k)))
+
+pub count_all : (p : ℕ → Bool) (xs : List ℕ) → Each (λ x. p x ≡ true) xs → count_by p xs ≡ length xs
+count_all p [] h = refl
+count_all p (x ∷ xs) h = go (sum_by-cons (λ y. cond (p y) 1 0) x xs) (count_all p xs h.1)
+  where
+    go : count_by p (x ∷ xs) ≡ cond (p x) 1 0 + count_by p xs → count_by p xs ≡ length xs → count_by p (x ∷ xs) ≡ suc (length xs)
+    go k more = let n : ℕ = cond (p x) 1 0 in let one : n ≡ 1 = ap (λ (b : Bool). cond b 1 0) h.0 in omega (arith, k, one, more)
 
 is_on : (b : Bool) → not b ≡ false → b ≡ true
 is_on true h = refl

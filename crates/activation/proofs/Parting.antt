@@ -1,44 +1,20 @@
 -- Seats that hold nothing are split and joined.
-use Rattle.std.proofs.Common.{◌≡◌, ◌≢◌, ℕ, suc, ◌+◌, ◌%◌, ◌<◌, ◌≤◌, ◌⊎◌, Bool, true, false, cond, ◌==◌, List, [], ◌∷◌, ◌++◌, length, set, refl, sym, ◌∙◌, ap, subst, ⊎_elim, inl, inr, arith, true≢false}
+use Rattle.std.proofs.Common.{◌≡◌, ◌≢◌, ℕ, ◌%◌, ◌⊎◌, Bool, true, false, List, [], ◌∷◌, ◌++◌, length, set, refl, sym, ◌∙◌, ap, subst, ⊎_elim, inl, inr, true≢false}
 use mathlib.Core.Logic.{dite}
-use mathlib.Core.Option.{Option, none, some}
+use mathlib.Core.Option.{some}
 use native.Mathlib.Decide.{ℕ_discrete}
 use lib.ListN.{get_elem?}
 use Rattle.atomic_table.specs.Table.{State, Splits, Joins}
-use Rattle.atomic_table.proofs.Lists.{at_set}
+use Rattle.atomic_table.proofs.Lists.{at_set, set_again}
 use Rattle.table_lemmas.proofs.Views.{each_set, each_snoc, at_snoc_last}
 use Rattle.jack_types.specs.declared.ports.Link.{Link}
 use Rattle.session_model.specs.Activation.{Place, Waiting, Held, Left, AtHome, link_at, is_started, is_released, place_of}
 use Rattle.activation.specs.declared.views.View.{View}
-use Rattle.activation.specs.Rule.{has, IsUsual, Knows, Keeps, Lies, Cycle, Rule}
+use Rattle.activation.specs.Rule.{has, IsUsual, Knows, Keeps, Lies, Rule}
 use Rattle.activation.specs.Plays.{rest_of, first_of, left_of, right_of, joined, nobody}
-use Rattle.activation.proofs.Keeping.{has_here, has_skip, has_there, in_cycle, mine}
-
-pub has_append : (xs ys : List ℕ) (n : ℕ) → has (xs ++ ys) n ≡ true → (has xs n ≡ true) ⊎ (has ys n ≡ true)
-has_append [] ys n h = inr h
-has_append (x ∷ xs) ys n h = dite (ℕ_discrete x n)
-    (λ e. inl (ap (has (x ∷ xs)) (sym e) ∙ has_here x xs))
-    (λ ne. ⊎_elim (λ (l : has xs n ≡ true). inl (has_there x xs n l)) (λ (r : has ys n ≡ true). inr r) (has_append xs ys n (sym (has_skip x (xs ++ ys) n ne) ∙ h)))
-
-pub has_left : (xs ys : List ℕ) (n : ℕ) → has xs n ≡ true → has (xs ++ ys) n ≡ true
-has_left [] ys n h = absurd (true≢false (sym h))
-has_left (x ∷ xs) ys n h = dite (ℕ_discrete x n)
-    (λ e. ap (has (x ∷ (xs ++ ys))) (sym e) ∙ has_here x (xs ++ ys))
-    (λ ne. has_there x (xs ++ ys) n (has_left xs ys n (sym (has_skip x xs n ne) ∙ h)))
-
-pub has_right : (xs ys : List ℕ) (n : ℕ) → has ys n ≡ true → has (xs ++ ys) n ≡ true
-has_right [] ys n h = h
-has_right (x ∷ xs) ys n h = has_there x (xs ++ ys) n (has_right xs ys n h)
-
-pub either : (b : Bool) → (b ≡ true) ⊎ (b ≡ false)
-either true = inl refl
-either false = inr refl
-
--- two tests with the same yes have the same no
-pub same_test : (a b : Bool) → (a ≡ true → b ≡ true) → (b ≡ true → a ≡ true) → a ≡ b
-same_test true b f g = sym (f refl)
-same_test false true f g = g refl
-same_test false false f g = refl
+use Rattle.activation.proofs.Keeping.{in_cycle, mine}
+use Rattle.activation.proofs.Telling.{told_split, told_joined, told_husk}
+use Rattle.activation.proofs.Testing.{has_append, has_here, has_left, has_right, has_skip, has_there, same_test}
 
 module _ {S B : Type 0} (full done : List Link → List B → ℕ → S → Type 0) where
   abbrev Seen : Type 0
@@ -62,9 +38,9 @@ module _ {S B : Type 0} (full done : List Link → List B → ℕ → S → Type
   lies_still links before s vs AtHome true n q old h = h
   lies_still links before s vs AtHome false n q old h = h
 
-  pub parts : (id : ℕ) (v : Seen) (a b : ℕ) (more : List ℕ) → v.is_live ≡ true → v.is_still ≡ false → v.duty.shares ≡ a ∷ b ∷ more → has (b ∷ more) a ≡ false → v.duty.held ≡ []
+  pub parts : (id : ℕ) (v : Seen) (a b : ℕ) (more : List ℕ) → v.is_live ≡ true → v.is_still ≡ false → v.duty.shares ≡ a ∷ b ∷ more → has (b ∷ more) a ≡ false → v.duty.held ≡ [] → v.duty.started ≡ [] → v.duty.released ≡ []
       → Splits (Rule full done) id v (left_of v) (right_of v)
-  parts id v a b more live off shares once empty s rule at =
+  parts id v a b more live off shares once empty unstarted unreleased s rule at =
       let r = in_cycle full done s id v rule at live off in
       let k = mine full done v.duty.links v.duty.before v.duty.seats s r id v at live in
       let vs : List Seen = set s.views id (left_of v) ++ right_of v ∷ [] in
@@ -122,6 +98,10 @@ module _ {S B : Type 0} (full done : List Link → List B → ℕ → S → Type
               (each_set (λ j u. u.is_live ≡ true → (u.is_still ≡ false) × Knows v.duty.links v.duty.before v.duty.seats r.machine u.duty) s.views id (left_of v)
               (λ _. (off, part (rest_of v.duty.shares) left_old (b, ap (λ (xs : List ℕ). has (rest_of xs) b) shares ∙ has_here b more))) (λ j u other e l. r.each_seat j u e l))
               (λ _. (off, part (first_of v.duty.shares ∷ []) right_old (a, ap (λ (xs : List ℕ). has (first_of xs ∷ []) a) shares ∙ has_here a [])));
+          told = (
+            told_split (λ (u : Seen). u.is_live) (λ u. u.duty.started) (length v.duty.before) (is_started r.machine) s.views id v (left_of v) (right_of v) at live unstarted live unstarted (λ _. unstarted) r.told.0,
+            told_split (λ (u : Seen). u.is_live) (λ u. u.duty.released) (length v.duty.links) (is_released r.machine) s.views id v (left_of v) (right_of v) at live unreleased live unreleased (λ _. unreleased) r.told.1,
+          );
           alone = λ i j u w seat e f l m g h.
               let mineof : (z : Seen) → (y : Seen) → y ≡ z → has z.duty.shares seat ≡ true → has y.duty.shares seat ≡ true = λ z y is t. ap (λ (o : Seen). has o.duty.shares seat) is ∙ t in
               ⊎_elim
@@ -140,6 +120,40 @@ module _ {S B : Type 0} (full done : List Link → List B → ℕ → S → Type
               (λ (k' : (j ≡ length (set s.views id (left_of v))) × (right_of v ≡ w)). z.0 ∙ sym k'.0) y) x)
               (from j w f m))
               (from i u e l);
+        },
+      )
+
+  -- a spent seat is left behind
+  pub husks : (id : ℕ) (v : Seen) → v.is_live ≡ true → v.is_still ≡ false → Splits (Rule full done) id v v nobody
+  husks id v live off s rule at =
+      let r = in_cycle full done s id v rule at live off in
+      let vs : List Seen = set s.views id v ++ nobody ∷ [] in
+      let old : (j : ℕ) (u : Seen) → get_elem? vs j ≡ some u → u.is_live ≡ true → get_elem? s.views j ≡ some u = λ j u e l. ⊎_elim
+      (λ (x : get_elem? (set s.views id v) j ≡ some u). subst (λ (l : List Seen). get_elem? l j ≡ some u) (set_again s.views id v at) x)
+      (λ (x : (j ≡ length (set s.views id v)) × (nobody ≡ u)). absurd (true≢false (sym l ∙ ap (λ (z : Seen). z.is_live) (sym x.1))))
+      (at_snoc_last (set s.views id v) nobody u j e) in
+      inl (
+        v.duty.links,
+        v.duty.before,
+        v.duty.seats,
+        record {
+          machine = r.machine;
+          others = r.others;
+          are = r.are;
+          some_seat = r.some_seat;
+          size = r.size;
+          consistent = r.consistent;
+          usual = r.usual;
+          words_are = r.words_are;
+          homes_long = r.homes_long;
+          slots = λ q b n goes. lies_still v.duty.links v.duty.before s vs (place_of r.machine n) b n q (λ seat c is j u e l h o. (j, u, old j u e l, l, h, o, refl)) (r.slots q b n goes);
+          spare = r.spare;
+          each_seat = λ j u e l. r.each_seat j u (old j u e l) l;
+          told = (
+            told_husk (λ (u : Seen). u.is_live) (λ u. u.duty.started) (length v.duty.before) (is_started r.machine) s.views id v nobody at refl r.told.0,
+            told_husk (λ (u : Seen). u.is_live) (λ u. u.duty.released) (length v.duty.links) (is_released r.machine) s.views id v nobody at refl r.told.1,
+          );
+          alone = λ i j u w seat e f l m g h. r.alone i j u w seat (old i u e l) (old j w f m) l m g h;
         },
       )
 
@@ -199,6 +213,10 @@ module _ {S B : Type 0} (full done : List Link → List B → ℕ → S → Type
           spare = r.spare;
           each_seat = λ j u e l. ⊎_elim (λ (x : (j ≢ id) × (j ≢ other) × (get_elem? s.views j ≡ some u)). r.each_seat j u x.2 l)
               (λ (x : (j ≡ id) × (joined v w ≡ u)). subst (λ (z : Seen). (z.is_still ≡ false) × Knows v.duty.links v.duty.before v.duty.seats r.machine z.duty) x.1 (off, own)) (from j u e l);
+          told = (
+            told_joined (λ (u : Seen). u.is_live) (λ u. u.duty.started) (length v.duty.before) (is_started r.machine) s.views id other v w (joined v w) nobody at there live live' two live refl refl r.told.0,
+            told_joined (λ (u : Seen). u.is_live) (λ u. u.duty.released) (length v.duty.links) (is_released r.machine) s.views id other v w (joined v w) nobody at there live live' two live refl refl r.told.1,
+          );
           alone = λ i j u z seat e f l m g h. ⊎_elim
               (λ (x : (i ≢ id) × (i ≢ other) × (get_elem? s.views i ≡ some u)). ⊎_elim
               (λ (y : (j ≢ id) × (j ≢ other) × (get_elem? s.views j ≡ some z)). r.alone i j u z seat x.2 y.2 l m g h)

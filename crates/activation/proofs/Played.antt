@@ -1,10 +1,8 @@
 -- What a seat finds in the slots of a node, and what the play of its bench does.
-use Rattle.std.proofs.Common.{rules, take, ◌++◌, ◌≡◌, ◌≢◌, ℕ, zero, suc, ◌+◌, ◌-◌, ◌<◌, ◌≤◌, Bool, true, false, cond, List, [], ◌∷◌, length, map, get_or, All, Option, Some, None, IsSome, refl, sym, ◌∙◌, ap, subst, arith, true≢false}
+use Rattle.std.proofs.Common.{rules, take, ◌++◌, ◌≡◌, ℕ, zero, suc, ◌+◌, ◌-◌, ◌<◌, ◌≤◌, Bool, true, false, cond, List, [], ◌∷◌, length, map, get_or, All, Option, Some, None, IsSome, refl, sym, ◌∙◌, ap, subst, arith, true≢false}
 use Rattle.std.proofs.lemmas.List.{length-map}
-use mathlib.Core.Option.{some, some-injective}
-use lib.ListN.{get_elem?}
 use Rattle.jack_types.specs.declared.ports.Link.{Link}
-use Rattle.session_model.specs.Activation.{AreLinks, link_at, incoming, place_among, value_of, given_to, sequential}
+use Rattle.session_model.specs.Activation.{place_among, value_of, given_to}
 use Rattle.session_model.specs.Samples.{below}
 use Rattle.session_laws.proofs.ActivationLemmas.{given_to-values, length-map_below, get_or-map_below}
 use Rattle.activation.specs.declared.views.Desk.{Desk}
@@ -12,9 +10,8 @@ use Rattle.activation.specs.declared.views.Duty.{Duty}
 use Rattle.activation.specs.declared.views.Item.{Item}
 use Rattle.activation.specs.declared.views.Item.TheVariants.{Bench, Value}
 use Rattle.activation.specs.Values.{values_of}
-use Rattle.activation.specs.Rule.{has}
 use Rattle.std.proofs.Math.Seq.{take-suc}
-use Rattle.activation.specs.Contents.{most_links, Tells, IsFull, IsValueOf, AreValuesOf, Roomed}
+use Rattle.activation.specs.Contents.{most_links, Tells, IsFull, IsValueOf, AreValuesOf}
 use Rattle.activation.specs.Takens.{IsUnplayed, IsPlayed}
 use Rattle.activation.proofs.Listed.{get_or-map, values_of-some}
 
@@ -77,6 +74,7 @@ module _ {B M Y : Type 0} (memory : B → M) (has_room : B → ℕ → Bool) (va
     given = (u.given.0, u.given.1, u.given.2);
     rooms = record {
       places = λ l h e. room (place_among duty.links l) ∙ ap (λ b. cond b false (has_room desk.bench (place_among duty.links l))) (sym (u.none_released l h e));
+      had = λ l h e on. absurd (true≢false (sym on ∙ u.none_released l h e));
       others = λ place no. room place;
     };
     shown = λ l h e off on before tells.

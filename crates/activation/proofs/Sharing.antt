@@ -1,5 +1,5 @@
 -- The first seat is split, share by share.
-use Rattle.std.proofs.Common.{◌≡◌, ℕ, zero, suc, ◌+◌, ◌-◌, ◌<◌, ◌≤◌, true, false, List, [], ◌∷◌, ◌++◌, length, All, refl, sym, ◌∙◌, ap, subst, arith}
+use Rattle.std.proofs.Common.{◌≡◌, ℕ, suc, ◌+◌, ◌-◌, ◌≤◌, List, [], ◌∷◌, ◌++◌, All, sym, ◌∙◌, ap, subst, arith}
 use Rattle.std.proofs.lemmas.List.Elements.{All-append, All-cons, All-nil}
 use Rattle.atomic_table.specs.Table.{Me, Splits}
 use Rattle.jack_types.specs.declared.ports.Link.{Link}
@@ -10,7 +10,7 @@ use Rattle.activation.specs.Plays.{left_of, right_of, rest_of, first_of}
 use Rattle.activation.specs.Contents.{from_to}
 use Rattle.activation.specs.Seats.{IsIdle, new_duty}
 use Rattle.activation.proofs.Parting.{parts}
-use Rattle.activation.proofs.Begun.{not_again}
+use Rattle.activation.proofs.Shares.{not_again}
 
 module _ {S B : Type 0} (full done : List Link → List B → ℕ → S → Type 0) where
   pub part_share : (id : ℕ) (me : Me S (View S B)) (links : List Link) (before : List B) (count number left : ℕ) → IsIdle me → me.0.duty ≡ new_duty links before count (from_to number left) → 2 ≤ left
@@ -18,7 +18,7 @@ module _ {S B : Type 0} (full done : List Link → List B → ℕ → S → Type
   part_share id me links before count number left idle duty more =
       let k : ℕ = left - 2 in
       let is : left ≡ suc (suc k) = omega (arith, more) in
-      parts full done id me.0 number (suc number) (from_to (suc (suc number)) k) idle.live idle.off (ap (λ d. d.shares) duty ∙ ap (from_to number) is) (not_again number (suc k)) (ap (λ d. d.held) duty)
+      parts full done id me.0 number (suc number) (from_to (suc (suc number)) k) idle.live idle.off (ap (λ d. d.shares) duty ∙ ap (from_to number) is) (not_again number (suc k)) (ap (λ d. d.held) duty) (ap (λ d. d.started) duty) (ap (λ d. d.released) duty)
 
   pub kept_share : (me new : Me S (View S B)) (links : List Link) (before : List B) (count number left next : ℕ) → new ≡ (left_of me.0, me.1) → IsIdle me → me.0.duty ≡ new_duty links before count (from_to number left) → left ≡ suc next
       → IsIdle new × (new.0.duty ≡ new_duty links before count (from_to (number + 1) next))

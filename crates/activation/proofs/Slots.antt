@@ -1,23 +1,22 @@
 -- What a call needs to know of the slots that it uses.
-use Rattle.std.proofs.Common.{◌≡◌, ◌≢◌, ℕ, ◌⊎◌, inl, inr, zero, suc, ◌+◌, ◌-◌, ◌<◌, ◌≤◌, Bool, true, false, cond, List, [], ◌∷◌, length, map, get_or, All, Option, Some, None, refl, sym, ◌∙◌, ap, subst, arith, true≢false, vec_capacity}
+use Rattle.std.proofs.Common.{◌≡◌, ◌≢◌, ℕ, inl, inr, zero, suc, ◌+◌, ◌-◌, ◌<◌, Bool, true, false, cond, List, [], ◌∷◌, length, map, get_or, All, Option, Some, None, refl, sym, ◌∙◌, ap, subst, arith, true≢false}
 use mathlib.Core.Logic.{dite}
 use mathlib.Core.Option.{some, some-injective}
 use native.Mathlib.Decide.{ℕ_discrete}
 use lib.ListN.{get_elem?}
 use Rattle.jack_types.specs.declared.ports.Link.{Link}
-use Rattle.session_model.specs.Activation.{link_at, incoming, outgoing, place_among}
+use Rattle.session_model.specs.Activation.{link_at, outgoing, place_among}
 use Rattle.session_laws.proofs.SequentialLemmas.{outgoing_at}
 use Rattle.activation.specs.declared.views.Desk.{Desk}
 use Rattle.activation.specs.declared.views.Duty.{Duty}
 use Rattle.activation.specs.declared.views.View.{View}
-use Rattle.activation.specs.declared.views.Item.{Item}
 use Rattle.activation.specs.declared.views.Item.TheVariants.{Bench, Value}
 use Rattle.activation.specs.Rule.{has}
 use Rattle.activation.specs.Plays.{Owns}
-use Rattle.activation.specs.Contents.{most_links, HasRoomFor, Roomed, Tells, IsFull, IsDone, IsValueOf}
+use Rattle.activation.specs.Contents.{HasRoomFor, IsFull, IsDone, IsValueOf}
 use Rattle.activation.specs.Takens.{IsPlayed}
-use Rattle.activation.proofs.Keeping.{has_here, has_skip}
 use Rattle.activation.proofs.Listed.{each_at, outgoing-facts}
+use Rattle.activation.proofs.Testing.{has_here, has_skip}
 
 module _ {S B : Type 0} (v : View S B) (links : List Link) (nodes : ℕ) (same : v.duty.links ≡ links) (long : length v.duty.before ≡ nodes) where
   pub owns_bench : (n : ℕ) → has v.duty.held n ≡ true → n < nodes → Owns v n
@@ -30,7 +29,7 @@ module _ {S B : Type 0} (v : View S B) (links : List Link) (nodes : ℕ) (same :
   owns_room l held low off = inr ((link_at links l).from, l, held, (subst (λ ls. l < length ls) (sym same) low, ap (λ k. k + l) (sym long), ap (λ ls. (link_at ls l).from) same), off)
 
 -- two links out of one node have different places
-place-apart : (links : List Link) (k l : ℕ) → k < length links → l < length links → (link_at links k).from ≡ (link_at links l).from → place_among links k ≡ place_among links l → k ≡ l
+pub place-apart : (links : List Link) (k l : ℕ) → k < length links → l < length links → (link_at links k).from ≡ (link_at links l).from → place_among links k ≡ place_among links l → k ≡ l
 place-apart links k l low low' from place =
     sym (outgoing_at links k 0 low).1 ∙ ((λ i. get_or (outgoing links (from i)) (place i) 0) ∙ (outgoing_at links l 0 low').1)
 
@@ -61,6 +60,9 @@ module _ {B M Y : Type 0} (memory : B → M) (has_room : B → ℕ → Bool) (va
           places = λ l h e.
               ap (λ b. has_room b (place_among duty.links l)) is
               ∙ (played.rooms.places l h e ∙ (ap (λ b. cond b false (has_room played.old (place_among duty.links l))) (released l (subst (λ ls. l < length ls) same h) (ap (λ ls. (link_at ls l).from) (sym same) ∙ e))));
+          had = λ l h e on.
+              ap (λ b. has_room b (place_among duty.links l)) (one_of old played.old old_is played.old_is)
+              ∙ played.rooms.had l h e (released l (subst (λ ls. l < length ls) same h) (ap (λ ls. (link_at ls l).from) (sym same) ∙ e));
           others = λ place no. ap (λ b. has_room b place) is ∙ (played.rooms.others place no ∙ ap (λ b. has_room b place) (one_of played.old old played.old_is old_is));
         }),
       ),
@@ -83,10 +85,10 @@ module _ {B M Y : Type 0} (memory : B → M) (has_room : B → ℕ → Bool) (va
 
   -- a played bench that handed the value of a link
   pub handed : (duty next : Duty B) (node : ℕ) (desk : Desk B Y) (links : List Link) (l place : ℕ) (bench : B) → next.links ≡ duty.links → next.before ≡ duty.before → next.released ≡ l ∷ duty.released
-      → ((n : ℕ) → has duty.held n ≡ true → has next.held n ≡ true) → duty.links ≡ links → IsPlayed memory has_room value_at after gives duty node desk → l < length links → (link_at links l).from ≡ node → place ≡ place_among links l
+      → ((n : ℕ) → has duty.held n ≡ true → has next.held n ≡ true) → duty.links ≡ links → IsPlayed memory has_room value_at after gives duty node desk → l < length links → (link_at links l).from ≡ node → has duty.released l ≡ false → has_room desk.bench (place_among links l) ≡ true → place ≡ place_among links l
       → memory bench ≡ memory desk.bench → has_room bench place ≡ false → ((other : ℕ) → other ≢ place → (has_room bench other ≡ has_room desk.bench other) × (value_at bench other ≡ value_at desk.bench other))
       → IsPlayed memory has_room value_at after gives next node (record desk { bench = bench })
-  handed duty next node desk links l place bench same_links same_before same_released held same played low from at kept gone others =
+  handed duty next node desk links l place bench same_links same_before same_released held same played low from unreleased on_at at kept gone others =
       subst (λ (x : List Link × List B × List ℕ). IsPlayed memory has_room value_at after gives (record next { links = x.0; before = x.1; released = x.2 }) node (record desk { bench = bench })) (λ i. (sym same_links i, sym same_before i, sym same_released i))
       record {
         held = held node played.held;
@@ -100,6 +102,10 @@ module _ {B M Y : Type 0} (memory : B → M) (has_room : B → ℕ → Bool) (va
               (λ is. ap (λ j. has_room bench (place_among duty.links j)) (sym is) ∙ (ap (has_room bench) (sym at') ∙ (gone
               ∙ sym (ap (λ b. cond b false (has_room played.old (place_among duty.links k))) (ap (has (l ∷ duty.released)) (sym is) ∙ has_here l duty.released)))))
               (λ ne. (others (place_among duty.links k) (other k h e ne)).0 ∙ (played.rooms.places k h e ∙ ap (λ b. cond b false (has_room played.old (place_among duty.links k))) (sym (has_skip l duty.released k ne))));
+          had = λ k h e on. dite (ℕ_discrete l k)
+              (λ is. subst (λ j. has_room played.old (place_among duty.links j) ≡ true) is (
+              sym (played.rooms.places l low' from' ∙ ap (λ b. cond b false (has_room played.old (place_among duty.links l))) unreleased) ∙ (ap (λ ls. has_room desk.bench (place_among ls l)) same ∙ on_at)))
+              (λ ne. played.rooms.had k h e (sym (has_skip l duty.released k ne) ∙ on));
           others = λ p no. (others p (λ e. no l low' from' (sym at' ∙ sym e))).0 ∙ played.rooms.others p no;
         };
         shown = λ k h e off on before tells.

@@ -7,7 +7,7 @@ use Rattle.std.specs.Global.{Vec}
 use mathlib.Core.Option.{some}
 use lib.ListN.{get_elem?}
 use Rattle.jack_types.specs.declared.ports.Link.{Link}
-use Rattle.session_model.specs.Activation.{link_at, incoming, place_among, value_of, sequential}
+use Rattle.session_model.specs.Activation.{link_at, place_among, value_of, sequential}
 use Rattle.activation.specs.declared.views.Desk.{Desk}
 use Rattle.activation.specs.declared.views.Item.{Item}
 use Rattle.activation.specs.declared.views.Item.TheVariants.{Bench, Value}
@@ -21,9 +21,10 @@ most_links = 512
 abbrev pub HasRoomFor : {B Y : Type 0} → Desk B Y → Type 0
 HasRoomFor desk = (desk.given.items ≡ []) × (most_links ≤ vec_capacity desk.given)
 
--- the bench of node n has room as before, but at the places of the links that were freed
+-- the bench of node n has room as before, but at the places of the links that were freed, where it had room
 pub record Roomed {B : Type 0} (has_room : B → ℕ → Bool) (links : List Link) (n : ℕ) (old new : B) (freed : ℕ → Bool) : Type 0 where
   pub places : (l : ℕ) → l < length links → (link_at links l).from ≡ n → has_room new (place_among links l) ≡ cond (freed l) false (has_room old (place_among links l))
+  pub had : (l : ℕ) → l < length links → (link_at links l).from ≡ n → freed l ≡ true → has_room old (place_among links l) ≡ true
   pub others : (place : ℕ) → ((l : ℕ) → l < length links → (link_at links l).from ≡ n → place_among links l ≢ place) → has_room new place ≡ has_room old place
 
 module _ {B M Y : Type 0} (memory : B → M) (has_room : B → ℕ → Bool) (after : M → List Y → M) (gives : M → List Y → ℕ → Y) where
@@ -73,12 +74,17 @@ first_view links slots seats = record {
   shelf = record { words = replicate (slots + 1) 0; items = replicate slots None; out = [] };
 }
 
--- the benches that lie in the first slots
-abbrev pub benches_in : {B Y : Type 0} → List (Option (Item B Y)) → List B
-benches_in [] = []
-benches_in (Some (Bench desk) ∷ items) = desk.bench ∷ benches_in items
-benches_in (Some (Value y) ∷ items) = []
-benches_in (None ∷ items) = []
+-- the benches that lie in so many slots, from the first on
+abbrev pub benches_in : {B Y : Type 0} → ℕ → List (Option (Item B Y)) → List B
+benches_in zero items = []
+benches_in (suc n) [] = []
+benches_in (suc n) (Some (Bench desk) ∷ items) = desk.bench ∷ benches_in n items
+benches_in (suc n) (Some (Value y) ∷ items) = []
+benches_in (suc n) (None ∷ items) = []
+
+-- a table has 512 slots beside those of its benches
+abbrev pub benches_of : {B Y : Type 0} → ℕ → List (Option (Item B Y)) → List B
+benches_of slots items = benches_in (slots - 512) items
 
 -- each of these benches lies in its slot, with the room for what it is given
 abbrev pub AreLaid : {B Y : Type 0} → List B → List (Option (Item B Y)) → Type 0

@@ -4,16 +4,20 @@
 --     started_by, released_by      the decrement of a node's counter, for its start or for a link
 --     came_home      the decrement of the count of benches out
 --     left_of, right_of, joined      how views are split and joined
+--     entered      a load behind which the seat knows the whole table
+--     stored, lifted, laid_down      what it then does with words and slots
+--     unlinked, linked      the list of links is made anew
+--     left_still      the next cycle begins
 use Rattle.std.specs.Prelude.{◌≡◌, ◌≢◌, ◌≤◌, ◌<◌, ◌+◌, ◌-◌, ◌==◌, ℕ, suc, Bool, true, false, cond, List, [], ◌∷◌, ◌++◌, length, slice_set, ◌⊎◌}
 use mathlib.Core.Option.{some}
 use lib.ListN.{get_elem?}
 use Rattle.atomic_table.specs.Table.{Me, Step, rest}
 use Rattle.jack_types.specs.declared.ports.Link.{Link}
-use Rattle.session_model.specs.Activation.{link_at}
+use Rattle.session_model.specs.Activation.{link_at, fresh}
 use Rattle.activation.specs.declared.views.Duty.{Duty}
 use Rattle.activation.specs.declared.views.Hand.{Hand}
 use Rattle.activation.specs.declared.views.View.{View}
-use Rattle.activation.specs.Rule.{has}
+use Rattle.activation.specs.Rule.{has, Once}
 
 -- the slot of the bench of n, or of the value of a link into n
 abbrev pub IsSlotOf : List Link → ℕ → ℕ → ℕ → Type 0
@@ -144,12 +148,24 @@ module _ {S B : Type 0} where
   abbrev pub AllStarted : View S B → Bool → Type 0
   AllStarted v b = (n : ℕ) → n < length v.duty.before → has v.duty.started n ≡ b
 
+  -- where every node was started, each is home and each link was released once; the counter of a node tells which of the two it is
+  abbrev pub Through : (full done : List Link → List B → ℕ → S → Type 0) → Duty B → List S → Type 0
+  Through full done d items =
+      ((n : ℕ) → n < length d.before → (x : S) × done d.links d.before n x × (get_elem? items n ≡ some x))
+      × ((l : ℕ) → l < length d.links → (x : S) × done d.links d.before (length d.before + l) x × (get_elem? items (length d.before + l) ≡ some x))
+      × ((l : ℕ) → l < length d.links → has d.released l ≡ true)
+
+  abbrev pub Ahead : (full done : List Link → List B → ℕ → S → Type 0) → Duty B → List ℕ → List S → Type 0
+  Ahead full done d words items =
+      ((n : ℕ) → n < length d.before → (x : S) × full d.links d.before n x × (get_elem? items n ≡ some x))
+      × ((others : List ℕ) × (words ≡ (fresh (length d.before) d.links).counters ++ others))
+
   abbrev pub entered : (full done : List Link → List B → ℕ → S → Type 0) → Step S → Me S (View S B) → ℕ → Me S (View S B) → Type 0
   entered full done st m r m' =
       (words : List ℕ) × (items : List S) × (m' ≡ (still_after m.0 words items, m.1)) × (length items ≡ st.slots)
-      × (AllStarted m.0 true → ((n : ℕ) → n < length m.0.duty.before → (x : S) × done m.0.duty.links m.0.duty.before n x × (get_elem? items n ≡ some x))
-      × ((l : ℕ) → l < length m.0.duty.links → (x : S) × done m.0.duty.links m.0.duty.before (length m.0.duty.before + l) x × (get_elem? items (length m.0.duty.before + l) ≡ some x)))
-      × (AllStarted m.0 false → (n : ℕ) → n < length m.0.duty.before → (x : S) × full m.0.duty.links m.0.duty.before n x × (get_elem? items n ≡ some x))
+      × (AllStarted m.0 true → Through full done m.0.duty items × (st.word < length m.0.duty.before → r ≡ 0))
+      × (AllStarted m.0 false → Ahead full done m.0.duty words items × (st.word < length m.0.duty.before → 0 < r))
+      × Once m.0.duty.released × (length m.0.duty.before + length m.0.duty.links ≤ length items) × (length m.0.duty.before ≤ length words)
 
   abbrev pub stored : Step S → Me S (View S B) → ℕ → Me S (View S B) → Type 0
   stored st m r m' = m' ≡ (record m.0 { shelf = record m.0.shelf { words = slice_set m.0.shelf.words st.word st.first } }, m.1)
@@ -160,6 +176,24 @@ module _ {S B : Type 0} where
   abbrev pub laid_down : Step S → Me S (View S B) → ℕ → Me S (View S B) → Type 0
   laid_down st m r m' = m' ≡ (record m.0 { shelf = record m.0.shelf { items = put_item m.0.shelf.items m.1; out = [] } }, rest m.1)
 
+  abbrev pub with_links : View S B → List Link → View S B
+  with_links v links = record v { duty = record v.duty { links = links } }
+
+  -- the seat's list of links is emptied
+  abbrev pub unlinked : Step S → Me S (View S B) → ℕ → Me S (View S B) → Type 0
+  unlinked st m r m' = m' ≡ (with_links m.0 [], m.1)
+
+  -- a link is added to it: the word is its source, and the number that is stored its target
+  abbrev pub linked : Step S → Me S (View S B) → ℕ → Me S (View S B) → Type 0
+  linked st m r m' =
+      m' ≡ (
+        record m.0 {
+          duty = record m.0.duty { links = m.0.duty.links ++ record { from = st.word; to = st.first } ∷ [] };
+          shelf = record m.0.shelf { words = slice_set m.0.shelf.words st.word st.first };
+        },
+        m.1,
+      )
+
   -- a new cycle, over the benches that lie in the slots
   abbrev pub leave_after : (List S → List B) → View S B → View S B
   leave_after benches_in v = record v {
@@ -168,8 +202,8 @@ module _ {S B : Type 0} where
     hand = record { out = []; node = 0; floor = 0; ready = [] };
   }
 
-  abbrev pub left_still : (List S → List B) → Step S → Me S (View S B) → ℕ → Me S (View S B) → Type 0
-  left_still benches_in st m r m' = m' ≡ (leave_after benches_in m.0, m.1)
+  abbrev pub left_still : (ℕ → List S → List B) → Step S → Me S (View S B) → ℕ → Me S (View S B) → Type 0
+  left_still benches_in st m r m' = m' ≡ (leave_after (benches_in st.slots) m.0, m.1)
 
   -- the one seat with these items, or with these words, and no slot out
   abbrev pub with_items : View S B → List S → View S B

@@ -3,7 +3,7 @@
 --     Still s      one seat knows the whole table
 --     Rule full done s      one of the two
 -- `full` says what may lie in a slot before its node is taken, and `done` what lies there when its node is home.
-use Rattle.std.specs.Prelude.{◌≡◌, ◌≢◌, ◌≤◌, ◌<◌, ◌+◌, ◌%◌, ◌==◌, ℕ, suc, Bool, true, false, cond, List, [], ◌∷◌, ◌++◌, length, map, slice_set, ◌⊎◌}
+use Rattle.std.specs.Prelude.{◌≡◌, ◌≤◌, ◌<◌, ◌+◌, ◌%◌, ◌==◌, ℕ, Bool, true, false, cond, List, [], ◌∷◌, ◌++◌, length, map, slice_set, ◌⊎◌}
 use mathlib.Core.Option.{Option, some, none}
 use lib.ListN.{get_elem?}
 use Rattle.atomic_table.specs.Table.{State}
@@ -11,7 +11,6 @@ use Rattle.jack_types.specs.declared.ports.Link.{Link}
 use Rattle.session_model.specs.Activation.{AreLinks, Place, Waiting, Held, Left, AtHome, Machine, link_at, is_started, is_released, place_of, IsConsistent}
 use Rattle.activation.specs.declared.views.Duty.{Duty}
 use Rattle.activation.specs.declared.views.Hand.{Hand}
-use Rattle.activation.specs.declared.views.Shelf.{Shelf}
 use Rattle.activation.specs.declared.views.View.{View}
 
 abbrev pub has : List ℕ → ℕ → Bool
@@ -41,6 +40,17 @@ abbrev pub laid : {S : Type 0} → List ℕ → List (Option S) → List (Option
 laid [] hs = hs
 laid (q ∷ qs) hs = slice_set (laid qs hs) q none
 
+-- no number stands twice
+abbrev pub Once : List ℕ → Type 0
+Once [] = Unit {0}
+Once (x ∷ xs) = (has xs x ≡ false) × Once xs
+
+-- of the numbers below the limit those that are on stand in some seat's list, and each stands in one seat's list, once
+pub record Told {V : Type 0} (is_live : V → Bool) (list : V → List ℕ) (limit : ℕ) (on : ℕ → Bool) (views : List V) : Type 0 where
+  pub by_some : (x : ℕ) → x < limit → on x ≡ true → (j : ℕ) × (v : V) × (get_elem? views j ≡ some v) × (is_live v ≡ true) × (has (list v) x ≡ true)
+  pub by_one : (i j : ℕ) (v w : V) (x : ℕ) → get_elem? views i ≡ some v → get_elem? views j ≡ some w → is_live v ≡ true → is_live w ≡ true → has (list v) x ≡ true → has (list w) x ≡ true → i ≡ j
+  pub once : (j : ℕ) (v : V) → get_elem? views j ≡ some v → is_live v ≡ true → Once (list v)
+
 module _ {B : Type 0} where
   -- what a seat's lists say of the machine
   pub record Knows (links : List Link) (before : List B) (seats : ℕ) (machine : Machine) (v : Duty B) : Type 0 where
@@ -57,6 +67,12 @@ module _ {B : Type 0} where
     pub all_released : (l : ℕ) → has v.released l ≡ true → is_released machine l ≡ true
 
 module _ {S B : Type 0} where
+  -- each start and each release stands in the list of the seat that made it
+  abbrev pub AreTold : List Link → ℕ → Machine → List (View S B) → Type 0
+  AreTold links nodes machine views =
+      Told (λ (v : View S B). v.is_live) (λ v. v.duty.started) nodes (is_started machine) views
+      × Told (λ (v : View S B). v.is_live) (λ v. v.duty.released) (length links) (is_released machine) views
+
   module _ (full done : List Link → List B → ℕ → S → Type 0) where
     module _ (links : List Link) (before : List B) (s : State S (View S B)) where
       abbrev pub At : (S → Type 0) → ℕ → Type 0
@@ -91,6 +107,7 @@ module _ {S B : Type 0} where
       pub slots : (q : ℕ) (is_filled : Bool) (n : ℕ) → Goes links (length before) machine q is_filled n → Lies links before s (place_of machine n) is_filled n q
       pub spare : (q : ℕ) → length before + length links ≤ q → q < length s.homes → At links before s (λ _. Unit {0}) q
       pub each_seat : (j : ℕ) (v : View S B) → get_elem? s.views j ≡ some v → v.is_live ≡ true → (v.is_still ≡ false) × Knows links before seats machine v.duty
+      pub told : AreTold links (length before) machine s.views
       pub alone : (i j : ℕ) (v w : View S B) (seat : ℕ) → get_elem? s.views i ≡ some v → get_elem? s.views j ≡ some w → v.is_live ≡ true → w.is_live ≡ true → has v.duty.shares seat ≡ true → has w.duty.shares seat ≡ true → i ≡ j
 
     -- some cycle is under way

@@ -1,10 +1,9 @@
 -- A node that a seat holds, before its play and after it.
 --     IsUnplayed .. duty node desk      the bench as before the cycle, with the values of its incoming links
 --     IsPlayed .. duty node desk      the bench is sequential, and shows the values of the links that are not released
-use Rattle.std.specs.Prelude.{◌≡◌, ◌≤◌, ◌<◌, ℕ, Bool, true, false, List, ◌∷◌, length, map, Option, Some, vec_capacity}
+use Rattle.std.specs.Prelude.{◌≡◌, ◌≤◌, ◌<◌, ℕ, Bool, true, false, List, ◌∷◌, length, map, Some, vec_capacity}
 use mathlib.Core.Option.{some}
 use lib.ListN.{get_elem?}
-use Rattle.jack_types.specs.declared.ports.Link.{Link}
 use Rattle.session_model.specs.Activation.{AreLinks, link_at, incoming, place_among}
 use Rattle.activation.specs.declared.views.Desk.{Desk}
 use Rattle.activation.specs.declared.views.Duty.{Duty}

@@ -10,6 +10,7 @@ ghost use Rattle.session_model.specs.Samples.{below};
 ghost use Rattle.activation.specs.Contents.{IsFull, IsDone, HasRoomFor, IsValueOf, AreValuesOf, most_links};
 ghost use Rattle.activation.specs.Takens.{IsUnplayed, IsPlayed, with_started, with_held, with_released, with_home};
 ghost use Rattle.activation.specs.Seats.{IsIdle, IsAt, Sits, IsShape, new_duty};
+ghost use Rattle.activation.specs.Rounds.{IsRoomy};
 
 use crate::making::{Parts, begin, prepare, share};
 use crate::rules::{ComeHome, CrewRule, Fill, Open, Release, Start, Take};
@@ -19,26 +20,41 @@ use crate::work::Work;
 use atomic_table::{Seat as Token, Table};
 use jack_types::Link;
 use std::alloc::{AllocError, Global};
+use std::sync::Mutex;
+
+/// The list of benches that a crew was made of, emptied, with the room to give them back.
+///
+/// It lies in a lock that is never taken: so threads may share the crew wherever its benches may cross
+/// threads.
+#[derive(Drop)]
+pub(crate) struct Emptied<B> {
+    pub(crate) benches: Vec<B>,
+    ghost room: { (benches.items ≡ []) × (64 ≤ vec_capacity benches) },
+}
 
 /// The benches of a graph's nodes, the counters of the nodes and the values of the links.
+#[derive(Drop)]
 pub struct Crew<B: Work> {
-    board: Table<
+    pub(crate) board: Table<
         Option<Item<B, B::Value>>,
         View<Option<Item<B, B::Value>>, B>,
         Size,
         CrewRule<B>,
         Global,
     >,
-    links: Vec<Link>,
-    nodes: usize,
-    seats: u32,
-    into: Vec<Vec<u32>>,
-    places: Vec<u32>,
-    emptied: Vec<B>,
+    pub(crate) links: Vec<Link>,
+    pub(crate) nodes: usize,
+    pub(crate) seats: u32,
+    pub(crate) into: Vec<Vec<u32>>,
+    pub(crate) places: Vec<u32>,
+    pub(crate) emptied: Mutex<Emptied<B>>,
     ghost shape: { IsShape board.shared.table_id links.items nodes (map (λ into. into.items) into.items) places.items },
+    ghost roomy: { IsRoomy seats links into.items places },
 }
 
 impl<B: Work> Crew<B> {
+    ghost use Rattle.activation.specs.Rounds.{AreSeats, AreFresh};
+
     /// A crew over these benches, one a node, with its seats.
     ///
     /// A link goes from a lower node to a higher one. The seat of number s starts the nodes n with n mod
@@ -52,11 +68,14 @@ impl<B: Work> Crew<B> {
         requires links { AreLinks (length benches.items) links.now }
         requires sizes { (length benches.items ≤ 64) × (length links.now ≤ 512) × (0 < seats) × (seats ≤ 16) }
         ensures crew { IfOk result (λ made. (made.0.nodes ≡ length benches.items) × (made.0.links.items ≡ links.now) × (made.0.seats ≡ seats)) }
-        ensures numbers { IfOk result (λ made. map (λ seat. seat.number) made.1.items ≡ below seats) }
-        ensures each { IfOk result (λ made. All (λ seat. Sits made.0.board.shared.table_id links.now (length benches.items) seats seat.number seat.token × (seat.token.me.0.duty ≡ new_duty links.now benches.items seats (seat.number ∷ []))) made.1.items) }
+        ensures seats { IfOk result (λ made. AreSeats made.0.board.shared.table_id links.now (length benches.items) seats made.1.items) }
+        ensures fresh { IfOk result (λ made. AreFresh links.now benches.items seats made.1.items) }
         ensures err { IfErr result (λ back. back.0.items ≡ benches.items) }
     {
         let nodes = benches.len();
+        if let Err(error) = benches.reserve(64 - nodes) {
+            return Err((benches, error));
+        }
         let parts = match prepare(alloc, links, nodes, seats) {
             Ok(parts) => parts,
             Err(error) => return Err((benches, error)),
@@ -85,7 +104,7 @@ impl<B: Work> Crew<B> {
             seats,
             into,
             places,
-            emptied: benches,
+            emptied: Mutex::new(Emptied { benches }),
         };
         Ok((crew, all))
     }

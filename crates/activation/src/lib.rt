@@ -4,8 +4,10 @@
 //! once, over benches that implement [`Work`].
 #![tactic(auto)]
 
+mod changes;
 mod cores;
 mod crews;
+mod gathering;
 mod indexes;
 mod making;
 mod opening;
@@ -14,6 +16,7 @@ mod stands;
 mod takens;
 #[cfg(test)]
 mod tests;
+mod turns;
 mod views;
 mod work;
 

@@ -5,10 +5,11 @@ ghost use Rattle.session_model.specs.Samples.{below};
 ghost use Rattle.activation.specs.Contents.{AreEmpty, first_view, from_to};
 ghost use Rattle.activation.specs.Seats.{IsIdle, IsShare, new_duty};
 
-use crate::indexes::{all_into, all_places, all_rooms};
-use crate::opening::{lay_benches, set_counters};
-use crate::rules::{CrewRule, Leave, Shares};
+use crate::indexes::{all_into, all_places, all_rooms, fill_links};
+use crate::opening::{lay_benches, set_counters, write};
+use crate::rules::{CrewRule, Shares};
 use crate::takens::Seat;
+use crate::turns::leave;
 use crate::views::{Item, Size, View};
 use crate::work::Work;
 use atomic_table::{Seat as Token, Table};
@@ -43,10 +44,13 @@ pub(crate) fn prepare<B: Work>(
     requires { (length links.now ≤ 512) × (nodes ≤ 64) }
     ensures board { IfOk result (λ parts. (parts.board.shared.table_id.slots ≡ nodes + 512) × (parts.board.shared.table_id.words ≡ nodes + 513) × (parts.token.table_id ≡ parts.board.shared.table_id) × (parts.token.me ≡ (first_view links.now (nodes + 512) seats, []))) }
     ensures index { IfOk result (λ parts. (parts.links.items ≡ links.now) × (map (λ into. into.items) parts.into.items ≡ map (incoming links.now) (below nodes)) × (parts.places.items ≡ map (place_among links.now) (below (length links.now)))) }
+    ensures kept { IfOk result (λ parts. (512 ≤ vec_capacity parts.links) × All (λ which. 512 ≤ vec_capacity which) parts.into.items × (512 ≤ vec_capacity parts.places)) }
     ensures room { IfOk result (λ parts. (length parts.rooms.items ≡ nodes) × AreEmpty parts.rooms.items × (parts.seats.items ≡ []) × (seats ≤ vec_capacity parts.seats)) }
 {
+    let mut kept = Vec::with_capacity(alloc, 512)?;
+    fill_links(links, &mut kept);
     let size = Size {
-        links: links.to_vec(alloc)?,
+        links: kept,
         slots: nodes + 512,
         seats,
     };
@@ -86,15 +90,16 @@ pub(crate) fn begin<B: Work>(
     rooms: &mut Vec<Vec<Option<B::Value>>>,
     benches: &mut Vec<B>,
 )
-    requires board { (board.now.shared.table_id.words ≡ length benches.old.items + 513) × (token.old.table_id ≡ board.now.shared.table_id) × (token.old.me ≡ (first_view token.old.me.0.duty.links (length benches.old.items + 512) token.old.me.0.duty.seats, [])) }
+    requires board { (board.now.shared.table_id.words ≡ length benches.old.items + 513) × (board.now.shared.table_id.slots ≡ length benches.old.items + 512) × (token.old.table_id ≡ board.now.shared.table_id) × (token.old.me ≡ (first_view token.old.me.0.duty.links (length benches.old.items + 512) token.old.me.0.duty.seats, [])) }
     requires index { AreLinks (length benches.old.items) token.old.me.0.duty.links × (length token.old.me.0.duty.links ≤ 512) × (map (λ into. into.items) into.now ≡ map (incoming token.old.me.0.duty.links) (below (length benches.old.items))) }
     requires room { (length rooms.old.items ≡ length benches.old.items) × AreEmpty rooms.old.items × (0 < token.old.me.0.duty.seats) }
     ensures token { (token.new.table_id ≡ token.old.table_id) × IsIdle token.new.me × (token.new.me.0.duty ≡ new_duty token.old.me.0.duty.links benches.old.items token.old.me.0.duty.seats (from_to 0 token.old.me.0.duty.seats)) }
     ensures benches { (benches.new.items ≡ []) × (vec_capacity benches.new ≡ vec_capacity benches.old) }
 {
     lay_benches(board, token, benches, rooms);
+    write(board, token, into.len() + 512, into.len() as u64);
     set_counters(board, token, into);
-    board.shared.load::<Leave>(token, 0);
+    leave(board, token);
 }
 
 /// Splits the first seat into one for each share.

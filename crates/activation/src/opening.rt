@@ -39,7 +39,7 @@ pub(crate) fn put<B: Work>(
     old
 }
 
-/// Writes the counter of a node, by the one seat.
+/// Writes a word, by the one seat.
 pub(crate) fn write<B: Work>(
     board: &Table<
         Option<Item<B, B::Value>>,

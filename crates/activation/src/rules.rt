@@ -133,12 +133,42 @@ impl<S, B> Play<S, View<S, B>> for LayDown {
     ghost then = { laid_down };
 }
 
+/// How a seat leaves a spent one behind.
+pub struct Husks;
+
+impl<S, B> Split<View<S, B>> for Husks {
+    ghost use Rattle.activation.specs.Plays.{nobody};
+
+    ghost left = { λ v. v };
+
+    ghost right = { λ v. nobody };
+}
+
+/// The load by which the one seat empties its list of links.
+pub struct Unlink;
+
+impl<S, B> Play<S, View<S, B>> for Unlink {
+    ghost use Rattle.activation.specs.Plays.{unlinked};
+
+    ghost then = { unlinked };
+}
+
+/// The store by which the one seat adds a link to its list: the word is the link's source, and the number
+/// its target.
+pub struct AddLink;
+
+impl<S, B> Play<S, View<S, B>> for AddLink {
+    ghost use Rattle.activation.specs.Plays.{linked};
+
+    ghost then = { linked };
+}
+
 /// The load with which the next cycle begins.
 pub struct Leave;
 
 impl<B, Y> Play<Option<Item<B, Y>>, View<Option<Item<B, Y>>, B>> for Leave {
-    ghost use Rattle.activation.specs.Contents.{benches_in};
+    ghost use Rattle.activation.specs.Contents.{benches_of};
     ghost use Rattle.activation.specs.Plays.{left_still};
 
-    ghost then = { left_still benches_in };
+    ghost then = { left_still benches_of };
 }

@@ -12,7 +12,7 @@ pub trait Work: Drop {
     /// What a bench remembers from one play to the next. No value of it is made.
     type Memory;
 
-    ghost use Rattle.std.specs.Prelude.{◌≡◌, ◌≢◌, ℕ, List, Bool, true, false, Option, All, IsSome};
+    ghost use Rattle.std.specs.Prelude.{◌≡◌, ◌≢◌, ◌<◌, ℕ, List, Bool, true, false, Option, All, IsSome};
     ghost use Rattle.activation.specs.Values.{values_of};
 
     /// What the bench remembers.
@@ -46,8 +46,10 @@ pub trait Work: Drop {
         ensures others { (other : ℕ) → other ≢ place → (has_room self.new other ≡ has_room self.old other) × (value_at self.new other ≡ value_at self.old other) };
 
     /// Keeps the room of a value that was handed, so that there is room at this place again.
+    ///
+    /// A node has fewer outgoing links than there are nodes, so places are below 64.
     fn back(&mut self, place: u32, value: Self::Value)
-        requires room { has_room self.old place ≡ false }
+        requires room { (place < 64) × (has_room self.old place ≡ false) }
         ensures memory { memory self.new ≡ memory self.old }
         ensures room { has_room self.new place ≡ true }
         ensures others { (other : ℕ) → other ≢ place → (has_room self.new other ≡ has_room self.old other) × (value_at self.new other ≡ value_at self.old other) };

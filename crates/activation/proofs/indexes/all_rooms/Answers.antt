@@ -1,4 +1,4 @@
-use Rattle.std.proofs.Common.{rules, arith, ◌≡◌, ◌≤◌, ◌+◌, ℕ, [], All, sym, ap, ◌∙◌, subst, vec_capacity}
+use Rattle.std.proofs.Common.{rules, ◌≡◌, ◌≤◌, [], All, sym, subst, vec_capacity}
 use Rattle.std.proofs.lemmas.List.Elements.{All-append, All-cons, All-nil}
 use Rattle.activation.specs.Contents.{most_links}
 use Rattle.activation.proofs.Played.{has_room_is}

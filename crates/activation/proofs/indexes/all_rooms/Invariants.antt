@@ -1,4 +1,4 @@
-use Rattle.std.proofs.Common.{◌≡◌, ◌≤◌, length, vec_capacity, vec_len}
+use Rattle.std.proofs.Common.{◌≡◌, ◌≤◌, vec_capacity, vec_len}
 use Rattle.activation.specs.Contents.{AreEmpty}
 use Rattle.activation.proofs.indexes.all_rooms.Given as goal
 

@@ -1,8 +1,8 @@
-use Rattle.std.proofs.Common.{rules, arith, ◌≡◌, ◌<◌, ◌≤◌, ◌+◌, ◌-◌, ℕ, suc, List, [], ◌∷◌, ◌++◌, map, All, sym, ap, ◌∙◌, subst, refl}
+use Rattle.std.proofs.Common.{rules, arith, ◌≡◌, ◌<◌, ◌+◌, ◌-◌, ℕ, suc, List, [], ◌∷◌, ◌++◌, map, ap, ◌∙◌}
 use Rattle.session_model.specs.Samples.{below}
 use Rattle.activation.specs.declared.takens.Seat.{Seat}
 use Rattle.activation.specs.Contents.{IsFull, IsDone, from_to}
-use Rattle.activation.specs.Seats.{IsIdle, IsShare, new_duty}
+use Rattle.activation.specs.Seats.{IsShare, new_duty}
 use Rattle.activation.proofs.Played.{map-snoc}
 use Rattle.activation.proofs.Sharing.{part_share, kept_share, given_share, put_one}
 use Rattle.activation.proofs.making.share.Goals as goal

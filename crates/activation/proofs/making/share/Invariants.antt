@@ -1,4 +1,4 @@
-use Rattle.std.proofs.Common.{◌≡◌, ◌≤◌, ◌-◌, ℕ, map, All, vec_capacity, vec_len}
+use Rattle.std.proofs.Common.{◌≡◌, ◌≤◌, ◌-◌, map, All, vec_capacity, vec_len}
 use Rattle.session_model.specs.Samples.{below}
 use Rattle.activation.specs.Contents.{from_to}
 use Rattle.activation.specs.Seats.{IsIdle, IsShare, new_duty}

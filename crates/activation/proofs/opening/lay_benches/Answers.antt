@@ -1,4 +1,4 @@
-use Rattle.std.proofs.Common.{rules, arith, ◌≡◌, ◌<◌, ◌≤◌, ℕ, [], length, set, Some, sym, ap, ◌∙◌, refl, length-set}
+use Rattle.std.proofs.Common.{rules, arith, ◌≡◌, [], length, set, Some, sym, ap, ◌∙◌, refl, length-set}
 use Rattle.activation.specs.declared.views.Item.TheVariants.{Bench}
 use Rattle.activation.specs.Plays.{with_items}
 use Rattle.table_lemmas.proofs.Readings.{inside}

@@ -1,6 +1,5 @@
-use Rattle.std.proofs.Common.{rules, ◌≡◌, ℕ, [], ◌∷◌, sym, ap, ◌∙◌, subst, refl}
+use Rattle.std.proofs.Common.{rules, [], ◌∷◌, sym, ap, ◌∙◌}
 use mathlib.Core.Option.{some}
-use lib.ListN.{get_elem?}
 use Rattle.atomic_table.specs.Table.{rest}
 use Rattle.activation.specs.Contents.{IsFull, IsDone}
 use Rattle.activation.proofs.Acting.{same_front}

@@ -1,4 +1,3 @@
-use Rattle.std.proofs.Common.{rules}
 use Rattle.activation.specs.Contents.{IsFull, IsDone}
 use Rattle.activation.proofs.Alone.{write_alone}
 use Rattle.activation.proofs.opening.write.Goals as goal

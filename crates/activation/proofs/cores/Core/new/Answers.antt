@@ -1,9 +1,8 @@
-use Rattle.std.proofs.Common.{rules, arith, ◌≡◌, ◌+◌, ℕ, length, map, replicate, false, sym, ap, ◌∙◌, ◌<◌, subst}
+use Rattle.std.proofs.Common.{rules, arith, ◌≡◌, ◌+◌, length, map, sym, ap, ◌∙◌, subst}
 use Rattle.session_model.specs.Activation.{incoming}
 use Rattle.session_model.specs.Samples.{below}
 use Rattle.session_laws.proofs.ActivationLemmas.{length-map_below}
-use Rattle.activation.specs.declared.stands.Stand.TheVariants as stand
-use Rattle.activation.specs.Steps.{IsCourse, opening, course_of}
+use Rattle.activation.specs.Steps.{IsCourse}
 use Rattle.activation.proofs.Courses.{opening-is, opening-course}
 use Rattle.activation.proofs.cores.Core.new.Goals as goal
 

@@ -1,4 +1,4 @@
-use Rattle.std.proofs.Common.{rules, ◌≡◌, ◌<◌, ◌-◌, ◌==◌, ◌∙◌, ℕ, cond, set, slice_index, Some, None, sym, ap, subst, arith, true, length}
+use Rattle.std.proofs.Common.{◌≡◌, ◌<◌, ◌-◌, ◌==◌, ◌∙◌, cond, set, slice_index, sym, ap, subst, arith, true}
 use Rattle.std.proofs.lemmas.List.{length-map}
 use Rattle.jack_types.specs.declared.ports.Link.{Link}
 use Rattle.session_model.specs.Activation.{link_at, no_link, IsConsistent}

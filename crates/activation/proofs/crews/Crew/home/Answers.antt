@@ -1,4 +1,4 @@
-use Rattle.std.proofs.Common.{rules, arith, ◌≡◌, ◌<◌, ◌+◌, ◌-◌, ◌%◌, ◌^◌, ℕ, [], ◌∷◌, true, List, length, Some, refl, sym, ap, ◌∙◌, subst}
+use Rattle.std.proofs.Common.{rules, arith, ◌<◌, ◌+◌, ◌-◌, ◌%◌, ◌^◌, ℕ, [], length, Some, refl, sym, ap, ◌∙◌, subst}
 use mathlib.Core.Option.{none}
 use Rattle.atomic_table.specs.Table.{Allows, step}
 use Rattle.table_lemmas.proofs.Readings.{inside}
@@ -7,10 +7,10 @@ use Rattle.activation.specs.declared.views.Item.TheVariants.{Bench}
 use Rattle.activation.specs.Rule.{has, Rule}
 use Rattle.activation.specs.Plays.{fill_after, came_home}
 use Rattle.activation.specs.Contents.{IsFull, IsDone}
-use Rattle.activation.proofs.Keeping.{has_there}
 use Rattle.activation.proofs.Acting.{home_from}
 use Rattle.activation.proofs.Slots.{owns_bench, done_bench, all_out}
 use Rattle.activation.proofs.crews.Crew.home.Goals as goal
+use Rattle.activation.proofs.Testing.{has_there}
 
 pub lay_values-requires-clause-node : goal.lay_values-requires-clause-node
 lay_values-requires-clause-node g c κs within =

@@ -1,4 +1,4 @@
-use Rattle.std.proofs.Common.{rules, arith, ◌≡◌, ◌∙◌, ℕ, ap, length}
+use Rattle.std.proofs.Common.{arith, ◌≡◌, ◌∙◌, ap, length}
 use Rattle.session_model.specs.Activation.{incoming}
 use Rattle.activation.proofs.Played.{at_mapped, length-mapped}
 use Rattle.activation.proofs.crews.Crew.incoming.Goals as goal

@@ -1,6 +1,5 @@
-use Rattle.std.proofs.Common.{rules, ◌≡◌, ℕ, List, [], ◌∷◌, None, sym, ap, ◌∙◌, subst, refl}
+use Rattle.std.proofs.Common.{rules, [], ◌∷◌, None, sym, ◌∙◌, subst}
 use Rattle.atomic_table.specs.Table.{rest}
-use Rattle.activation.specs.Plays.{out_after}
 use Rattle.activation.specs.Contents.{IsFull, IsDone}
 use Rattle.activation.proofs.Acting.{take_from, open_from, same_front}
 use Rattle.activation.proofs.crews.Crew.lift.Goals as goal

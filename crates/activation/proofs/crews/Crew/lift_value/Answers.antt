@@ -1,4 +1,4 @@
-use Rattle.std.proofs.Common.{rules, ◌≡◌, ◌+◌, ℕ}
+use Rattle.std.proofs.Common.{rules}
 use Rattle.activation.proofs.Played.{value_from}
 use Rattle.activation.proofs.crews.Crew.lift_value.Goals as goal
 

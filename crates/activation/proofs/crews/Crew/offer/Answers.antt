@@ -1,4 +1,4 @@
-use Rattle.std.proofs.Common.{rules, arith, ◌≡◌, ◌<◌, ◌+◌, ℕ}
+use Rattle.std.proofs.Common.{arith, ◌+◌}
 use Rattle.activation.specs.Contents.{IsFull, IsDone}
 use Rattle.activation.proofs.Acting.{take_from}
 use Rattle.activation.proofs.Slots.{owns_room}

@@ -1,4 +1,4 @@
-use Rattle.std.proofs.Common.{rules, arith, ◌≡◌, ◌<◌, ◌+◌, ℕ, [], ◌∷◌, length, Some, sym, ap, ◌∙◌, subst}
+use Rattle.std.proofs.Common.{arith, ◌<◌, ◌+◌, [], ◌∷◌, length, Some, sym, ap, ◌∙◌, subst}
 use Rattle.session_model.specs.Activation.{link_at, no_link}
 use Rattle.activation.specs.declared.views.Item.TheVariants.{Value}
 use Rattle.activation.specs.Rule.{has}

@@ -1,4 +1,4 @@
-use Rattle.std.proofs.Common.{rules, arith, ◌≡◌, ◌∙◌, ℕ, ap, length, get_or, List}
+use Rattle.std.proofs.Common.{arith, ◌≡◌, ◌∙◌, ap, length}
 use Rattle.session_model.specs.Activation.{place_among}
 use Rattle.session_laws.proofs.ActivationLemmas.{length-map_below}
 use Rattle.activation.proofs.Played.{at_listed}

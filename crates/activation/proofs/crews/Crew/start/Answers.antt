@@ -1,4 +1,4 @@
-use Rattle.std.proofs.Common.{rules, arith, ◌≡◌, ◌<◌, ◌+◌, ℕ, sym, subst}
+use Rattle.std.proofs.Common.{arith, ◌<◌, sym, subst}
 use Rattle.activation.specs.Contents.{IsFull, IsDone}
 use Rattle.activation.proofs.Acting.{start_from}
 use Rattle.activation.proofs.crews.Crew.start.Goals as goal

@@ -1,4 +1,4 @@
-use Rattle.std.proofs.Common.{rules, ◌≡◌, ◌∙◌, ℕ, All, IsSome, map, Some, List, sym, subst, ap}
+use Rattle.std.proofs.Common.{◌∙◌, All, IsSome, sym, subst, ap}
 use Rattle.activation.specs.Values.{values_of}
 use Rattle.activation.proofs.Played.{all_some, plays}
 use Rattle.activation.proofs.takens.Taken.play.Goals as goal

@@ -1,0 +1,9 @@
+use Rattle.std.proofs.Common.{◌≡◌, [], length, take}
+use Rattle.activation.specs.Plays.{with_words, with_links}
+use Rattle.activation.proofs.turns.add_links.Given as goal
+
+abbrev pub invariant-loop-link : goal.invariant-loop-link
+invariant-loop-link g l =
+    (l.seat.table_id ≡ l.fn.seat.table_id)
+    × (l.seat.me ≡ (with_words (with_links l.fn.seat.me.0 (take l.link-index l.links)) l.seat.me.0.shelf.words, []))
+    × (length l.seat.me.0.shelf.words ≡ length l.fn.seat.me.0.shelf.words)

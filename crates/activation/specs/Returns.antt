@@ -1,0 +1,32 @@
+-- The values of the links are given back to the benches that handed them.
+--     BenchAt items n desk      this bench lies in the slot of node n
+--     AreSpent has_room links nodes items      every bench handed the values of all its links, and these lie in the links' slots
+--     AreBack memory has_room links nodes old new      each bench has its memory still, and room at the places of all its links
+use Rattle.std.specs.Prelude.{◌≡◌, ◌≢◌, ◌<◌, ◌+◌, ℕ, Bool, true, false, List, length, Option, Some}
+use mathlib.Core.Option.{some}
+use lib.ListN.{get_elem?}
+use Rattle.jack_types.specs.declared.ports.Link.{Link}
+use Rattle.session_model.specs.Activation.{link_at, place_among}
+use Rattle.activation.specs.declared.views.Desk.{Desk}
+use Rattle.activation.specs.declared.views.Item.{Item}
+use Rattle.activation.specs.declared.views.Item.TheVariants.{Bench, Value}
+
+module _ {B Y : Type 0} where
+  abbrev pub BenchAt : List (Option (Item B Y)) → ℕ → Desk B Y → Type 0
+  BenchAt items n desk = get_elem? items n ≡ some (Some (Bench desk))
+
+  pub record AreSpent (has_room : B → ℕ → Bool) (links : List Link) (nodes : ℕ) (items : List (Option (Item B Y))) : Type 0 where
+    pub benches : (n : ℕ) → n < nodes → (desk : Desk B Y) × BenchAt items n desk
+    pub rooms : (l : ℕ) (desk : Desk B Y) → l < length links → BenchAt items (link_at links l).from desk → has_room desk.bench (place_among links l) ≡ false
+    pub values : (l : ℕ) → l < length links → (value : Y) × (get_elem? items (nodes + l) ≡ some (Some (Value value)))
+
+  -- the bench keeps its memory and the room for what it is given, and has room at the places of all its links
+  pub record IsBack {M : Type 0} (memory : B → M) (has_room : B → ℕ → Bool) (links : List Link) (n : ℕ) (old new : Desk B Y) : Type 0 where
+    pub given : new.given ≡ old.given
+    pub memory_stays : memory new.bench ≡ memory old.bench
+    pub places : (l : ℕ) → l < length links → (link_at links l).from ≡ n → has_room new.bench (place_among links l) ≡ true
+    pub others : (place : ℕ) → ((l : ℕ) → l < length links → (link_at links l).from ≡ n → place_among links l ≢ place) → has_room new.bench place ≡ has_room old.bench place
+
+  abbrev pub AreBack : {M : Type 0} → (B → M) → (B → ℕ → Bool) → List Link → ℕ → List (Option (Item B Y)) → List (Option (Item B Y)) → Type 0
+  AreBack memory has_room links nodes old new =
+      (n : ℕ) (before : Desk B Y) → n < nodes → BenchAt old n before → (desk : Desk B Y) × BenchAt new n desk × IsBack memory has_room links n before desk
