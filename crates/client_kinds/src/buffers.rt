@@ -60,8 +60,8 @@ pub(crate) fn fill_silent(ports: Shape, output: &mut [i32])
     fill_silence(output);
 }
 
-/// Copies the first buffer to all places.
-pub(crate) fn repeat_first(ports: Shape, output: &mut [i32])
+/// Copies the first buffer to all places. A guest plays the same on all its outputs.
+pub fn repeat_first(ports: Shape, output: &mut [i32])
     requires { length output.old ≡ ports.outputs * ports.period }
     ensures { buffers_of ports.outputs ports.period output.new ≡ replicate ports.outputs (take ports.period output.old) }
 {

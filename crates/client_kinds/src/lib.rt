@@ -1,4 +1,4 @@
-//! What each kind of client plays, and what the program's guests play.
+//! What each kind of client plays.
 #![tactic(auto)]
 
 mod benches;
@@ -11,4 +11,5 @@ mod sounds;
 mod voices;
 
 pub use benches::{Bench, Health};
+pub use buffers::repeat_first;
 pub use guests::{Guest, Shape};

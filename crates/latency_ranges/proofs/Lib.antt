@@ -1,5 +1,6 @@
 mod DepthLemmas
 mod JoinLemmas
 mod PortLemmas
+mod RowLemmas
 mod SweepLemmas
 mod WiringLemmas

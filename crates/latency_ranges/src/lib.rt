@@ -5,6 +5,8 @@ mod joins;
 mod latencies;
 mod passes;
 mod sides;
+#[cfg(test)]
+mod tests;
 
 pub use jack_types::{Delay, Mode};
 pub use latencies::ranges;

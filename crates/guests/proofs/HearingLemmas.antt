@@ -1,0 +1,47 @@
+-- What a guest hears, and what it plays on all its outputs.
+--     none_heard, first_heard      no input, and the first one
+--     heard-is      the samples of a period, one by one
+--     fill_more      one frame more
+--     front      what stands in front
+--     played-all      the same on all outputs
+use Rattle.std.proofs.Common.{◌≡◌, ℕ, zero, suc, ◌+◌, ◌-◌, ◌*◌, ◌<◌, ◌≤◌, List, [], ◌++◌, length, take, drop, replicate, ℤ, pos, refl, sym, ◌∙◌, ap, ap₂, subst, arith}
+use Rattle.std.proofs.Math.Seq.{take-append_seam}
+use Rattle.std.proofs.lemmas.List.{length-replicate, take_all}
+use Rattle.session_model.specs.Kinds.{input_at}
+use Rattle.session_model.specs.Samples.{below, sample}
+use Rattle.session_laws.proofs.PlaceLemmas.{map-same, sample-silence}
+use Rattle.client_kinds.specs.Buffers.{buffers_of}
+use Rattle.client_kinds.proofs.BufferLemmas.{buffer_past, buffer_within, length-buffer, place_within}
+pub use Rattle.client_kinds.proofs.FillLemmas.{fill_more}
+use Rattle.client_kinds.proofs.LineLemmas.{take_below}
+use Rattle.guests.specs.Turns.{SoundsAs, heard}
+
+pub none_heard : (inputs period : ℕ) (input : List ℤ) → inputs ≡ 0 → SoundsAs [] (input_at period (buffers_of inputs period input) 0)
+none_heard inputs period input none i = sample-silence period i ∙ ap (λ x. sample x i) (sym (buffer_past 0 inputs period input (omega (arith, none))))
+
+pub first_heard : (inputs period : ℕ) (input : List ℤ) → 0 < inputs → take period input ≡ input_at period (buffers_of inputs period input) 0
+first_heard inputs period input some = ap₂ (λ (a b : ℕ). take b (drop a input)) (start period) (size period) ∙ sym (buffer_within 0 inputs period input some)
+  where
+    start : (p : ℕ) → 0 ≡ 0 * p
+    start p = omega arith
+
+    size : (p : ℕ) → p ≡ 0 * p + p - 0 * p
+    size p = omega arith
+
+pub length_heard : (inputs period : ℕ) (input : List ℤ) → length input ≡ inputs * period → length (input_at period (buffers_of inputs period input) 0) ≡ period
+length_heard zero period input lengths = length-replicate period (pos 0)
+length_heard (suc inputs) period input lengths =
+    ap length (buffer_within 0 (suc inputs) period input (omega arith)) ∙ length-buffer 0 (suc inputs) period input lengths (omega arith)
+
+pub heard-is : (period : ℕ) (x sound : List ℤ) → SoundsAs x sound → length sound ≡ period → heard period x ≡ sound
+heard-is period x sound same size =
+    map-same (λ i. sample x i) (λ i. sample sound i) (below period) same ∙ take_below period sound (omega (arith, size)) ∙ take_all period sound (omega (arith, size))
+
+pub front : (n : ℕ) (xs ys : List ℤ) → length xs ≡ n → take n (xs ++ ys) ≡ xs
+front n xs ys h = subst (λ m. take m (xs ++ ys) ≡ xs) h (take-append_seam xs ys)
+
+-- the same on all outputs
+pub played-all : (outputs period : ℕ) (output sound : List ℤ) → length output ≡ outputs * period → (period ≤ length output → take period output ≡ sound) → replicate outputs (take period output) ≡ replicate outputs sound
+played-all zero period output sound size played = refl
+played-all (suc outputs) period output sound size played =
+    ap (replicate (suc outputs)) (played (omega (arith, size, place_within 0 (suc outputs) period (omega arith))))

@@ -1,0 +1,4 @@
+mod EchoLemmas
+mod FilterLemmas
+mod HearingLemmas
+mod NumberLemmas

@@ -1,0 +1,17 @@
+//! The guests that the program hands in: an echo, a filter, one that holds a sample, and one that fails.
+#![tactic(auto)]
+
+mod echo;
+mod fail;
+mod fir;
+mod hearing;
+mod hold;
+#[cfg(test)]
+mod kinds;
+#[cfg(test)]
+mod tests;
+
+pub use echo::EchoGuest;
+pub use fail::FailGuest;
+pub use fir::FirGuest;
+pub use hold::HoldGuest;
