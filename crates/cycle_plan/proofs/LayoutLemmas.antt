@@ -2,7 +2,7 @@
 --     IsPermutation-ordered      the order takes nobody away, and adds nobody
 --     AreLinks-laid_out      where direct edges form no loop, the links are distinct and go upward
 --     joins_edges      the links are those of the direct edges between nodes, and no others
-use Rattle.std.proofs.Common.{◌≡◌, ◌≢◌, ℕ, zero, suc, ◌+◌, ◌<◌, Bool, true, false, cond, ◌&&◌, ◌||◌, ◌==◌, ◌↔◌, ◌⊎◌, inl, inr, List, [], ◌∷◌, ◌++◌, length, filter, filter_map, fold, position, get_or, All, Contains, IsPermutation, Option, Some, None, refl, sym, ◌∙◌, ap, ap₂, subst, arith, true≢false, eq-eqb, eqb-true, append-nil, append_assoc}
+use Rattle.std.proofs.Common.{◌≡◌, ℕ, zero, suc, ◌<◌, Bool, true, false, cond, ◌||◌, ◌==◌, ◌↔◌, ◌⊎◌, inl, inr, List, [], ◌∷◌, ◌++◌, length, filter, filter_map, fold, get_or, Contains, IsPermutation, Option, Some, None, refl, sym, ◌∙◌, ap, ap₂, subst, arith, true≢false, eq-eqb, eqb-true, append-nil, append_assoc}
 use Rattle.std.specs.List.{cons_option, list_any}
 use Rattle.std.proofs.lemmas.Bool.{cases_order}
 use Rattle.std.proofs.lemmas.List.{get_or_default}
@@ -16,7 +16,7 @@ use Rattle.jack_types.specs.declared.ports.Node.TheVariants.{Capture, Playback, 
 use Rattle.jack_types.specs.declared.ports.Port.{Port}
 use Rattle.session_model.specs.Activation.{AreLinks}
 use Rattle.session_model.specs.Ids.{node_links, node_with, same_id_node}
-use Rattle.session_model.specs.Loops.{IsPath, Leads, leads}
+use Rattle.session_model.specs.Loops.{IsPath, Leads}
 use Rattle.session_model.specs.Soundness.{Apart}
 use Rattle.session_model.specs.State.{is_direct}
 use Rattle.session_laws.proofs.LoopLemmas.{Contains-first, Contains-later, Contains-cases, IsPath-append, and_parts, and_true, or_cases, or_left, or_right, leads-is_Leads}

@@ -5,7 +5,7 @@
 --     laid_out clients ports edges      the nodes and the links of a graph
 --     JoinsEdges ports nodes edges links      the links are those of the direct edges between nodes, and no others
 --     CanLayOut clients ports edges      what it takes to lay out a graph
-use Rattle.std.specs.Prelude.{◌≡◌, ℕ, ◌+◌, ◌<◌, ◌≤◌, Bool, true, false, not, ◌&&◌, ◌==◌, ◌↔◌, Contains, List, [], ◌∷◌, ◌++◌, length, filter, filter_map, fold, position, All, Option, Some, None, if◌then◌else◌}
+use Rattle.std.specs.Prelude.{◌≡◌, ℕ, ◌≤◌, Bool, not, ◌&&◌, ◌==◌, ◌↔◌, Contains, List, [], ◌∷◌, ◌++◌, length, filter, filter_map, fold, position, All, Option, Some, None, if◌then◌else◌}
 use Rattle.std.specs.List.{list_any}
 use Rattle.jack_types.specs.declared.ports.Client.{Client}
 use Rattle.jack_types.specs.declared.ports.Edge.{Edge}

@@ -1,2 +1,5 @@
+pub mod Graphs
 pub mod Layouts
+pub mod Masters
+pub mod Rewiring
 pub mod Searching
