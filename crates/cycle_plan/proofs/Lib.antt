@@ -1,9 +1,12 @@
+mod ByNameLemmas
 mod EffectLemmas
 mod EndLemmas
+mod KindLemmas
 pub mod LayoutLemmas
 mod MovedLemmas
 pub mod NetworkLemmas
 mod NodeLemmas
+mod PlannedLemmas
 mod RoomLemmas
 mod TableLemmas
 mod TestLemmas

@@ -3,7 +3,7 @@
 --     at_client      a port is at a client's node exactly where its name says so
 --     AreAmong-network, AreNamed-network, StandsFor-network      what the calls on edges ask for
 use Rattle.std.proofs.Common.{◌≡◌, ℕ, ◌+◌, ◌<◌, ◌≤◌, Bool, true, false, cond, ◌&&◌, ◌==◌, ◌⊎◌, inl, inr, List, [], ◌∷◌, find, Contains, Option, Some, None, is_none, is_some, refl, sym, ◌∙◌, ap, ap₂, subst, arith, true≢false, eq-eqb, eqb-true}
-use Rattle.std.specs.Option.{option_map}
+use Rattle.std.specs.Option.{option_map, option_map_or}
 use Rattle.std.specs.Str.{bytes_eq}
 use Rattle.jack_types.specs.Names.{client_part}
 use Rattle.jack_types.specs.declared.ports.Client.{Client}
@@ -18,8 +18,9 @@ use Rattle.jack_types.specs.declared.replies.Refusal.TheVariants.{IsSystem, NoCl
 use Rattle.session_model.specs.Commands.{applies, refusal}
 use Rattle.session_model.specs.Ids.{open_port, same_id_node, way_of}
 use Rattle.session_model.specs.Soundness.{Apart}
-use Rattle.session_model.specs.State.{NamedNode, CaptureNode, PlaybackNode, ClientNode as NamedClient, OpenClient, OpenPort, client_named, is_system, same_node}
-use Rattle.session_laws.proofs.CycleLemmas.{bytes_same}
+use Rattle.session_model.specs.Transport.{active_master}
+use Rattle.session_model.specs.State.{Master, is_active_in, NamedNode, CaptureNode, PlaybackNode, ClientNode as NamedClient, OpenClient, OpenPort, client_named, is_system, same_node}
+use Rattle.session_laws.proofs.CycleLemmas.{bytes_same, find-contains, find-passes}
 use Rattle.session_laws.proofs.ListLemmas.{Each-from_contains}
 use Rattle.session_laws.proofs.SerialLossLemmas.{All-from_each}
 use Rattle.session_laws.proofs.LoopLemmas.{Contains-first, Contains-later, Contains-cases}
@@ -27,8 +28,9 @@ use Rattle.session_laws.proofs.SoundLemmas.{Apart-same}
 use Rattle.connection_set.specs.Connections.{IsIdOf, StandsFor}
 use Rattle.feedback_edges.specs.Marking.{AreAmong, AreNamed, IsEndOf, IsNode, named_node, node_by_name}
 use Rattle.port_registry.proofs.FilterLemmas.{find-map_after}
-use Rattle.port_registry.specs.Registered.{IsPlaced, IsRegistered, Registered, client_by, is_of, node_for, open_client, open_clients, port_by, system_node}
-use Rattle.cycle_plan.specs.Graphs.{HaveEnds, Network, state_of}
+use Rattle.port_registry.proofs.RegisteredLemmas.{find_none-fresh}
+use Rattle.port_registry.specs.Registered.{IsPlaced, IsRegistered, Registered, client_by, is_of, node_for, open_client, open_clients, port_by, system_node, has_name}
+use Rattle.cycle_plan.specs.Graphs.{HaveEnds, Network, state_of, numbers_of}
 use lib.Pointwise.{bytes_decides}
 
 -- a test that is not passed fails
@@ -50,7 +52,7 @@ module _ (held : Registered) (r : IsRegistered held) where
   client-same_id a b p q e = Apart-same (λ (c : Client). c.id.0) held.clients a b r.client_ids p q e
 
   -- two clients have one id exactly where they have one name
-  id-name : (a b : Client) → Contains held.clients a → Contains held.clients b → (a.id.0 == b.id.0) ≡ bytes_eq a.name b.name
+  pub id-name : (a b : Client) → Contains held.clients a → Contains held.clients b → (a.id.0 == b.id.0) ≡ bytes_eq a.name b.name
   id-name a b p q = bool-same (a.id.0 == b.id.0) (bytes_eq a.name b.name)
       (λ t. (bytes_decides a.name b.name).1 (ap (λ (c : Client). c.name) (client-same_id a b p q (eqb-true a.id.0 b.id.0 t))))
       (λ t. eq-eqb a.id.0 b.id.0 (ap (λ (c : Client). c.id.0) (client-same_name a b p q (bytes_same a.name b.name t))))
@@ -228,3 +230,30 @@ pub refusal-no_port : (network : Network) (name : List ℕ) → port_by network.
 refusal-no_port network name none =
     ap (λ o. cond (is_none o) (Some NoPort) (find (applies (state_of network) (Unregister name)) (IsSystem ∷ [])))
     (find-map_after open_port (λ (port : OpenPort). bytes_eq port.name name) network.held.ports ∙ ap (option_map open_port) none)
+
+-- whether a client is active, by the registry
+pub active-is : (network : Network) → IsRegistered network.held → (name : List ℕ) → is_active_in (state_of network) name ≡ option_map_or (λ (client : Client). client.active) (client_by network.held name) false
+active-is network r name = go (client_by network.held name) refl
+  where
+    none-there : (clients : List Client) → ((client : Client) → Contains clients client → bytes_eq client.name name ≡ false) → is_some (find (λ (c : OpenClient). bytes_eq c.name name && c.active) (open_clients clients)) ≡ false
+    none-there [] f = refl
+    none-there (client ∷ clients) f =
+        ap (λ b. is_some (cond (b && client.active) (Some (open_client client)) (find (λ (c : OpenClient). bytes_eq c.name name && c.active) (open_clients clients)))) (f client (Contains-first client clients))
+        ∙ none-there clients (λ c m. f c (Contains-later client c clients m))
+
+    go : (o : Option Client) → client_by network.held name ≡ o → is_active_in (state_of network) name ≡ option_map_or (λ (client : Client). client.active) o false
+    go None e = none-there network.held.clients (λ client m. fails (bytes_eq client.name name) (λ t. find_none-fresh (has_name name) network.held.clients client e m t))
+    go (Some client) e =
+        ap (λ n. is_active_in (state_of network) n) (sym (bytes_same client.name name (find-passes (has_name name) network.held.clients client e)))
+        ∙ active-named network.held r network.held.clients client r.client_names (find-contains (has_name name) network.held.clients client e)
+
+pub active-numbers : (network : Network) → IsRegistered network.held → (held : Master) → network.master ≡ Some held
+    → numbers_of (active_master (state_of network)) ≡ cond (option_map_or (λ (client : Client). client.active) (client_by network.held held.client) false) (Some (held.mbpm, held.beats, held.ticks)) None
+active-numbers network r held e =
+    ap (λ (m : Option Master). numbers_of (active_master (record (state_of network) { master = m }))) e
+    ∙ go (is_active_in (state_of network) held.client)
+    ∙ ap (λ b. cond b (Some (held.mbpm, held.beats, held.ticks)) None) (active-is network r held.client)
+  where
+    go : (b : Bool) → numbers_of (cond b (Some held) None) ≡ cond b (Some (held.mbpm, held.beats, held.ticks)) None
+    go true = refl
+    go false = refl

@@ -4,8 +4,10 @@
 --     HaveEnds ports edges      each edge goes from an output to an input of the list
 --     IsNetwork network      what is true of every graph
 --     HasTempo command      a new master's numbers are a tempo
+--     numbers_of master, tempo_numbers tempo      the numbers of a master and of a tempo
 --     IsApplied before number command result behind      a command was answered by the definitions, and made of the network what they say
 use Rattle.std.specs.Prelude.{◌≡◌, ℕ, ◌≤◌, ⊤, List, Contains, Option, OnErr, Result, filter, length}
+use Rattle.std.specs.Option.{option_map}
 use Rattle.jack_types.specs.declared.commands.Command.{Command}
 use Rattle.jack_types.specs.declared.commands.Command.TheVariants.{Timebase, TimebaseIf}
 use Rattle.jack_types.specs.declared.ports.Edge.{Edge}
@@ -16,6 +18,7 @@ use Rattle.session_model.specs.Commands.{after, refusal}
 use Rattle.session_model.specs.Grammar.{IsTempo}
 use Rattle.session_model.specs.Ids.{connections, open_ports}
 use Rattle.session_model.specs.State.{Master, State, system_name}
+use Rattle.tempo_map.specs.declared.tempos.Tempo.{Tempo}
 use Rattle.connection_set.specs.Connections.{ConnectionSet}
 use Rattle.feedback_edges.specs.Marking.{IsEndOf}
 use Rattle.port_registry.specs.Answers.{AnswersExactly}
@@ -63,3 +66,11 @@ pub record IsApplied {T : Type 0} (before : Network) (number : ℕ) (command : C
   pub answer : AnswersExactly (refusal (state_of before) command) result
   pub effect : state_of behind ≡ after (state_of before) number command
   pub same : OnErr result (behind ≡ before)
+
+-- the numbers of a master
+abbrev pub numbers_of : Option Master → Option (ℕ × ℕ × ℕ)
+numbers_of master = option_map (λ (held : Master). (held.mbpm, held.beats, held.ticks)) master
+
+-- and of a tempo
+abbrev pub tempo_numbers : Option Tempo → Option (ℕ × ℕ × ℕ)
+tempo_numbers tempo = option_map (λ (numbers : Tempo). (numbers.mbpm, numbers.beats, numbers.ticks)) tempo

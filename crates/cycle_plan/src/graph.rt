@@ -1,6 +1,6 @@
 //! A graph as commands change it.
 
-ghost use Rattle.std.specs.Prelude.{◌≡◌, ◌≤◌, IfOk, IsTrue, OnErr};
+ghost use Rattle.std.specs.Prelude.{◌≡◌, ◌≤◌, IfOk, IsTrue, OnErr, length};
 ghost use Rattle.session_model.specs.Commands.{after, refusal};
 ghost use Rattle.session_model.specs.Replies.{is_change};
 ghost use Rattle.session_model.specs.State.{opening};
@@ -150,6 +150,7 @@ impl Graph {
     /// The connections, in order of making.
     pub fn edges(&self) -> &[Edge]
         ensures value { result.now ≡ self.now.set.edges }
+        ensures few { length self.now.set.edges ≤ 512 }
         ensures network { IsNetwork self.now }
     {
         self.connections.edges()

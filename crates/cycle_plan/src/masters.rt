@@ -4,7 +4,8 @@ ghost use Rattle.std.specs.Prelude.{◌≡◌, ℕ};
 ghost use Rattle.std.specs.Option.{option_map};
 ghost use Rattle.jack_types.specs.declared.commands.Command.TheVariants.{Release, Timebase, TimebaseIf, Timeout};
 ghost use Rattle.session_model.specs.Commands.{master_without};
-ghost use Rattle.cycle_plan.specs.Graphs.{IsApplied};
+ghost use Rattle.session_model.specs.Transport.{active_master};
+ghost use Rattle.cycle_plan.specs.Graphs.{IsApplied, numbers_of, state_of, tempo_numbers};
 ghost use Rattle.cycle_plan.specs.Masters.{is_led_by as is_led_in, master_of};
 
 use crate::graph::Graph;
@@ -93,5 +94,23 @@ impl Graph {
     {
         self.timeout = Some(cycles);
         Ok(())
+    }
+
+    /// The tempo of the master, where there is one and it is active.
+    pub(crate) fn active_tempo(&self) -> Option<Tempo>
+        ensures { tempo_numbers result ≡ numbers_of (active_master (state_of self.now)) }
+    {
+        let Some(held) = &self.master else {
+            return None;
+        };
+        let client = match self.registry.client(&held.client) {
+            Some(client) => client,
+            None => return None,
+        };
+        if client.active {
+            Some(held.tempo)
+        } else {
+            None
+        }
     }
 }
