@@ -2,6 +2,7 @@ mod ByNameLemmas
 mod EffectLemmas
 mod EndLemmas
 mod KindLemmas
+pub mod LawfulLemmas
 pub mod LayoutLemmas
 mod MovedLemmas
 pub mod NetworkLemmas

@@ -1,4 +1,4 @@
-use crate::{Graph, Layout};
+use crate::{Graph, Layout, Plan};
 use jack_types::{ClientName, Command, Kind, Mark, PortKind, PortName, Refusal, Way};
 use std::process::Abort;
 use std::test::Fail;
@@ -337,5 +337,18 @@ fn a_graph_of_nobody_has_no_nodes(rt: HostRuntime) -> Result<(), Fail> {
     layout.fill(&[], &[], &[]);
     assert_eq!(rt; layout.nodes().len(), 0);
     assert_eq!(rt; layout.links().len(), 0);
+    Ok(())
+}
+
+#[test]
+fn a_plan_of_no_changes_has_the_ports_of_the_device(rt: HostRuntime) -> Result<(), Fail> {
+    let mut plan = Plan::new(rt.alloc(), 2, 1)?;
+    plan.fill(&[]);
+    assert_eq!(rt; plan.number(), 0);
+    assert_eq!(rt; plan.ports().len(), 3);
+    assert_eq!(rt; plan.nodes().len(), 0);
+    assert_eq!(rt; plan.links().len(), 0);
+    assert!(rt; plan.master().is_none());
+    assert_eq!(rt; plan.timeout(), None);
     Ok(())
 }
