@@ -2,7 +2,7 @@
 --     IsPermutation-ordered      the order takes nobody away, and adds nobody
 --     AreLinks-laid_out      where direct edges form no loop, the links are distinct and go upward
 --     joins_edges      the links are those of the direct edges between nodes, and no others
-use Rattle.std.proofs.Common.{◌≡◌, ◌≢◌, ℕ, zero, suc, ◌+◌, ◌<◌, Bool, true, false, cond, ◌&&◌, ◌||◌, ◌==◌, ◌↔◌, ◌⊎◌, inl, inr, List, [], ◌∷◌, ◌++◌, length, filter, filter_map, fold, position, get_or, All, Contains, IsPermutation, Option, Some, None, refl, sym, ◌∙◌, ap, ap₂, subst, arith, true≢false, eq-eqb, eqb-true, append-nil, append_assoc}
+use Rattle.std.proofs.Common.{◌≡◌, ℕ, zero, suc, ◌<◌, Bool, true, false, cond, ◌||◌, ◌==◌, ◌↔◌, ◌⊎◌, inl, inr, List, [], ◌∷◌, ◌++◌, length, filter, filter_map, fold, get_or, Contains, IsPermutation, Option, Some, None, refl, sym, ◌∙◌, ap, ap₂, subst, arith, true≢false, eq-eqb, eqb-true, append-nil, append_assoc}
 use Rattle.std.specs.List.{cons_option, list_any}
 use Rattle.std.proofs.lemmas.Bool.{cases_order}
 use Rattle.std.proofs.lemmas.List.{get_or_default}
@@ -16,7 +16,7 @@ use Rattle.jack_types.specs.declared.ports.Node.TheVariants.{Capture, Playback, 
 use Rattle.jack_types.specs.declared.ports.Port.{Port}
 use Rattle.session_model.specs.Activation.{AreLinks}
 use Rattle.session_model.specs.Ids.{node_links, node_with, same_id_node}
-use Rattle.session_model.specs.Loops.{IsPath, Leads, leads}
+use Rattle.session_model.specs.Loops.{IsPath, Leads}
 use Rattle.session_model.specs.Soundness.{Apart}
 use Rattle.session_model.specs.State.{is_direct}
 use Rattle.session_laws.proofs.LoopLemmas.{Contains-first, Contains-later, Contains-cases, IsPath-append, and_parts, and_true, or_cases, or_left, or_right, leads-is_Leads}
@@ -31,8 +31,8 @@ use Rattle.cycle_plan.proofs.NodeLemmas.{no_client}
 none_below : {n : ℕ} → n < 0 → ⊥
 none_below p = omega arith
 
-module _ (lead : Client → Client → Bool) where
-  with-permuted : (client : Client) (nodes : List Client) → IsPermutation (client ∷ nodes) (with_node lead client nodes)
+module _ {Y : Type 0} (lead : Y → Y → Bool) where
+  with-permuted : (client : Y) (nodes : List Y) → IsPermutation (client ∷ nodes) (with_node lead client nodes)
   with-permuted client [] = IsPermutation-refl (client ∷ [])
   with-permuted client (node ∷ nodes) = go (lead client node) (with-permuted client nodes)
     where
@@ -43,20 +43,20 @@ module _ (lead : Client → Client → Bool) where
       go true rest = IsPermutation-refl (client ∷ node ∷ nodes)
       go false rest = IsPermutation-trans (client ∷ node ∷ nodes) (node ∷ client ∷ nodes) (node ∷ with_node lead client nodes) swapped (IsPermutation-cons node (client ∷ nodes) (with_node lead client nodes) rest)
 
-  fold-permuted : (done nodes clients : List Client) → IsPermutation done nodes → IsPermutation (done ++ clients) (fold (λ ns client. with_node lead client ns) nodes clients)
+  fold-permuted : (done nodes clients : List Y) → IsPermutation done nodes → IsPermutation (done ++ clients) (fold (λ ns client. with_node lead client ns) nodes clients)
   fold-permuted done nodes [] h = subst (λ xs. IsPermutation xs nodes) (sym (append-nil done)) h
   fold-permuted done nodes (client ∷ clients) h =
       subst (λ xs. IsPermutation xs (fold (λ ns c. with_node lead c ns) (with_node lead client nodes) clients)) (append_assoc done (client ∷ []) clients)
       (fold-permuted (done ++ client ∷ []) (with_node lead client nodes) clients (IsPermutation-push_more done nodes (with_node lead client nodes) client h (with-permuted client nodes)))
 
-  pub IsPermutation-ordered : (clients : List Client) → IsPermutation clients (ordered lead clients)
+  pub IsPermutation-ordered : (clients : List Y) → IsPermutation clients (ordered lead clients)
   IsPermutation-ordered clients = fold-permuted [] [] clients (IsPermutation-refl [])
 
   -- nobody leads to one before it
-  abbrev Before : Client → Client → Type 0
+  abbrev Before : Y → Y → Type 0
   Before a b = lead b a ≡ false
 
-  Each-with_node : (P : Client → Type 0) (client : Client) (nodes : List Client) → P client → Each P nodes → Each P (with_node lead client nodes)
+  Each-with_node : (P : Y → Type 0) (client : Y) (nodes : List Y) → P client → Each P nodes → Each P (with_node lead client nodes)
   Each-with_node P client [] p h = (p, tt)
   Each-with_node P client (node ∷ nodes) p h = go (lead client node) (Each-with_node P client nodes p h.1)
     where
@@ -64,8 +64,8 @@ module _ (lead : Client → Client → Bool) where
       go true rest = (p, h)
       go false rest = (h.0, rest)
 
-  module _ (through : (a b c : Client) → lead a b ≡ true → lead b c ≡ true → lead a c ≡ true) where
-    Ordered-with_node : (client : Client) (nodes : List Client) → Ordered Before nodes → ((node : Client) → Contains nodes node → lead client node ≡ true → lead node client ≡ false) → Ordered Before (with_node lead client nodes)
+  module _ (through : (a b c : Y) → lead a b ≡ true → lead b c ≡ true → lead a c ≡ true) where
+    Ordered-with_node : (client : Y) (nodes : List Y) → Ordered Before nodes → ((node : Y) → Contains nodes node → lead client node ≡ true → lead node client ≡ false) → Ordered Before (with_node lead client nodes)
     Ordered-with_node client [] h one_way = (tt, tt)
     Ordered-with_node client (node ∷ nodes) h one_way = go (lead client node) refl (Ordered-with_node client nodes h.1 (λ n m. one_way n (Contains-later node n nodes m)))
       where
@@ -73,7 +73,7 @@ module _ (lead : Client → Client → Bool) where
         not-true true f = absurd (f refl)
         not-true false f = refl
 
-        later : lead client node ≡ true → (other : Client) → Contains nodes other → lead other client ≡ false
+        later : lead client node ≡ true → (other : Y) → Contains nodes other → lead other client ≡ false
         later e other m = not-true (lead other client) (λ t. true≢false (sym (through other client node t e) ∙ Each-contains (λ b. lead b node ≡ false) nodes other h.0 m))
 
         go : (b : Bool) → lead client node ≡ b → Ordered Before (with_node lead client nodes) → Ordered Before (cond b (client ∷ node ∷ nodes) (node ∷ with_node lead client nodes))
@@ -81,14 +81,14 @@ module _ (lead : Client → Client → Bool) where
         go false e rest = (Each-with_node (λ b. lead b node ≡ false) client nodes e h.0, rest)
 
     -- clients of which no two lead to each other
-    abbrev OneWay : List Client → List Client → Type 0
-    OneWay nodes clients = (node client : Client) → Contains nodes node → Contains clients client → lead client node ≡ true → lead node client ≡ false
+    abbrev OneWay : List Y → List Y → Type 0
+    OneWay nodes clients = (node client : Y) → Contains nodes node → Contains clients client → lead client node ≡ true → lead node client ≡ false
 
-    Contains-with_node : (client : Client) (nodes : List Client) (x : Client) → Contains (with_node lead client nodes) x → (client ≡ x) ⊎ Contains nodes x
+    Contains-with_node : (client : Y) (nodes : List Y) (x : Y) → Contains (with_node lead client nodes) x → (client ≡ x) ⊎ Contains nodes x
     Contains-with_node client nodes x m = Each-contains (λ y. (client ≡ y) ⊎ Contains nodes y) (with_node lead client nodes) x
         (Each-with_node (λ y. (client ≡ y) ⊎ Contains nodes y) client nodes (inl refl) (Each-from_contains (λ y. (client ≡ y) ⊎ Contains nodes y) nodes (λ y k. inr k))) m
 
-    fold-ordered : (nodes clients : List Client) → Ordered Before nodes → OneWay nodes clients → Ordered (λ a b. lead b a ≡ true → lead a b ≡ false) clients
+    fold-ordered : (nodes clients : List Y) → Ordered Before nodes → OneWay nodes clients → Ordered (λ a b. lead b a ≡ true → lead a b ≡ false) clients
         → Ordered Before (fold (λ ns client. with_node lead client ns) nodes clients)
     fold-ordered nodes [] h one_way pairs = h
     fold-ordered nodes (client ∷ clients) h one_way pairs =
@@ -97,13 +97,13 @@ module _ (lead : Client → Client → Bool) where
         (λ node other m k e. go node other k e (Contains-with_node client nodes node m))
         pairs.1
       where
-        go : (node other : Client) → Contains clients other → lead other node ≡ true → (client ≡ node) ⊎ Contains nodes node → lead node other ≡ false
+        go : (node other : Y) → Contains clients other → lead other node ≡ true → (client ≡ node) ⊎ Contains nodes node → lead node other ≡ false
         go node other k e (inl same) =
             let first : lead other client ≡ true → lead client other ≡ false = Each-contains (λ b. lead b client ≡ true → lead client b ≡ false) clients other pairs.0 k in
             subst (λ x. lead other x ≡ true → lead x other ≡ false) same first e
         go node other k e (inr m) = one_way node other m (Contains-later client other clients k) e
 
-    pub Ordered-ordered : (clients : List Client) → Ordered (λ a b. lead b a ≡ true → lead a b ≡ false) clients → Ordered Before (ordered lead clients)
+    pub Ordered-ordered : (clients : List Y) → Ordered (λ a b. lead b a ≡ true → lead a b ≡ false) clients → Ordered Before (ordered lead clients)
     Ordered-ordered clients pairs = fold-ordered [] clients tt (λ node client m k e. absurd (none_below m.1)) pairs
 
 Ordered-at : {X : Type 0} (R : X → X → Type 0) (xs : List X) (i j : ℕ) (d : X) → Ordered R xs → i < j → j < length xs → R (get_or xs i d) (get_or xs j d)

@@ -1,4 +1,13 @@
+mod ByNameLemmas
+mod EffectLemmas
+mod EndLemmas
+mod KindLemmas
+pub mod LawfulLemmas
 pub mod LayoutLemmas
+mod MovedLemmas
+pub mod NetworkLemmas
 mod NodeLemmas
+mod PlannedLemmas
+mod RoomLemmas
 mod TableLemmas
 mod TestLemmas

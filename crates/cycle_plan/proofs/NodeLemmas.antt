@@ -1,5 +1,5 @@
 -- Steps of the loops that lay out a graph.
-use Rattle.std.proofs.Common.{add-zero, append-nil, eqb, inl, inr, is_some, not, get_or-set_same, get_or-set_other, length-take-le, nat_lt, position, set, ◌⊎◌, ◌≡◌, ℕ, zero, suc, ◌+◌, ◌<◌, ◌≤◌, Bool, true, false, cond, ◌==◌, ◌↔◌, List, [], ◌∷◌, ◌++◌, length, map, filter, filter_map, insert, get_or, take, All, Contains, Option, Some, None, refl, sym, ◌∙◌, ap, ap₂, subst, arith, true≢false, eq-eqb, eqb-true}
+use Rattle.std.proofs.Common.{add-zero, append-nil, eqb, inl, inr, is_some, not, get_or-set_same, get_or-set_other, length-take-le, nat_lt, position, set, ◌⊎◌, ◌≡◌, ℕ, suc, ◌+◌, ◌<◌, ◌≤◌, Bool, true, false, cond, ◌==◌, ◌↔◌, List, [], ◌∷◌, ◌++◌, length, filter, filter_map, insert, get_or, take, All, Option, Some, None, refl, sym, ◌∙◌, ap, subst, arith, true≢false, eq-eqb, eqb-true}
 use Rattle.std.specs.List.{cons_option, list_any, position_or_len}
 use Rattle.std.specs.Option.{option_map_or}
 use Rattle.std.proofs.lemmas.Bool.{cases_eq, cases_lt}

@@ -1,10 +1,6 @@
 -- Paths over the numbers of nodes are paths over the nodes.
-use Rattle.std.proofs.Common.{replicate, IsTrue, ◌↔◌, ◌≡◌, ℕ, suc, ◌+◌, ◌<◌, Bool, true, false, cond, ◌==◌, ◌⊎◌, inl, inr, List, [], ◌∷◌, length, map, filter, find, set, get_or, drop, All, Contains, Some, refl, sym, ◌∙◌, ap, ap₂, subst, arith, true≢false, eq-eqb, eqb-true, get_or-set_same, get_or-set_other, add-one}
-use Rattle.std.specs.Option.{option_map_or}
-use Rattle.std.proofs.Math.Seq.{drop-cons}
-use Rattle.std.proofs.lemmas.Bool.{cases_eq}
-use Rattle.std.proofs.lemmas.List.{get_or_default, get_or-replicate, drop_all}
-use Rattle.std.proofs.lemmas.List.Elements.{All-replicate}
+use Rattle.std.proofs.Common.{◌≡◌, ℕ, ◌<◌, List, [], ◌∷◌, map, filter, get_or, All, Contains, refl, sym, ◌∙◌, ap, ap₂, subst, arith, eqb-true}
+use Rattle.std.proofs.lemmas.List.{get_or_default}
 use Rattle.jack_types.specs.declared.ports.Edge.{Edge}
 use Rattle.jack_types.specs.declared.ports.Node.{Node}
 use Rattle.jack_types.specs.declared.ports.Node.TheVariants.{Capture, Playback, Client}
@@ -18,7 +14,7 @@ use Rattle.session_laws.proofs.PlaceLemmas.{map-after}
 use Rattle.session_laws.proofs.CycleLemmas.{map_filter-same}
 use Rattle.connection_set.specs.Connections.{IsIdOf}
 use Rattle.feedback_edges.specs.Marking.{node_number, AreAmong}
-use Rattle.feedback_edges.specs.Search.{number_with, IsTable, link_by, number_links}
+use Rattle.feedback_edges.specs.Search.{IsTable, link_by, number_links}
 
 number-one : (a b : Node) → node_number a ≡ node_number b → a ≡ b
 number-one Capture Capture e = refl

@@ -1,7 +1,6 @@
 -- What is laid out by numbers is what is laid out by nodes.
-use Rattle.std.proofs.Common.{◌≡◌, ℕ, ◌+◌, ◌<◌, Bool, true, false, cond, ◌==◌, ◌↔◌, List, [], ◌∷◌, length, filter, filter_map, position, get_or, All, Contains, Option, Some, None, refl, sym, ◌∙◌, ap, ap₂, subst, arith, true≢false, eq-eqb, eqb-true}
+use Rattle.std.proofs.Common.{◌≡◌, ℕ, ◌+◌, ◌<◌, Bool, true, false, cond, ◌==◌, ◌↔◌, List, [], ◌∷◌, length, filter_map, position, get_or, All, Contains, Option, None, refl, sym, ◌∙◌, ap, ap₂, subst, arith, true≢false, eq-eqb, eqb-true}
 use Rattle.std.specs.List.{cons_option, position_or_len}
-use Rattle.std.proofs.lemmas.Bool.Decides.{nat_tests}
 use Rattle.jack_types.specs.declared.ports.Client.{Client}
 use Rattle.jack_types.specs.declared.ports.Edge.{Edge}
 use Rattle.jack_types.specs.declared.ports.Link.{Link}
@@ -9,11 +8,11 @@ use Rattle.jack_types.specs.declared.ports.Node.{Node}
 use Rattle.jack_types.specs.declared.ports.Node.TheVariants.{Capture, Playback, Client as ClientNode}
 use Rattle.jack_types.specs.declared.ports.Port.{Port}
 use Rattle.session_model.specs.Ids.{node_links, node_with, same_id_node}
-use Rattle.session_model.specs.Loops.{Leads, leads}
+use Rattle.session_model.specs.Loops.{Leads}
 use Rattle.session_model.specs.State.{is_direct}
 use Rattle.session_laws.proofs.LoopLemmas.{Contains-first, Contains-later, leads-is_Leads}
 use Rattle.feedback_edges.specs.Marking.{AreAmong, node_number}
-use Rattle.feedback_edges.specs.Search.{IsTable, link_by, number_links}
+use Rattle.feedback_edges.specs.Search.{IsTable, number_links}
 use Rattle.feedback_edges.proofs.NameLemmas.{same_id_node-is, same_id_node-self}
 use Rattle.cycle_plan.proofs.TableLemmas.{Leads-nodes, Leads-numbers, sources_below, destinations_below}
 use Rattle.cycle_plan.proofs.NodeLemmas.{position-none}

@@ -5,7 +5,7 @@
 --     laid_out clients ports edges      the nodes and the links of a graph
 --     JoinsEdges ports nodes edges links      the links are those of the direct edges between nodes, and no others
 --     CanLayOut clients ports edges      what it takes to lay out a graph
-use Rattle.std.specs.Prelude.{◌≡◌, ℕ, ◌+◌, ◌<◌, ◌≤◌, Bool, true, false, not, ◌&&◌, ◌==◌, ◌↔◌, Contains, List, [], ◌∷◌, ◌++◌, length, filter, filter_map, fold, position, All, Option, Some, None, if◌then◌else◌}
+use Rattle.std.specs.Prelude.{◌≡◌, ℕ, ◌≤◌, Bool, not, ◌&&◌, ◌==◌, ◌↔◌, Contains, List, [], ◌∷◌, ◌++◌, length, filter, filter_map, fold, position, All, Option, Some, None, if◌then◌else◌}
 use Rattle.std.specs.List.{list_any}
 use Rattle.jack_types.specs.declared.ports.Client.{Client}
 use Rattle.jack_types.specs.declared.ports.Edge.{Edge}
@@ -28,11 +28,11 @@ abbrev pub is_player : Client → Bool
 is_player client = client.active && not (client.id.0 == 0)
 
 -- a client goes before the first node that it leads to
-abbrev pub with_node : (Client → Client → Bool) → Client → List Client → List Client
+abbrev pub with_node : {X : Type 0} → (X → X → Bool) → X → List X → List X
 with_node leads_to client [] = client ∷ []
 with_node leads_to client (node ∷ nodes) = if leads_to client node then client ∷ node ∷ nodes else node ∷ with_node leads_to client nodes
 
-abbrev pub ordered : (Client → Client → Bool) → List Client → List Client
+abbrev pub ordered : {X : Type 0} → (X → X → Bool) → List X → List X
 ordered leads_to clients = fold (λ nodes client. with_node leads_to client nodes) [] clients
 
 -- whether direct edges lead from a client to a client

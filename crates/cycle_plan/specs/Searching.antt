@@ -1,5 +1,5 @@
 -- Inside: the same by the numbers of nodes. No public clause cites this module.
-use Rattle.std.specs.Prelude.{◌≡◌, ℕ, ◌+◌, ◌<◌, Bool, ◌==◌, List, position, slice_index, slice_index_or, Option, Some, None, if◌then◌else◌}
+use Rattle.std.specs.Prelude.{◌≡◌, ℕ, ◌+◌, ◌<◌, Bool, ◌==◌, List, position, slice_index_or, Option, None, if◌then◌else◌}
 use Rattle.jack_types.specs.declared.ports.Client.{Client}
 use Rattle.jack_types.specs.declared.ports.Edge.{Edge}
 use Rattle.jack_types.specs.declared.ports.Link.{Link}

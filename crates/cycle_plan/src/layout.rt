@@ -1,6 +1,6 @@
 //! The layout of a plan.
 
-ghost use Rattle.std.specs.Prelude.{◌≡◌, [], IfOk, filter, length};
+ghost use Rattle.std.specs.Prelude.{◌≡◌, ◌≤◌, [], IfOk, filter, length};
 ghost use Rattle.std.specs.List.Sorted.{IsPermutation};
 ghost use Rattle.jack_types.specs.declared.ports.Client.{Client as ClientRecord};
 ghost use Rattle.session_laws.specs.LoopFree.{IsLoopFree};
@@ -60,6 +60,8 @@ impl Layout {
     pub fn fill(&mut self, clients: &[Client], ports: &[Port], edges: &[Edge])
         requires { CanLayOut clients.now ports.now edges.now }
         ensures plan { self.new ≡ laid_out clients.now ports.now edges.now }
+        ensures few_nodes { length self.new.nodes ≤ length clients.now }
+        ensures few_links { length self.new.links ≤ length edges.now }
         ensures players { IsPermutation (filter is_player clients.now) self.new.nodes }
         ensures joined { JoinsEdges ports.now self.new.nodes edges.now self.new.links }
         ensures upward { IsLoopFree (node_links ports.now edges.now) → Apart (λ (client : ClientRecord). client.id.0) clients.now → AreLinks (length self.new.nodes) self.new.links }

@@ -1,10 +1,23 @@
-//! How a graph is laid out for the cycles: the order of its nodes, and the links between them.
+//! A graph after its changes, and a plan: a graph laid out for the cycles, with the order of its nodes, the links between
+//! them and their counts.
 #![tactic(auto)]
 
+mod clients;
+mod counts;
+pub mod graph;
+pub mod laws;
 pub mod layout;
 mod links;
+mod masters;
 mod nodes;
+pub mod plan;
+mod replaying;
+mod rewiring;
+mod roomy;
 #[cfg(test)]
 mod tests;
+mod wires;
 
+pub use graph::Graph;
 pub use layout::Layout;
+pub use plan::Plan;

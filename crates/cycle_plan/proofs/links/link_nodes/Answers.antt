@@ -1,4 +1,4 @@
-use Rattle.std.proofs.Common.{◌≡◌, ℕ, ◌+◌, ◌<◌, ◌≤◌, ◌∙◌, Global, Vec, None, Some, ap, get_or, sym, arith, length}
+use Rattle.std.proofs.Common.{◌≡◌, ◌+◌, ◌≤◌, ◌∙◌, Global, Vec, None, Some, ap, sym, arith, length}
 use Rattle.std.specs.Vec.{vec_capacity}
 use Rattle.jack_types.specs.declared.ports.Link.{Link}
 use Rattle.connection_set.specs.Connections.{no_edge}

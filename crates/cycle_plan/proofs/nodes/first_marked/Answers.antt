@@ -1,4 +1,4 @@
-use Rattle.std.proofs.Common.{◌≡◌, ℕ, ◌<◌, true, false, get_or, arith, length, sym, subst}
+use Rattle.std.proofs.Common.{◌≡◌, true, false, get_or, arith, length, sym, subst}
 use Rattle.std.proofs.lemmas.List.Sums.{position_or_len_is}
 use Rattle.jack_types.specs.declared.ports.Client.{Client}
 use Rattle.cycle_plan.specs.Searching.{client_number}

@@ -1,4 +1,4 @@
-use Rattle.std.proofs.Common.{◌≡◌, ℕ, ◌+◌, ◌<◌, ◌≤◌, ◌∙◌, All, Global, Vec, true, false, ap, get_or, subst, sym, arith, length}
+use Rattle.std.proofs.Common.{◌≡◌, ◌+◌, ◌≤◌, ◌∙◌, All, Global, Vec, true, false, ap, subst, sym, arith, length}
 use Rattle.std.specs.Vec.{vec_capacity}
 use Rattle.jack_types.specs.declared.ports.Client.{Client}
 use Rattle.cycle_plan.specs.Layouts.{with_node}

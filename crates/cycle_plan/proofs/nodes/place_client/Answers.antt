@@ -1,4 +1,4 @@
-use Rattle.std.proofs.Common.{◌≡◌, ◌≤◌, ◌∙◌, ◌↔◌, ℕ, false, ap, get_or, insert, length, subst, arith}
+use Rattle.std.proofs.Common.{◌≤◌, ◌∙◌, ◌↔◌, ℕ, false, ap, get_or, insert, length, subst, arith}
 use Rattle.std.specs.List.{position_or_len}
 use Rattle.jack_types.specs.declared.ports.Client.{Client}
 use Rattle.session_model.specs.Loops.{Leads}

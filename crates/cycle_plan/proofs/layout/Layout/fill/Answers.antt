@@ -31,6 +31,8 @@ returns c =
     made ∙ ap (λ ns. distinct (filter_map (link_of c.args.ports.now ns) c.args.edges.now)) nodes in
     record {
       plan = λ i. record { nodes = nodes i; links = links i };
+      few_nodes = c.order_nodes.ensures.few;
+      few_links = c.link_nodes.ensures.few;
       players = subst (IsPermutation (filter is_player c.args.clients.now)) (sym nodes) (IsPermutation-ordered (leads_to c.args.ports.now c.args.edges.now) (filter is_player c.args.clients.now));
       joined = joins_edges c.args.ports.now c.order_nodes.new.nodes.items c.args.edges.now c.link_nodes.new.links.items made;
       upward = λ free apart. AreLinks-laid_out c.args.ports.now c.args.edges.now free c.args.clients.now c.order_nodes.new.nodes.items c.link_nodes.new.links.items apart nodes made;
