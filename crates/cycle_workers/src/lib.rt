@@ -1,0 +1,6 @@
+//! One cycle of a crew: its seats are shared among threads, and every node is played once.
+#![tactic(auto)]
+
+mod running;
+
+pub use running::run_cycle;
