@@ -2,5 +2,7 @@
 #![tactic(auto)]
 
 mod running;
+#[cfg(test)]
+mod tests;
 
 pub use running::run_cycle;
