@@ -27,3 +27,9 @@ IsHold _ = ⊥
 abbrev pub IsFailing : Score → Type 0
 IsFailing (FailsAfter calls) = ⊤
 IsFailing _ = ⊥
+
+-- the numbers of a score are in range
+abbrev pub IsPlayable : Score → Type 0
+IsPlayable (Echo frames gain shift) = IsEchoed frames gain shift
+IsPlayable (Fir taps shift) = shift ≤ 31
+IsPlayable _ = ⊤

@@ -1,6 +1,7 @@
 //! The guests that the program hands in: an echo, a filter, one that holds a sample, and one that fails.
 #![tactic(auto)]
 
+mod any;
 mod echo;
 mod fail;
 mod fir;
@@ -11,6 +12,7 @@ mod kinds;
 #[cfg(test)]
 mod tests;
 
+pub use any::AnyGuest;
 pub use echo::EchoGuest;
 pub use fail::FailGuest;
 pub use fir::FirGuest;

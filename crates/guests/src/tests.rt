@@ -143,3 +143,18 @@ fn a_failing_guest_is_silent_until_it_is_lent_anew(rt: HostRuntime) -> Result<()
     plays(&rt, &mut bench, &[1, 2, 3, 4], &[1, 2, 3, 4], Health::Alive);
     Ok(())
 }
+
+#[test]
+fn any_guest_plays_as_the_one_that_it_is(rt: HostRuntime) -> Result<(), Fail> {
+    let mut hold = bench(rt.alloc(), AnyGuest::new(rt.alloc(), Score::Hold)?)?;
+    plays(&rt, &mut hold, &[1, 2, 3, 4], &[0, 0, 0, 0], Health::Alive);
+    plays(&rt, &mut hold, &[], &[4, 4, 4, 4], Health::Alive);
+    let score = Score::Echo {
+        frames: 2,
+        gain: 1,
+        shift: 1,
+    };
+    let mut echo = bench(rt.alloc(), AnyGuest::new(rt.alloc(), score)?)?;
+    plays(&rt, &mut echo, &[8, 0, 0, 0], &[8, 0, 4, 0], Health::Alive);
+    Ok(())
+}
