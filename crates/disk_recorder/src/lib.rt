@@ -2,6 +2,8 @@
 #![tactic(auto)]
 
 mod passing;
+#[cfg(test)]
+mod tests;
 mod writing;
 
 pub use writing::{drain, finish, serve};
