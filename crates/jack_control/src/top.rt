@@ -93,6 +93,7 @@ pub fn jackd<H: Host, K: Sink>(alloc: Global, words: &[String], host: &mut H, ou
         IsPlayed (H.files host.old) (H.files host.new) (K.content out.old) (K.content out.new) s c p }
 
     ensures words { result ≡ Status.Words → (s c p : List ℕ) → ¬ IsPlay (map string_bytes words.now) s c p }
+    ensures uncalled { result ≡ Status.Words → host.new ≡ host.old }
     ensures lawful { result ≢ Status.Words → (s : List ℕ) × (c : List ℕ) × (p : List ℕ) × IsPlay (map string_bytes words.now) s c p }
 
     // A refusal of the script or of the capture is one that their bytes have.
