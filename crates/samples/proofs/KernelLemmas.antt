@@ -3,9 +3,10 @@ use Rattle.std.proofs.Common.{◌≡◌, ℕ, zero, suc, ◌+◌, ◌-◌, ◌*�
 use Rattle.std.proofs.lemmas.Int.{ints}
 use Rattle.std.proofs.lemmas.Bool.{ltb-true, ltb-false}
 use lib.Lanes.{Each1, chunk, put_chunk, pick_l, number_l, digits_l}
-use Rattle.std.proofs.lemmas.List.{get_or_append_left, get_or-append_right}
-use Rattle.std.proofs.lemmas.Simd.{get_or_wider, get_or-chunk, length-chunk, get_or-put_chunk_at, get_or-put_chunk_below}
+use Rattle.std.proofs.lemmas.List.{get_or_append_left, get_or-append_right, get_or-map}
+use Rattle.std.proofs.lemmas.Simd.{get_or_wider, below_from_Fits, chunk-fits, get_or-chunk, length-chunk, get_or-put_chunk_at, get_or-put_chunk_below}
 use Rattle.session_model.specs.Samples.{up, stored, signed}
+use Rattle.samples.proofs.ScalingLemmas.{front_4}
 
 -- ---- sixteen bytes of a list, and zeros behind them
 
@@ -103,6 +104,32 @@ four_24 xs at long fits (suc (suc (suc zero))) i e h =
     (byte_lane xs (0 ∷ 0 ∷ 0 ∷ 0 ∷ 0 ∷ 0 ∷ 0 ∷ 0 ∷ 0 ∷ 0 ∷ 0 ∷ 0 ∷ 0 ∷ 0 ∷ 0 ∷ 0 ∷ []) at 11 (i + 2) long (omega arith) (omega arith))
     (below_at xs fits i) (below_at xs fits (i + 1)) (below_at xs fits (i + 2))
 four_24 xs at long fits (suc (suc (suc (suc j)))) i e h = absurd (omega arith)
+
+-- ---- four samples of 32 bits
+
+scaled_32 : (n : ℕ) → n < 2 ^ 32 → to_z w32 n ≡ signed 32 n *ℤ pos (2 ^ 0)
+scaled_32 n h = grind (arith, ints)
+
+word_32 : (a b c d : ℕ) (i j k l : ℕ) → a ≡ i → b ≡ j → c ≡ k → d ≡ l → i < 256 → j < 256 → k < 256 → l < 256
+    → to_z w32 (number_l 256 (a ∷ b ∷ c ∷ d ∷ [])) ≡ up 32 (stored 32 (i ∷ j ∷ k ∷ l ∷ []))
+word_32 a b c d i j k l ea eb ec ed fi fj fk fl =
+    let n : ℕ = i + 256 * (j + 256 * (k + 256 * (l + 256 * 0))) in
+    let e : a + 256 * (b + 256 * (c + 256 * (d + 256 * 0))) ≡ n = omega arith in
+    ap (to_z w32) e ∙ scaled_32 n (omega arith)
+
+pub four_32 : (xs : List ℕ) (at : ℕ) → at + 16 ≤ length xs → ((k : ℕ) → Fits w8 (get_or xs k 0)) → (j i : ℕ) → i ≡ at + 4 * j → j < 4
+    → get_or (words_of (chunk at 16 xs)) j (pos 0) ≡ up 32 (stored 32 (get_or xs i 0 ∷ get_or xs (i + 1) 0 ∷ get_or xs (i + 2) 0 ∷ get_or xs (i + 3) 0 ∷ []))
+four_32 xs at long fits j i e h =
+    let ys : List ℕ = chunk at 16 xs in
+    let here : (m : ℕ) → m < 16 → get_or ys m 0 ≡ get_or xs (at + m) 0 = λ m. get_or-chunk at 16 xs m 0 in
+    let lane : (m n : ℕ) → m < 16 → n ≡ at + m → get_or ys m 0 ≡ get_or xs n 0 = λ m n lt is. here m lt ∙ ap (λ (q : ℕ). get_or xs q 0) (sym is) in
+    get_or-map (to_z w32) (digits_l 4294967296 4 (number_l 256 ys)) j 0 (pos 0) h
+    ∙ ap (to_z w32) (get_or_wider 256 4 4294967296 4 ys j refl (below_from_Fits w8 ys (chunk-fits w8 at 16 xs fits)) h ∙ ap (number_l 256) (front_4 ys (4 * j) (omega (arith, length-chunk at 16 xs long))))
+    ∙ word_32 (get_or ys (4 * j) 0) (get_or ys (4 * j + 1) 0) (get_or ys (4 * j + 2) 0) (get_or ys (4 * j + 3) 0)
+    (get_or xs i 0) (get_or xs (i + 1) 0) (get_or xs (i + 2) 0) (get_or xs (i + 3) 0)
+    (lane (4 * j) i (omega arith) (omega arith)) (lane (4 * j + 1) (i + 1) (omega arith) (omega arith))
+    (lane (4 * j + 2) (i + 2) (omega arith) (omega arith)) (lane (4 * j + 3) (i + 3) (omega arith) (omega arith))
+    (below_at xs fits i) (below_at xs fits (i + 1)) (below_at xs fits (i + 2)) (below_at xs fits (i + 3))
 
 -- ---- a block behind the samples that are done
 

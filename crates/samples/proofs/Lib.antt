@@ -1,2 +1,3 @@
 mod KernelLemmas
 mod ScalingLemmas
+mod NarrowLemmas

@@ -21,7 +21,7 @@ front_3 xs i h =
     ∙ ap (λ (r : List ℕ). get_or xs i 0 ∷ r) (front_2 xs (i + 1) (omega arith))
     ∙ ap (λ (k : ℕ). get_or xs i 0 ∷ get_or xs (i + 1) 0 ∷ get_or xs k 0 ∷ []) e
 
-front_4 : (xs : List ℕ) (i : ℕ) → i + 3 < length xs → take 4 (drop i xs) ≡ get_or xs i 0 ∷ get_or xs (i + 1) 0 ∷ get_or xs (i + 2) 0 ∷ get_or xs (i + 3) 0 ∷ []
+pub front_4 : (xs : List ℕ) (i : ℕ) → i + 3 < length xs → take 4 (drop i xs) ≡ get_or xs i 0 ∷ get_or xs (i + 1) 0 ∷ get_or xs (i + 2) 0 ∷ get_or xs (i + 3) 0 ∷ []
 front_4 xs i h =
     let e : i + 1 + 1 ≡ i + 2 = omega arith in
     let f : i + 1 + 2 ≡ i + 3 = omega arith in

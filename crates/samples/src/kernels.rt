@@ -1,6 +1,8 @@
 // Blocks of samples on vectors.
-ghost use Rattle.std.specs.Prelude.{◌≡◌, ◌+◌, ◌*◌, ◌<◌, ◌≤◌, ℕ, [], ◌∷◌, length, slice_index};
-ghost use Rattle.session_model.specs.Samples.{sample, stored, up};
+ghost use Rattle.std.specs.Prelude.{◌≡◌, ◌+◌, ◌*◌, ◌<◌, ◌≤◌, ℕ, [], ◌∷◌, length, slice_index, take};
+ghost use Rattle.std.specs.Int.{w32};
+ghost use Rattle.std.specs.Int.RustNames.{FitsSigned};
+ghost use Rattle.session_model.specs.Samples.{bytes_of, sample, stored, up};
 
 use std::simd::prelude::*;
 
@@ -17,4 +19,61 @@ pub(crate) fn four_24(bytes: &[u8], out: &mut [i32], place: usize)
         [16, 0, 1, 2, 16, 3, 4, 5, 16, 6, 7, 8, 16, 9, 10, 11],
     );
     i32x4::from_le_bytes(spread).copy_to_slice(&mut out[place..]);
+}
+
+// Reads four samples more, of 32 bits.
+pub(crate) fn four_32(bytes: &[u8], out: &mut [i32], place: usize)
+    requires there { 4 * place + 16 ≤ length bytes.now }
+    requires room { place + 4 ≤ length out.old }
+    requires front { (k : ℕ) → k < place → sample out.old k ≡ up 32 (stored 32 (slice_index bytes.now (4 * k) ∷ slice_index bytes.now (4 * k + 1) ∷ slice_index bytes.now (4 * k + 2) ∷ slice_index bytes.now (4 * k + 3) ∷ [])) }
+    ensures { (k : ℕ) → k < place + 4 → sample out.new k ≡ up 32 (stored 32 (slice_index bytes.now (4 * k) ∷ slice_index bytes.now (4 * k + 1) ∷ slice_index bytes.now (4 * k + 2) ∷ slice_index bytes.now (4 * k + 3) ∷ [])) }
+{
+    let lanes = u8x16::from_slice(&bytes[4 * place..]);
+    i32x4::from_le_bytes(lanes).copy_to_slice(&mut out[place..]);
+}
+
+// That a sample is a number of 32 bits is known where it is read.
+fn read(samples: &[i32], i: usize)
+    requires { i < length samples.now }
+    ensures { FitsSigned w32 (sample samples.now i) }
+{
+    let _sample = samples[i];
+}
+
+// Tells the blocks, which read many samples at once, that each is a number of 32 bits. What is
+// read is not used, so no code is left of this in the program.
+pub(crate) fn read_all(samples: &[i32])
+    ensures { (k : ℕ) → k < length samples.now → FitsSigned w32 (sample samples.now k) }
+{
+    for i in 0..samples.len() {
+        read(samples, i);
+    }
+}
+
+// Writes sixteen samples more, in 8 bits: the top byte of each, from -128 to 127, is counted from 0.
+pub(crate) fn sixteen_to_8(samples: &[i32], out: &mut [u8], place: usize)
+    requires there { place + 16 ≤ length samples.now }
+    requires room { place + 16 ≤ length out.old }
+    requires fits { (k : ℕ) → k < length samples.now → FitsSigned w32 (sample samples.now k) }
+    requires front { take place out.old ≡ bytes_of 8 (take place samples.now) }
+    ensures { take (place + 16) out.new ≡ bytes_of 8 (take (place + 16) samples.now) }
+{
+    let tops = i32x16::from_slice(&samples[place..]) >> i32x16::splat(24);
+    let lowest = tops.to_le_bytes().swizzle([
+        0, 4, 8, 12, 16, 20, 24, 28, 32, 36, 40, 44, 48, 52, 56, 60,
+    ]);
+    let bytes = lowest ^ u8x16::splat(0x80);
+    bytes.copy_to_slice(&mut out[place..]);
+}
+
+// Writes four samples more, in 32 bits.
+pub(crate) fn four_to_32(samples: &[i32], out: &mut [u8], place: usize)
+    requires there { place + 4 ≤ length samples.now }
+    requires room { 4 * place + 16 ≤ length out.old }
+    requires fits { (k : ℕ) → k < length samples.now → FitsSigned w32 (sample samples.now k) }
+    requires front { take (4 * place) out.old ≡ bytes_of 32 (take place samples.now) }
+    ensures { take (4 * place + 16) out.new ≡ bytes_of 32 (take (place + 4) samples.now) }
+{
+    let lanes = i32x4::from_slice(&samples[place..]);
+    lanes.to_le_bytes().copy_to_slice(&mut out[4 * place..]);
 }

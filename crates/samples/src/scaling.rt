@@ -1,8 +1,8 @@
-ghost use Rattle.std.specs.Prelude.{◌≡◌, ◌+◌, ◌*◌, ◌<◌, ◌≤◌, ℕ, [], ◌∷◌, length, slice_index, true};
+ghost use Rattle.std.specs.Prelude.{◌≡◌, ◌+◌, ◌*◌, ◌<◌, ◌≤◌, ℕ, [], ◌∷◌, length, slice_index, take, true};
 ghost use Rattle.session_model.specs.Samples.{bytes_of, down, sample, samples_of, stored, storing, up, width};
 ghost use Rattle.session_model.specs.WaveFiles.{is_width};
 
-use crate::kernels::four_24;
+use crate::kernels::{four_24, four_32, four_to_32, read_all, sixteen_to_8};
 
 /// Reads samples from a file's bytes.
 ///
@@ -101,18 +101,32 @@ fn from_24(bytes: &[u8], out: &mut [i32])
     from_24_plain(bytes, out, 4 * blocks);
 }
 
-fn from_32(bytes: &[u8], out: &mut [i32])
-    requires { length bytes.now ≡ length out.old * 4 }
+// Reads the samples from `start` on, one at a time.
+pub(crate) fn from_32_plain(bytes: &[u8], out: &mut [i32], start: usize)
+    requires lengths { length bytes.now ≡ length out.old * 4 }
+    requires start { start ≤ length out.old }
+    requires front { (k : ℕ) → k < start → sample out.old k ≡ up 32 (stored 32 (slice_index bytes.now (4 * k) ∷ slice_index bytes.now (4 * k + 1) ∷ slice_index bytes.now (4 * k + 2) ∷ slice_index bytes.now (4 * k + 3) ∷ [])) }
     ensures { out.new ≡ samples_of 32 bytes.now }
 {
-    for (i, sample) in out.iter_mut().enumerate() {
-        *sample = sample_32(
+    for i in start..out.len() {
+        out[i] = sample_32(
             bytes[4 * i],
             bytes[4 * i + 1],
             bytes[4 * i + 2],
             bytes[4 * i + 3],
         );
     }
+}
+
+fn from_32(bytes: &[u8], out: &mut [i32])
+    requires { length bytes.now ≡ length out.old * 4 }
+    ensures { out.new ≡ samples_of 32 bytes.now }
+{
+    let blocks = out.len() / 4;
+    for block in 0..blocks {
+        four_32(bytes, out, 4 * block);
+    }
+    from_32_plain(bytes, out, 4 * blocks);
 }
 
 fn bytes_8(sample: i32) -> u8
@@ -142,13 +156,28 @@ fn bytes_32(sample: i32) -> [u8; 4]
     sample.to_le_bytes()
 }
 
+// Writes the samples from `start` on, one at a time.
+pub(crate) fn to_8_plain(samples: &[i32], out: &mut [u8], start: usize)
+    requires lengths { length out.old ≡ length samples.now }
+    requires start { start ≤ length samples.now }
+    requires front { take start out.old ≡ bytes_of 8 (take start samples.now) }
+    ensures { out.new ≡ bytes_of 8 samples.now }
+{
+    for i in start..samples.len() {
+        out[i] = bytes_8(samples[i]);
+    }
+}
+
 fn to_8(samples: &[i32], out: &mut [u8])
     requires { length out.old ≡ length samples.now }
     ensures { out.new ≡ bytes_of 8 samples.now }
 {
-    for (i, byte) in out.iter_mut().enumerate() {
-        *byte = bytes_8(samples[i]);
+    read_all(samples);
+    let blocks = samples.len() / 16;
+    for block in 0..blocks {
+        sixteen_to_8(samples, out, 16 * block);
     }
+    to_8_plain(samples, out, 16 * blocks);
 }
 
 fn to_16(samples: &[i32], out: &mut [u8])
@@ -174,15 +203,30 @@ fn to_24(samples: &[i32], out: &mut [u8])
     }
 }
 
-fn to_32(samples: &[i32], out: &mut [u8])
-    requires { length out.old ≡ length samples.now * 4 }
+// Writes the samples from `start` on, one at a time.
+pub(crate) fn to_32_plain(samples: &[i32], out: &mut [u8], start: usize)
+    requires lengths { length out.old ≡ length samples.now * 4 }
+    requires start { start ≤ length samples.now }
+    requires front { take (4 * start) out.old ≡ bytes_of 32 (take start samples.now) }
     ensures { out.new ≡ bytes_of 32 samples.now }
 {
-    for (i, sample) in samples.iter().enumerate() {
-        let [a, b, c, d] = bytes_32(*sample);
+    for i in start..samples.len() {
+        let [a, b, c, d] = bytes_32(samples[i]);
         out[4 * i] = a;
         out[4 * i + 1] = b;
         out[4 * i + 2] = c;
         out[4 * i + 3] = d;
     }
+}
+
+fn to_32(samples: &[i32], out: &mut [u8])
+    requires { length out.old ≡ length samples.now * 4 }
+    ensures { out.new ≡ bytes_of 32 samples.now }
+{
+    read_all(samples);
+    let blocks = samples.len() / 4;
+    for block in 0..blocks {
+        four_to_32(samples, out, 4 * block);
+    }
+    to_32_plain(samples, out, 4 * blocks);
 }

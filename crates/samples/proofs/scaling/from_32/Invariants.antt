@@ -2,5 +2,5 @@ use Rattle.std.proofs.Common.{◌≡◌, ℕ, ◌+◌, ◌*◌, ◌<◌, [], ◌
 use Rattle.session_model.specs.Samples.{up, stored}
 use Rattle.samples.proofs.scaling.from_32.Given as goal
 
-abbrev pub invariant-loop-i : goal.invariant-loop-i
-invariant-loop-i l = (k : ℕ) → k < l.i → get_or l.out k (pos 0) ≡ up 32 (stored 32 (get_or l.bytes (4 * k) 0 ∷ get_or l.bytes (4 * k + 1) 0 ∷ get_or l.bytes (4 * k + 2) 0 ∷ get_or l.bytes (4 * k + 3) 0 ∷ []))
+abbrev pub invariant-loop-block : goal.invariant-loop-block
+invariant-loop-block l = (k : ℕ) → k < 4 * l.block → get_or l.out k (pos 0) ≡ up 32 (stored 32 (get_or l.bytes (4 * k) 0 ∷ get_or l.bytes (4 * k + 1) 0 ∷ get_or l.bytes (4 * k + 2) 0 ∷ get_or l.bytes (4 * k + 3) 0 ∷ []))
