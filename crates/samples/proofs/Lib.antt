@@ -1,3 +1,4 @@
+mod ByteLemmas
 mod KernelLemmas
-mod ScalingLemmas
 mod NarrowLemmas
+mod ScalingLemmas

@@ -1,18 +1,17 @@
 -- Blocks of samples on vectors, written as bytes.
-use Rattle.std.proofs.Common.{◌≡◌, ℕ, zero, suc, ◌+◌, ◌-◌, ◌*◌, ◌/◌, ◌%◌, ◌^◌, ◌<◌, ◌≤◌, List, [], ◌∷◌, ◌++◌, length, take, drop, map, replicate, get_or, ℤ, pos, refl, sym, ap, subst, ◌∙◌, arith, of_z, w8, w32, negsuc, ◌+ℤ◌}
-use Rattle.std.proofs.Math.Seq.{take-add}
+use Rattle.std.proofs.Common.{◌≡◌, ℕ, zero, suc, ◌+◌, ◌-◌, ◌*◌, ◌/◌, ◌%◌, ◌^◌, ◌<◌, ◌≤◌, List, [], ◌∷◌, ◌++◌, length, take, drop, map, replicate, get_or, ℤ, pos, refl, sym, ap, subst, ◌∙◌, arith, of_z, w8, w32, negsuc, ◌+ℤ◌, length-append, length-take-le, take-take, append_assoc}
+use Rattle.std.proofs.Math.Seq.{take-add, take-append_seam}
 use Rattle.std.proofs.lemmas.Int.{ints}
-use Rattle.std.proofs.lemmas.Nat.{xor_block}
 use Rattle.std.proofs.lemmas.List.Concat.{flat_map-append}
 use Rattle.std.proofs.lemmas.Simd.{take_more_put_chunk, Each1-chunk, length-chunk, zip2_splat, map-map}
 use Rattle.std.proofs.lemmas.List.{length-map}
 use Rattle.std.specs.Prelude.{flat_map, nat_abs}
 use Rattle.std.specs.Int.{bytes_low_first}
-use Rattle.std.specs.Int.Bits.{xor_zero_r}
 use Rattle.std.specs.Int.RustNames.{FitsSigned}
 use lib.Bits.{bit_xor}
 use lib.Lanes.{Each1, zip2, chunk, put_chunk, number_l, digits_l}
 use Rattle.session_model.specs.Samples.{down, storing, bytes_of}
+use Rattle.samples.proofs.ByteLemmas.{low_byte, high_byte}
 
 -- ---- a block behind the bytes that are done
 
@@ -72,19 +71,6 @@ abbrev pub lows : ℕ → ℕ → List ℕ
 lows zero x = []
 lows (suc n) x = bit_xor (x % 256) 128 ∷ lows n (x / 256 / 256 / 256 / 256)
 
-xor_of : (a b c d : ℕ) → a ≡ b → c ≡ d → bit_xor a c ≡ bit_xor b d
-xor_of a b c d e f = λ i. bit_xor (e i) (f i)
-
-low_byte : (n : ℕ) → n < 128 → bit_xor n 128 ≡ n + 128
-low_byte n h =
-    xor_of n (0 * 2 ^ 7 + n) 128 (1 * 2 ^ 7 + 0) (omega arith) (omega arith)
-    ∙ xor_block 7 0 1 n 0 h (omega arith) ∙ ap (λ (m : ℕ). 1 * 2 ^ 7 + m) (xor_zero_r n) ∙ omega arith
-
-high_byte : (n : ℕ) → n < 128 → bit_xor (n + 128) 128 ≡ n
-high_byte n h =
-    xor_of (n + 128) (1 * 2 ^ 7 + n) 128 (1 * 2 ^ 7 + 0) (omega arith) (omega arith)
-    ∙ xor_block 7 1 1 n 0 h (omega arith) ∙ ap (λ (m : ℕ). 0 * 2 ^ 7 + m) (xor_zero_r n) ∙ omega arith
-
 -- a byte in two's complement, counted from -128
 from_least : (s : ℤ) → FitsSigned w8 s → bit_xor (of_z w32 s % 256) 128 ≡ nat_abs (s +ℤ pos 128) % 256
 from_least (pos n) fits =
@@ -134,3 +120,56 @@ sixteen_to_8 f samples old place shifts there room fit front =
     let same : words ≡ map g zs = zip2_splat f (map (of_z w32) zs) 16 24 (length-map zs (of_z w32) ∙ long) ∙ map-map (λ x. f x 24) (of_z w32) zs in
     written 8 samples old (lows 16 (number_l 4294967296 words)) place 16 place (place + 16) front
     (ap (λ (ws : List ℕ). lows 16 (number_l 4294967296 ws)) same ∙ ap (λ (n : ℕ). lows n (number_l 4294967296 (map g zs))) (sym long) ∙ words_8 g zs shifts (Each1-chunk (FitsSigned w32) place 16 samples fit)) refl room
+
+-- ---- the three upper bytes of each word
+
+abbrev pub uppers : ℕ → ℕ → List ℕ
+uppers zero x = []
+uppers (suc n) x = x / 256 % 256 ∷ x / 256 / 256 % 256 ∷ x / 256 / 256 / 256 % 256 ∷ uppers n (x / 256 / 256 / 256 / 256)
+
+length-uppers : (n x : ℕ) → length (uppers n x) ≡ 3 * n
+length-uppers zero x = refl
+length-uppers (suc n) x = omega (arith, length-uppers n (x / 256 / 256 / 256 / 256))
+
+stored_24 : (z : ℤ) → FitsSigned w32 z → of_z w32 z / 256 ^ 1 % 256 ∷ of_z w32 z / 256 ^ 2 % 256 ∷ of_z w32 z / 256 ^ 3 % 256 ∷ [] ≡ storing 24 (down 24 z)
+stored_24 z fits = grind (arith, ints)
+
+words_24 : (zs : List ℤ) → Each1 (FitsSigned w32) zs → uppers (length zs) (number_l 4294967296 (map (of_z w32) zs)) ≡ bytes_of 24 zs
+words_24 [] fit = refl
+words_24 (z ∷ zs) fit =
+    let n : ℕ = of_z w32 z in
+    let m : ℕ = number_l 4294967296 (map (of_z w32) zs) in
+    let x : ℕ = n + 4294967296 * m in
+    let small : n < 2 ^ 32 = of_z-below z fit.0 in
+    let b : x / 256 % 256 ≡ n / 256 ^ 1 % 256 = omega arith in
+    let c : x / 256 / 256 % 256 ≡ n / 256 ^ 2 % 256 = omega arith in
+    let d : x / 256 / 256 / 256 % 256 ≡ n / 256 ^ 3 % 256 = omega arith in
+    let rest : x / 256 / 256 / 256 / 256 ≡ m = omega arith in
+    (λ i. b i ∷ c i ∷ d i ∷ uppers (length zs) (rest i))
+    ∙ (λ i. n / 256 ^ 1 % 256 ∷ n / 256 ^ 2 % 256 ∷ n / 256 ^ 3 % 256 ∷ words_24 zs fit.1 i)
+    ∙ ap (λ (front : List ℕ). front ++ bytes_of 24 zs) (stored_24 z fit.0)
+
+-- a block of which a front alone counts
+front_written : (bits : ℕ) (samples : List ℤ) (old block more : List ℕ) (place n at m : ℕ)
+    → take at old ≡ bytes_of bits (take place samples) → block ≡ bytes_of bits (chunk place n samples) → m ≡ at + length block → m + length more ≤ length old
+    → take m (put_chunk at old (block ++ more)) ≡ bytes_of bits (take (place + n) samples)
+front_written bits samples old block more place n at m front here is room =
+    let whole : List ℕ = put_chunk at old (block ++ more) in
+    let done : take (m + length more) whole ≡ take at old ++ (block ++ more) = take_more_put_chunk at old (block ++ more) (m + length more) (omega (arith, length-append block more)) room in
+    let long : length (take at old ++ block) ≡ m = omega (arith, length-append (take at old) block, length-take-le at old (omega arith)) in
+    sym (take-take m (m + length more) whole (omega arith))
+    ∙ ap (take m) (done ∙ sym (append_assoc (take at old) block more))
+    ∙ ap (λ (k : ℕ). take k ((take at old ++ block) ++ more)) (sym long)
+    ∙ take-append_seam (take at old ++ block) more
+    ∙ (λ i. front i ++ here i)
+    ∙ sym (flat_map-append (λ x. storing bits (down bits x)) (take place samples) (chunk place n samples))
+    ∙ ap (bytes_of bits) (sym (take-add place n samples))
+
+pub four_to_24 : (samples : List ℤ) (old : List ℕ) (place : ℕ) → place + 4 ≤ length samples → 3 * place + 16 ≤ length old → Each1 (FitsSigned w32) samples
+    → take (3 * place) old ≡ bytes_of 24 (take place samples) → (a b c d : ℕ)
+    → take (3 * place + 12) (put_chunk (3 * place) old (uppers 4 (number_l 4294967296 (map (of_z w32) (chunk place 4 samples))) ++ a ∷ b ∷ c ∷ d ∷ [])) ≡ bytes_of 24 (take (place + 4) samples)
+four_to_24 samples old place there room fit front a b c d =
+    let zs : List ℤ = chunk place 4 samples in
+    let x : ℕ = number_l 4294967296 (map (of_z w32) zs) in
+    front_written 24 samples old (uppers 4 x) (a ∷ b ∷ c ∷ d ∷ []) place 4 (3 * place) (3 * place + 12) front
+    (ap (λ (n : ℕ). uppers n x) (sym (length-chunk place 4 samples there)) ∙ words_24 zs (Each1-chunk (FitsSigned w32) place 4 samples fit)) refl (omega arith)

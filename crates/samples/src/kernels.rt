@@ -32,6 +32,24 @@ pub(crate) fn four_32(bytes: &[u8], out: &mut [i32], place: usize)
     i32x4::from_le_bytes(lanes).copy_to_slice(&mut out[place..]);
 }
 
+// Reads eight samples more, of 8 bits: a byte, less 128, is the top byte of a sample.
+pub(crate) fn eight_8(bytes: &[u8], out: &mut [i32], place: usize)
+    requires there { place + 8 ≤ length bytes.now }
+    requires room { place + 8 ≤ length out.old }
+    requires front { (k : ℕ) → k < place → sample out.old k ≡ up 8 (stored 8 (slice_index bytes.now k ∷ [])) }
+    ensures { (k : ℕ) → k < place + 8 → sample out.new k ≡ up 8 (stored 8 (slice_index bytes.now k ∷ [])) }
+{
+    let lanes = u8x8::from_slice(&bytes[place..]) ^ u8x8::splat(0x80);
+    let spread = lanes.shuffle(
+        u8x8::splat(0),
+        [
+            8, 8, 8, 0, 8, 8, 8, 1, 8, 8, 8, 2, 8, 8, 8, 3, 8, 8, 8, 4, 8, 8, 8, 5, 8, 8, 8, 6, 8,
+            8, 8, 7,
+        ],
+    );
+    i32x8::from_le_bytes(spread).copy_to_slice(&mut out[place..]);
+}
+
 // That a sample is a number of 32 bits is known where it is read.
 fn read(samples: &[i32], i: usize)
     requires { i < length samples.now }
@@ -76,4 +94,18 @@ pub(crate) fn four_to_32(samples: &[i32], out: &mut [u8], place: usize)
 {
     let lanes = i32x4::from_slice(&samples[place..]);
     lanes.to_le_bytes().copy_to_slice(&mut out[4 * place..]);
+}
+
+// Writes four samples more, in 24 bits: sixteen bytes are stored, and the last four of them are
+// written over by what follows.
+pub(crate) fn four_to_24(samples: &[i32], out: &mut [u8], place: usize)
+    requires there { place + 4 ≤ length samples.now }
+    requires room { 3 * place + 16 ≤ length out.old }
+    requires fits { (k : ℕ) → k < length samples.now → FitsSigned w32 (sample samples.now k) }
+    requires front { take (3 * place) out.old ≡ bytes_of 24 (take place samples.now) }
+    ensures { take (3 * place + 12) out.new ≡ bytes_of 24 (take (place + 4) samples.now) }
+{
+    let bytes = i32x4::from_slice(&samples[place..]).to_le_bytes();
+    let upper = bytes.swizzle([1, 2, 3, 5, 6, 7, 9, 10, 11, 13, 14, 15, 0, 0, 0, 0]);
+    upper.copy_to_slice(&mut out[3 * place..]);
 }

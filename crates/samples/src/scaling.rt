@@ -2,7 +2,7 @@ ghost use Rattle.std.specs.Prelude.{◌≡◌, ◌+◌, ◌*◌, ◌<◌, ◌≤
 ghost use Rattle.session_model.specs.Samples.{bytes_of, down, sample, samples_of, stored, storing, up, width};
 ghost use Rattle.session_model.specs.WaveFiles.{is_width};
 
-use crate::kernels::{four_24, four_32, four_to_32, read_all, sixteen_to_8};
+use crate::kernels::{eight_8, four_24, four_32, four_to_24, four_to_32, read_all, sixteen_to_8};
 
 /// Reads samples from a file's bytes.
 ///
@@ -60,13 +60,27 @@ fn sample_32(a: u8, b: u8, c: u8, d: u8) -> i32
     i32::from_le_bytes([a, b, c, d])
 }
 
+// Reads the samples from `start` on, one at a time.
+pub(crate) fn from_8_plain(bytes: &[u8], out: &mut [i32], start: usize)
+    requires lengths { length bytes.now ≡ length out.old }
+    requires start { start ≤ length out.old }
+    requires front { (k : ℕ) → k < start → sample out.old k ≡ up 8 (stored 8 (slice_index bytes.now k ∷ [])) }
+    ensures { out.new ≡ samples_of 8 bytes.now }
+{
+    for i in start..out.len() {
+        out[i] = sample_8(bytes[i]);
+    }
+}
+
 fn from_8(bytes: &[u8], out: &mut [i32])
     requires { length bytes.now ≡ length out.old }
     ensures { out.new ≡ samples_of 8 bytes.now }
 {
-    for (i, sample) in out.iter_mut().enumerate() {
-        *sample = sample_8(bytes[i]);
+    let blocks = out.len() / 8;
+    for block in 0..blocks {
+        eight_8(bytes, out, 8 * block);
     }
+    from_8_plain(bytes, out, 8 * blocks);
 }
 
 fn from_16(bytes: &[u8], out: &mut [i32])
@@ -191,16 +205,31 @@ fn to_16(samples: &[i32], out: &mut [u8])
     }
 }
 
-fn to_24(samples: &[i32], out: &mut [u8])
-    requires { length out.old ≡ length samples.now * 3 }
+// Writes the samples from `start` on, one at a time.
+pub(crate) fn to_24_plain(samples: &[i32], out: &mut [u8], start: usize)
+    requires lengths { length out.old ≡ length samples.now * 3 }
+    requires start { start ≤ length samples.now }
+    requires front { take (3 * start) out.old ≡ bytes_of 24 (take start samples.now) }
     ensures { out.new ≡ bytes_of 24 samples.now }
 {
-    for (i, sample) in samples.iter().enumerate() {
-        let [a, b, c] = bytes_24(*sample);
+    for i in start..samples.len() {
+        let [a, b, c] = bytes_24(samples[i]);
         out[3 * i] = a;
         out[3 * i + 1] = b;
         out[3 * i + 2] = c;
     }
+}
+
+fn to_24(samples: &[i32], out: &mut [u8])
+    requires { length out.old ≡ length samples.now * 3 }
+    ensures { out.new ≡ bytes_of 24 samples.now }
+{
+    read_all(samples);
+    let blocks = samples.len().saturating_sub(2) / 4;
+    for block in 0..blocks {
+        four_to_24(samples, out, 4 * block);
+    }
+    to_24_plain(samples, out, 4 * blocks);
 }
 
 // Writes the samples from `start` on, one at a time.

@@ -2,5 +2,5 @@ use Rattle.std.proofs.Common.{◌≡◌, ◌*◌, take}
 use Rattle.session_model.specs.Samples.{bytes_of}
 use Rattle.samples.proofs.scaling.to_24.Given as goal
 
-abbrev pub invariant-loop-i : goal.invariant-loop-i
-invariant-loop-i l = take (3 * l.i) l.out ≡ bytes_of 24 (take l.i l.samples)
+abbrev pub invariant-loop-block : goal.invariant-loop-block
+invariant-loop-block l = take (3 * (4 * l.block)) l.out ≡ bytes_of 24 (take (4 * l.block) l.samples)
