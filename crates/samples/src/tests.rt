@@ -1,8 +1,11 @@
-ghost use Rattle.std.specs.Prelude.{◌≡◌, ◌*◌, ◌<◌, ℕ, IsTrue, length};
-ghost use Rattle.session_model.specs.Samples.{sample};
+ghost use Rattle.std.specs.Prelude.{◌≡◌, ◌*◌, ◌<◌, ◌≤◌, ℕ, IsTrue, length, true};
+ghost use Rattle.session_model.specs.Samples.{sample, width};
+ghost use Rattle.session_model.specs.WaveFiles.{is_width};
 ghost use Rattle.samples.specs.Sums.{IsSmall};
 
-use crate::scaling::from_24_plain;
+use crate::scaling::{
+    from_8_plain, from_24_plain, from_32_plain, to_8_plain, to_24_plain, to_32_plain,
+};
 use crate::{add_into, clamp64, from_bytes, settle, to_bytes};
 use std::alloc::{AllocError, Global};
 use std::test::Fail;
@@ -91,44 +94,125 @@ fn a_sum_is_clamped_once(rt: HostRuntime) -> Result<(), Fail> {
     Ok(())
 }
 
-// Stores 0, 1, 2 and so on in 24 bits.
-fn count_up(bytes: &mut [u8]) {
-    for k in 0..bytes.len() / 3 {
-        bytes[3 * k] = (k % 256) as u8;
-        bytes[3 * k + 1] = (k / 256 % 256) as u8;
-    }
-}
-
-// Whether samples are what 0, 1, 2 and so on in 24 bits are in 32 bits.
-fn counts_up(samples: &[i32]) -> bool {
-    let mut wanted = 0i32;
-    for sample in samples {
-        if *sample != wanted {
-            return false;
-        }
-        wanted = wanted.wrapping_add(256);
-    }
-    true
-}
-
-// Whether blocks and single samples both read what `count_up` stored.
-fn both_count(bytes: &mut [u8], blocks: &mut [i32], plain: &mut [i32]) -> bool
-    requires blocks { length bytes.old ≡ length blocks.old * 3 }
-    requires plain { length bytes.old ≡ length plain.old * 3 }
+// Stores 0, 1, 2 and so on in `width` bytes each.
+fn count_up(bytes: &mut [u8], width: usize)
+    requires { 0 < width }
 {
-    count_up(bytes);
-    from_bytes(24, bytes, blocks);
-    from_24_plain(bytes, plain, 0);
-    counts_up(blocks) && counts_up(plain)
+    for (k, number) in bytes.chunks_exact_mut(width).enumerate() {
+        let counted = k.to_le_bytes();
+        match number {
+            [low] => *low = counted[0],
+            [low, high, ..] => {
+                *low = counted[0];
+                *high = counted[1];
+            }
+            [] => {}
+        }
+    }
+}
+
+// Steps up from the first sample, and on from the least where the most is passed.
+fn ramp(samples: &mut [i32], first: i32, step: i32) {
+    let mut next = first;
+    for sample in samples.iter_mut() {
+        *sample = next;
+        next = next.wrapping_add(step);
+    }
+}
+
+// Reads bytes as `from_bytes` does, and one sample at a time.
+fn both_read(bits: u16, bytes: &[u8], blocks: &mut [i32], plain: &mut [i32])
+    requires bits { is_width bits ≡ true }
+    requires blocks { length bytes.now ≡ length blocks.old * width bits }
+    requires plain { length bytes.now ≡ length plain.old * width bits }
+{
+    from_bytes(bits, bytes, blocks);
+    match bits {
+        8 => from_8_plain(bytes, plain, 0),
+        24 => from_24_plain(bytes, plain, 0),
+        32 => from_32_plain(bytes, plain, 0),
+        _ => from_bytes(bits, bytes, plain),
+    }
+}
+
+// Writes samples as `to_bytes` does, and one at a time.
+fn both_write(bits: u16, samples: &[i32], blocks: &mut [u8], plain: &mut [u8])
+    requires bits { is_width bits ≡ true }
+    requires blocks { length blocks.old ≡ length samples.now * width bits }
+    requires plain { length plain.old ≡ length samples.now * width bits }
+{
+    to_bytes(bits, samples, blocks);
+    match bits {
+        8 => to_8_plain(samples, plain, 0),
+        24 => to_24_plain(samples, plain, 0),
+        32 => to_32_plain(samples, plain, 0),
+        _ => to_bytes(bits, samples, plain),
+    }
+}
+
+// Whether the numbers 0, 1, 2 and so on are read as a ramp.
+fn are_read(
+    alloc: Global,
+    bits: u16,
+    frames: usize,
+    first: i32,
+    step: i32,
+) -> Result<bool, AllocError>
+    requires bits { is_width bits ≡ true }
+    requires frames { frames ≤ 4096 }
+{
+    let width = usize::from(bits) / 8;
+    let mut bytes = vec![in alloc; 0u8; frames * width]?;
+    count_up(&mut bytes, width);
+    let mut wanted = vec![in alloc; 0i32; frames]?;
+    ramp(&mut wanted, first, step);
+    let mut blocks = vec![in alloc; 7i32; frames]?;
+    let mut plain = vec![in alloc; 7i32; frames]?;
+    both_read(bits, &bytes, &mut blocks, &mut plain);
+    Ok(blocks == wanted && plain == wanted)
+}
+
+// Whether a ramp is written as the numbers 0, 1, 2 and so on.
+fn are_written(
+    alloc: Global,
+    bits: u16,
+    frames: usize,
+    first: i32,
+    step: i32,
+) -> Result<bool, AllocError>
+    requires bits { is_width bits ≡ true }
+    requires frames { frames ≤ 4096 }
+{
+    let width = usize::from(bits) / 8;
+    let mut wanted = vec![in alloc; 0u8; frames * width]?;
+    count_up(&mut wanted, width);
+    let mut samples = vec![in alloc; 0i32; frames]?;
+    ramp(&mut samples, first, step);
+    let mut blocks = vec![in alloc; 7u8; frames * width]?;
+    let mut plain = vec![in alloc; 7u8; frames * width]?;
+    both_write(bits, &samples, &mut blocks, &mut plain);
+    Ok(blocks == wanted && plain == wanted)
 }
 
 #[test]
-fn blocks_of_24_bits_are_read_as_single_samples_are(rt: HostRuntime) -> Result<(), Fail> {
-    for frames in [0usize, 1, 7, 8, 9, 4096] {
-        let mut bytes = vec![in rt.alloc(); 0u8; 3 * frames]?;
-        let mut blocks = vec![in rt.alloc(); 7i32; frames]?;
-        let mut plain = vec![in rt.alloc(); 7i32; frames]?;
-        assert!(rt; both_count(&mut bytes, &mut blocks, &mut plain));
+fn blocks_are_read_as_single_samples_are(rt: HostRuntime) -> Result<(), Fail> {
+    for frames in [0usize, 1, 7, 8, 9, 17, 4096] {
+        let least = i32::MIN;
+        assert!(rt; are_read(rt.alloc(), 8, frames, least, 16_777_216)?);
+        assert!(rt; are_read(rt.alloc(), 24, frames, 0, 256)?);
+        assert!(rt; are_read(rt.alloc(), 32, frames, 0, 1)?);
+    }
+    Ok(())
+}
+
+// The bits that a width leaves out are ones.
+#[test]
+fn blocks_are_written_as_single_samples_are(rt: HostRuntime) -> Result<(), Fail> {
+    for frames in [0usize, 1, 7, 8, 9, 17, 4096] {
+        let least = i32::MIN + 16_777_215;
+        assert!(rt; are_written(rt.alloc(), 8, frames, least, 16_777_216)?);
+        assert!(rt; are_written(rt.alloc(), 24, frames, 255, 256)?);
+        assert!(rt; are_written(rt.alloc(), 32, frames, 0, 1)?);
     }
     Ok(())
 }
