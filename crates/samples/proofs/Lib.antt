@@ -2,3 +2,4 @@ mod ByteLemmas
 mod KernelLemmas
 mod NarrowLemmas
 mod ScalingLemmas
+mod SpreadLemmas

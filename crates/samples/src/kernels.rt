@@ -6,6 +6,24 @@ ghost use Rattle.session_model.specs.Samples.{bytes_of, sample, stored, up};
 
 use std::simd::prelude::*;
 
+// Reads eight samples more, of 16 bits.
+pub(crate) fn eight_16(bytes: &[u8], out: &mut [i32], place: usize)
+    requires there { 2 * place + 16 ≤ length bytes.now }
+    requires room { place + 8 ≤ length out.old }
+    requires front { (k : ℕ) → k < place → sample out.old k ≡ up 16 (stored 16 (slice_index bytes.now (2 * k) ∷ slice_index bytes.now (2 * k + 1) ∷ [])) }
+    ensures { (k : ℕ) → k < place + 8 → sample out.new k ≡ up 16 (stored 16 (slice_index bytes.now (2 * k) ∷ slice_index bytes.now (2 * k + 1) ∷ [])) }
+{
+    let lanes = u8x16::from_slice(&bytes[2 * place..]);
+    let spread = lanes.shuffle(
+        u8x16::splat(0),
+        [
+            16, 16, 0, 1, 16, 16, 2, 3, 16, 16, 4, 5, 16, 16, 6, 7, 16, 16, 8, 9, 16, 16, 10, 11,
+            16, 16, 12, 13, 16, 16, 14, 15,
+        ],
+    );
+    i32x8::from_le_bytes(spread).copy_to_slice(&mut out[place..]);
+}
+
 // Reads four samples more, of 24 bits: sixteen bytes are loaded, twelve of them are taken.
 pub(crate) fn four_24(bytes: &[u8], out: &mut [i32], place: usize)
     requires there { 3 * place + 16 ≤ length bytes.now }

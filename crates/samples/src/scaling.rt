@@ -2,7 +2,9 @@ ghost use Rattle.std.specs.Prelude.{◌≡◌, ◌+◌, ◌*◌, ◌<◌, ◌≤
 ghost use Rattle.session_model.specs.Samples.{bytes_of, down, sample, samples_of, stored, storing, up, width};
 ghost use Rattle.session_model.specs.WaveFiles.{is_width};
 
-use crate::kernels::{eight_8, four_24, four_32, four_to_24, four_to_32, read_all, sixteen_to_8};
+use crate::kernels::{
+    eight_8, eight_16, four_24, four_32, four_to_24, four_to_32, read_all, sixteen_to_8,
+};
 
 /// Reads samples from a file's bytes.
 ///
@@ -83,13 +85,27 @@ fn from_8(bytes: &[u8], out: &mut [i32])
     from_8_plain(bytes, out, 8 * blocks);
 }
 
+// Reads the samples from `start` on, one at a time.
+pub(crate) fn from_16_plain(bytes: &[u8], out: &mut [i32], start: usize)
+    requires lengths { length bytes.now ≡ length out.old * 2 }
+    requires start { start ≤ length out.old }
+    requires front { (k : ℕ) → k < start → sample out.old k ≡ up 16 (stored 16 (slice_index bytes.now (2 * k) ∷ slice_index bytes.now (2 * k + 1) ∷ [])) }
+    ensures { out.new ≡ samples_of 16 bytes.now }
+{
+    for i in start..out.len() {
+        out[i] = sample_16(bytes[2 * i], bytes[2 * i + 1]);
+    }
+}
+
 fn from_16(bytes: &[u8], out: &mut [i32])
     requires { length bytes.now ≡ length out.old * 2 }
     ensures { out.new ≡ samples_of 16 bytes.now }
 {
-    for (i, sample) in out.iter_mut().enumerate() {
-        *sample = sample_16(bytes[2 * i], bytes[2 * i + 1]);
+    let blocks = out.len() / 8;
+    for block in 0..blocks {
+        eight_16(bytes, out, 8 * block);
     }
+    from_16_plain(bytes, out, 8 * blocks);
 }
 
 // Reads the samples from `start` on, one at a time.

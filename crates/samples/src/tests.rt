@@ -4,7 +4,7 @@ ghost use Rattle.session_model.specs.WaveFiles.{is_width};
 ghost use Rattle.samples.specs.Sums.{IsSmall};
 
 use crate::scaling::{
-    from_8_plain, from_24_plain, from_32_plain, to_8_plain, to_24_plain, to_32_plain,
+    from_8_plain, from_16_plain, from_24_plain, from_32_plain, to_8_plain, to_24_plain, to_32_plain,
 };
 use crate::{add_into, clamp64, from_bytes, settle, to_bytes};
 use std::alloc::{AllocError, Global};
@@ -129,9 +129,9 @@ fn both_read(bits: u16, bytes: &[u8], blocks: &mut [i32], plain: &mut [i32])
     from_bytes(bits, bytes, blocks);
     match bits {
         8 => from_8_plain(bytes, plain, 0),
+        16 => from_16_plain(bytes, plain, 0),
         24 => from_24_plain(bytes, plain, 0),
-        32 => from_32_plain(bytes, plain, 0),
-        _ => from_bytes(bits, bytes, plain),
+        _ => from_32_plain(bytes, plain, 0),
     }
 }
 
@@ -199,6 +199,7 @@ fn blocks_are_read_as_single_samples_are(rt: HostRuntime) -> Result<(), Fail> {
     for frames in [0usize, 1, 7, 8, 9, 17, 4096] {
         let least = i32::MIN;
         assert!(rt; are_read(rt.alloc(), 8, frames, least, 16_777_216)?);
+        assert!(rt; are_read(rt.alloc(), 16, frames, 0, 65_536)?);
         assert!(rt; are_read(rt.alloc(), 24, frames, 0, 256)?);
         assert!(rt; are_read(rt.alloc(), 32, frames, 0, 1)?);
     }

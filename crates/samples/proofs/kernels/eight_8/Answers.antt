@@ -1,7 +1,8 @@
 use Rattle.std.proofs.Common.{◌≡◌, ℕ, [], ◌∷◌, ℤ, get_or, map, refl, to_z, w32}
 use Rattle.session_model.specs.Samples.{up, stored}
 use lib.Lanes.{digits_l, number_l}
-use Rattle.samples.proofs.KernelLemmas.{joined, eight_8, spread_8, flipped}
+use Rattle.samples.proofs.KernelLemmas.{joined}
+use Rattle.samples.proofs.SpreadLemmas.{eight_8, spread_8, flipped}
 use Rattle.samples.proofs.kernels.eight_8.Goals as goal
 
 pub returns : goal.returns
