@@ -1,4 +1,5 @@
 mod ByteLemmas
+mod ClampLemmas
 mod KernelLemmas
 mod NarrowLemmas
 mod ScalingLemmas

@@ -1,8 +1,8 @@
 // Blocks of samples on vectors.
-ghost use Rattle.std.specs.Prelude.{◌≡◌, ◌+◌, ◌*◌, ◌<◌, ◌≤◌, ℕ, [], ◌∷◌, length, slice_index, take};
-ghost use Rattle.std.specs.Int.{w32};
+ghost use Rattle.std.specs.Prelude.{◌≡◌, ◌+◌, ◌*◌, ◌<◌, ◌≤◌, ℕ, [], ◌∷◌, length, map, slice_index, take};
+ghost use Rattle.std.specs.Int.{w32, w64};
 ghost use Rattle.std.specs.Int.RustNames.{FitsSigned};
-ghost use Rattle.session_model.specs.Samples.{bytes_of, sample, stored, up};
+ghost use Rattle.session_model.specs.Samples.{bytes_of, clamp, sample, stored, up};
 
 use std::simd::prelude::*;
 
@@ -126,4 +126,35 @@ pub(crate) fn four_to_24(samples: &[i32], out: &mut [u8], place: usize)
     let bytes = i32x4::from_slice(&samples[place..]).to_le_bytes();
     let upper = bytes.swizzle([1, 2, 3, 5, 6, 7, 9, 10, 11, 13, 14, 15, 0, 0, 0, 0]);
     upper.copy_to_slice(&mut out[3 * place..]);
+}
+
+// That a sum is a number of 64 bits is known where it is read.
+fn read_sum(sum: &[i64], i: usize)
+    requires { i < length sum.now }
+    ensures { FitsSigned w64 (sample sum.now i) }
+{
+    let _sum = sum[i];
+}
+
+// Tells the blocks of sums what `read_all` tells those of samples.
+pub(crate) fn read_sums(sum: &[i64])
+    ensures { (k : ℕ) → k < length sum.now → FitsSigned w64 (sample sum.now k) }
+{
+    for i in 0..sum.len() {
+        read_sum(sum, i);
+    }
+}
+
+// Clamps eight sums more.
+pub(crate) fn settle_eight(sum: &[i64], out: &mut [i32], place: usize)
+    requires there { place + 8 ≤ length sum.now }
+    requires room { place + 8 ≤ length out.old }
+    requires fits { (k : ℕ) → k < length sum.now → FitsSigned w64 (sample sum.now k) }
+    requires front { take place out.old ≡ map clamp (take place sum.now) }
+    ensures { take (place + 8) out.new ≡ map clamp (take (place + 8) sum.now) }
+{
+    let sums = i64x8::from_slice(&sum[place..]);
+    let clamped = sums.simd_clamp(i64x8::splat(-2_147_483_648), i64x8::splat(2_147_483_647));
+    let samples: i32x8 = clamped.cast();
+    samples.copy_to_slice(&mut out[place..]);
 }

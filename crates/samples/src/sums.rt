@@ -1,6 +1,8 @@
-ghost use Rattle.std.specs.Prelude.{◌≡◌, ◌<◌, ◌+ℤ◌, ℕ, length, map};
+ghost use Rattle.std.specs.Prelude.{◌≡◌, ◌<◌, ◌≤◌, ◌+ℤ◌, ℕ, length, map, take};
 ghost use Rattle.session_model.specs.Samples.{clamp, sample};
 ghost use Rattle.samples.specs.Sums.{IsSmall};
+
+use crate::kernels::{read_sums, settle_eight};
 
 /// The number nearest to `x` that a sample can be.
 ///
@@ -31,12 +33,27 @@ pub fn add_into(sum: &mut [i64], part: &[i32])
     }
 }
 
+// Clamps the sums from `start` on, one at a time.
+pub(crate) fn settle_plain(sum: &[i64], out: &mut [i32], start: usize)
+    requires lengths { length sum.now ≡ length out.old }
+    requires start { start ≤ length sum.now }
+    requires front { take start out.old ≡ map clamp (take start sum.now) }
+    ensures { out.new ≡ map clamp sum.now }
+{
+    for i in start..sum.len() {
+        out[i] = clamp64(sum[i]);
+    }
+}
+
 /// Clamps each sum to a sample, once.
 pub fn settle(sum: &[i64], out: &mut [i32])
     requires { length sum.now ≡ length out.old }
     ensures { out.new ≡ map clamp sum.now }
 {
-    for (i, sample) in out.iter_mut().enumerate() {
-        *sample = clamp64(sum[i]);
+    read_sums(sum);
+    let blocks = sum.len() / 8;
+    for block in 0..blocks {
+        settle_eight(sum, out, 8 * block);
     }
+    settle_plain(sum, out, 8 * blocks);
 }

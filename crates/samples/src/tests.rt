@@ -6,6 +6,7 @@ ghost use Rattle.samples.specs.Sums.{IsSmall};
 use crate::scaling::{
     from_8_plain, from_16_plain, from_24_plain, from_32_plain, to_8_plain, to_24_plain, to_32_plain,
 };
+use crate::sums::settle_plain;
 use crate::{add_into, clamp64, from_bytes, settle, to_bytes};
 use std::alloc::{AllocError, Global};
 use std::test::Fail;
@@ -214,6 +215,50 @@ fn blocks_are_written_as_single_samples_are(rt: HostRuntime) -> Result<(), Fail>
         assert!(rt; are_written(rt.alloc(), 8, frames, least, 16_777_216)?);
         assert!(rt; are_written(rt.alloc(), 24, frames, 255, 256)?);
         assert!(rt; are_written(rt.alloc(), 32, frames, 0, 1)?);
+    }
+    Ok(())
+}
+
+// Sums from -2^32 in steps of 2^30, eight of them again and again.
+fn stairs(sum: &mut [i64]) {
+    for (k, step) in sum.iter_mut().enumerate() {
+        *step = i64::from((k % 8) as u8) * 1_073_741_824 - 4_294_967_296;
+    }
+}
+
+// The samples that are nearest to them.
+fn flat_stairs(out: &mut [i32]) {
+    for (k, step) in out.iter_mut().enumerate() {
+        *step = match k % 8 {
+            0..=2 => i32::MIN,
+            3 => -1_073_741_824,
+            4 => 0,
+            5 => 1_073_741_824,
+            _ => i32::MAX,
+        };
+    }
+}
+
+// Clamps as `settle` does, and one sum at a time.
+fn both_settle(sum: &[i64], blocks: &mut [i32], plain: &mut [i32])
+    requires blocks { length sum.now ≡ length blocks.old }
+    requires plain { length sum.now ≡ length plain.old }
+{
+    settle(sum, blocks);
+    settle_plain(sum, plain, 0);
+}
+
+#[test]
+fn blocks_are_clamped_as_single_sums_are(rt: HostRuntime) -> Result<(), Fail> {
+    for frames in [0usize, 1, 7, 8, 9, 17, 4096] {
+        let mut sum = vec![in rt.alloc(); 0i64; frames]?;
+        stairs(&mut sum);
+        let mut wanted = vec![in rt.alloc(); 0i32; frames]?;
+        flat_stairs(&mut wanted);
+        let mut blocks = vec![in rt.alloc(); 7i32; frames]?;
+        let mut plain = vec![in rt.alloc(); 7i32; frames]?;
+        both_settle(&sum, &mut blocks, &mut plain);
+        assert!(rt; blocks == wanted && plain == wanted);
     }
     Ok(())
 }

@@ -1,6 +1,6 @@
-use Rattle.std.proofs.Common.{◌≡◌, take, map}
+use Rattle.std.proofs.Common.{◌≡◌, ◌*◌, take, map}
 use Rattle.session_model.specs.Samples.{clamp}
 use Rattle.samples.proofs.sums.settle.Given as goal
 
-abbrev pub invariant-loop-i : goal.invariant-loop-i
-invariant-loop-i l = take l.i l.out ≡ map clamp (take l.i l.sum)
+abbrev pub invariant-loop-block : goal.invariant-loop-block
+invariant-loop-block l = take (8 * l.block) l.out ≡ map clamp (take (8 * l.block) l.sum)

@@ -1,0 +1,14 @@
+use Rattle.std.proofs.Common.{pos, w64}
+use Rattle.std.specs.Int.RustNames.{FitsSigned}
+use Rattle.std.proofs.lemmas.Simd.{Each1-from_get_or}
+use Rattle.samples.proofs.ClampLemmas.{narrow, settle_eight}
+use Rattle.samples.proofs.kernels.settle_eight.Goals as goal
+
+pub overflow_cast-samples : goal.overflow_cast-samples
+overflow_cast-samples c =
+    narrow c.args.sum.now c.args.place c.requires.there (Each1-from_get_or (FitsSigned w64) c.args.sum.now (pos 0) c.requires.fits)
+
+pub returns : goal.returns
+returns c =
+    settle_eight c.args.sum.now c.args.out.now c.args.place c.requires.there c.requires.room
+    (Each1-from_get_or (FitsSigned w64) c.args.sum.now (pos 0) c.requires.fits) c.requires.front
