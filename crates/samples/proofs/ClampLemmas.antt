@@ -1,5 +1,5 @@
 -- Blocks of sums on vectors, clamped to samples.
-use Rattle.std.proofs.Common.{◌≡◌, ℕ, zero, suc, ◌+◌, ◌-◌, ◌^◌, ◌≤◌, Bool, true, false, cond, List, [], ◌∷◌, ◌++◌, length, take, drop, map, replicate, ℤ, pos, negsuc, refl, sym, ap, subst, ◌∙◌, arith, of_z, to_z, w32, w64}
+use Rattle.std.proofs.Common.{◌≡◌, ℕ, ◌+◌, ◌-◌, ◌^◌, ◌≤◌, Bool, true, false, cond, List, [], ◌∷◌, ◌++◌, length, take, map, replicate, ℤ, pos, negsuc, refl, sym, ap, subst, ◌∙◌, arith, of_z, to_z, w32, w64}
 use Rattle.std.proofs.Math.Seq.{take-add}
 use Rattle.std.proofs.lemmas.Int.{ints, to_z-of_z}
 use Rattle.std.proofs.lemmas.List.{length-map, map-append}

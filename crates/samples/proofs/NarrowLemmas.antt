@@ -1,11 +1,11 @@
 -- Blocks of samples on vectors, written as bytes.
-use Rattle.std.proofs.Common.{◌≡◌, ℕ, zero, suc, ◌+◌, ◌-◌, ◌*◌, ◌/◌, ◌%◌, ◌^◌, ◌<◌, ◌≤◌, List, [], ◌∷◌, ◌++◌, length, take, drop, map, replicate, get_or, ℤ, pos, refl, sym, ap, subst, ◌∙◌, arith, of_z, w8, w32, negsuc, ◌+ℤ◌, length-append, length-take-le, take-take, append_assoc}
+use Rattle.std.proofs.Common.{◌≡◌, ℕ, zero, suc, ◌+◌, ◌-◌, ◌*◌, ◌/◌, ◌%◌, ◌^◌, ◌<◌, ◌≤◌, List, [], ◌∷◌, ◌++◌, length, take, map, replicate, ℤ, pos, refl, sym, ap, ◌∙◌, arith, of_z, w8, w32, negsuc, ◌+ℤ◌, length-append, length-take-le, take-take, append_assoc}
 use Rattle.std.proofs.Math.Seq.{take-add, take-append_seam}
 use Rattle.std.proofs.lemmas.Int.{ints}
 use Rattle.std.proofs.lemmas.List.Concat.{flat_map-append}
 use Rattle.std.proofs.lemmas.Simd.{take_more_put_chunk, Each1-chunk, length-chunk, zip2_splat, map-map}
 use Rattle.std.proofs.lemmas.List.{length-map}
-use Rattle.std.specs.Prelude.{flat_map, nat_abs}
+use Rattle.std.specs.Prelude.{nat_abs}
 use Rattle.std.specs.Int.{bytes_low_first}
 use Rattle.std.specs.Int.RustNames.{FitsSigned}
 use lib.Bits.{bit_xor}

@@ -1,5 +1,5 @@
 -- Blocks of samples on vectors, where bytes are spread over wider lanes.
-use Rattle.std.proofs.Common.{◌≡◌, ℕ, zero, suc, ◌+◌, ◌-◌, ◌*◌, ◌/◌, ◌%◌, ◌^◌, ◌<◌, ◌≤◌, Bool, true, false, ltb, List, [], ◌∷◌, ◌++◌, length, take, drop, map, replicate, get_or, get_or-drop, ℤ, pos, ◌*ℤ◌, refl, sym, ap, ◌∙◌, arith, Fits, to_z, w8, w32}
+use Rattle.std.proofs.Common.{◌≡◌, ℕ, zero, suc, ◌+◌, ◌-◌, ◌*◌, ◌/◌, ◌%◌, ◌^◌, ◌<◌, ◌≤◌, Bool, true, false, ltb, List, [], ◌∷◌, ◌++◌, length, drop, map, replicate, get_or, get_or-drop, ℤ, pos, ◌*ℤ◌, refl, sym, ap, ◌∙◌, arith, Fits, to_z, w8, w32}
 use Rattle.std.proofs.lemmas.Int.{ints}
 use Rattle.std.proofs.lemmas.Bool.{ltb-true, ltb-false}
 use Rattle.std.proofs.lemmas.Nat.{xor_lt}

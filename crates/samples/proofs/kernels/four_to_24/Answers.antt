@@ -1,4 +1,4 @@
-use Rattle.std.proofs.Common.{refl, arith, pos, w32}
+use Rattle.std.proofs.Common.{pos, w32}
 use Rattle.std.specs.Int.RustNames.{FitsSigned}
 use Rattle.std.proofs.lemmas.Simd.{Each1-from_get_or}
 use Rattle.samples.proofs.NarrowLemmas.{four_to_24}

@@ -1,4 +1,4 @@
-use Rattle.std.proofs.Common.{◌≡◌, ◌*◌, take}
+use Rattle.std.proofs.Common.{◌≡◌, take}
 use Rattle.session_model.specs.Samples.{bytes_of}
 use Rattle.samples.proofs.scaling.to_8_plain.Given as goal
 
