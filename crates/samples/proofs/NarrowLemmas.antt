@@ -1,5 +1,5 @@
 -- Blocks of samples on vectors, written as bytes.
-use Rattle.std.proofs.Common.{◌≡◌, ℕ, zero, suc, ◌+◌, ◌-◌, ◌*◌, ◌/◌, ◌%◌, ◌^◌, ◌<◌, ◌≤◌, List, [], ◌∷◌, ◌++◌, length, take, map, replicate, ℤ, pos, refl, sym, ap, ◌∙◌, arith, of_z, w8, w32, negsuc, ◌+ℤ◌, length-append, length-take-le, take-take, append_assoc}
+use Rattle.std.proofs.Common.{◌≡◌, ℕ, zero, suc, ◌+◌, ◌-◌, ◌*◌, ◌/◌, ◌%◌, ◌^◌, ◌<◌, ◌≤◌, List, [], ◌∷◌, ◌++◌, length, take, map, replicate, ℤ, pos, refl, sym, ap, ◌∙◌, arith, of_z, w8, w16, w32, negsuc, ◌+ℤ◌, length-append, length-take-le, take-take, append_assoc}
 use Rattle.std.proofs.Math.Seq.{take-add, take-append_seam}
 use Rattle.std.proofs.lemmas.Int.{ints}
 use Rattle.std.proofs.lemmas.List.Concat.{flat_map-append}
@@ -10,7 +10,7 @@ use Rattle.std.specs.Int.{bytes_low_first}
 use Rattle.std.specs.Int.RustNames.{FitsSigned}
 use lib.Bits.{bit_xor}
 use lib.Lanes.{Each1, zip2, chunk, put_chunk, number_l, digits_l}
-use Rattle.session_model.specs.Samples.{down, storing, bytes_of}
+use Rattle.session_model.specs.Samples.{down, unsigned, storing, bytes_of}
 use Rattle.samples.proofs.ByteLemmas.{low_byte, high_byte}
 
 -- ---- a block behind the bytes that are done
@@ -121,15 +121,68 @@ sixteen_to_8 f samples old place shifts there room fit front =
     written 8 samples old (lows 16 (number_l 4294967296 words)) place 16 place (place + 16) front
     (ap (λ (ws : List ℕ). lows 16 (number_l 4294967296 ws)) same ∙ ap (λ (n : ℕ). lows n (number_l 4294967296 (map g zs))) (sym long) ∙ words_8 g zs shifts (Each1-chunk (FitsSigned w32) place 16 samples fit)) refl room
 
+-- ---- the two lowest bytes of each word
+
+abbrev pub pairs : ℕ → ℕ → List ℕ
+pairs zero x = []
+pairs (suc n) x = x % 256 ∷ x / 256 % 256 ∷ pairs n (x / 256 / 256 / 256 / 256)
+
+half_fits : (z : ℤ) → FitsSigned w32 z → FitsSigned w16 (down 16 z)
+half_fits (pos n) fits = grind (arith, ints)
+half_fits (negsuc n) fits = grind (arith, ints)
+
+half-below : (s : ℤ) → FitsSigned w16 s → of_z w32 s < 2 ^ 32
+half-below (pos n) fits = omega (arith, ints)
+half-below (negsuc n) fits = omega (arith, ints)
+
+unsigned_half : (s : ℤ) → FitsSigned w16 s → of_z w32 s % 2 ^ 16 ≡ unsigned 16 s
+unsigned_half (pos n) fits = grind (arith, ints)
+unsigned_half (negsuc n) fits = grind (arith, ints)
+
+stored_16 : (s : ℤ) → FitsSigned w16 s → of_z w32 s % 256 ∷ of_z w32 s / 256 % 256 ∷ [] ≡ storing 16 s
+stored_16 s fits =
+    let x : ℕ = of_z w32 s in
+    let n : ℕ = unsigned 16 s in
+    let e : x % 2 ^ 16 ≡ n = unsigned_half s fits in
+    let a : x % 256 ≡ n % 256 = omega (arith, e) in
+    let b : x / 256 % 256 ≡ n / 256 ^ 1 % 256 = omega (arith, e) in
+    λ i. a i ∷ b i ∷ []
+
+words_16 : (f : ℤ → ℕ) (zs : List ℤ) → ((z : ℤ) → FitsSigned w32 z → f z ≡ of_z w32 (down 16 z)) → Each1 (FitsSigned w32) zs
+    → pairs (length zs) (number_l 4294967296 (map f zs)) ≡ bytes_of 16 zs
+words_16 f [] shifts fit = refl
+words_16 f (z ∷ zs) shifts fit =
+    let n : ℕ = f z in
+    let m : ℕ = number_l 4294967296 (map f zs) in
+    let x : ℕ = n + 4294967296 * m in
+    let s : ℤ = down 16 z in
+    let e : n ≡ of_z w32 s = shifts z fit.0 in
+    let small : n < 2 ^ 32 = omega (arith, e, half-below s (half_fits z fit.0)) in
+    let a : x % 256 ≡ of_z w32 s % 256 = omega arith in
+    let b : x / 256 % 256 ≡ of_z w32 s / 256 % 256 = omega arith in
+    let rest : x / 256 / 256 / 256 / 256 ≡ m = omega arith in
+    (λ i. a i ∷ b i ∷ pairs (length zs) (rest i))
+    ∙ (λ i. of_z w32 s % 256 ∷ of_z w32 s / 256 % 256 ∷ words_16 f zs shifts fit.1 i)
+    ∙ ap (λ (front : List ℕ). front ++ bytes_of 16 zs) (stored_16 s (half_fits z fit.0))
+
+pub sixteen_to_16 : (f : ℕ → ℕ → ℕ) (samples : List ℤ) (old : List ℕ) (place : ℕ) → ((z : ℤ) → FitsSigned w32 z → f (of_z w32 z) 16 ≡ of_z w32 (down 16 z))
+    → place + 16 ≤ length samples → 2 * place + 32 ≤ length old → Each1 (FitsSigned w32) samples
+    → take (2 * place) old ≡ bytes_of 16 (take place samples)
+    → take (2 * place + 32) (put_chunk (2 * place) old (pairs 16 (number_l 4294967296 (zip2 f (map (of_z w32) (chunk place 16 samples)) (replicate 16 16))))) ≡ bytes_of 16 (take (place + 16) samples)
+sixteen_to_16 f samples old place shifts there room fit front =
+    let zs : List ℤ = chunk place 16 samples in
+    let long : length zs ≡ 16 = length-chunk place 16 samples there in
+    let g : ℤ → ℕ = λ z. f (of_z w32 z) 16 in
+    let words : List ℕ = zip2 f (map (of_z w32) zs) (replicate 16 16) in
+    let same : words ≡ map g zs = zip2_splat f (map (of_z w32) zs) 16 16 (length-map zs (of_z w32) ∙ long) ∙ map-map (λ x. f x 16) (of_z w32) zs in
+    written 16 samples old (pairs 16 (number_l 4294967296 words)) place 16 (2 * place) (2 * place + 32) front
+    (ap (λ (ws : List ℕ). pairs 16 (number_l 4294967296 ws)) same ∙ ap (λ (n : ℕ). pairs n (number_l 4294967296 (map g zs))) (sym long) ∙ words_16 g zs shifts (Each1-chunk (FitsSigned w32) place 16 samples fit)) refl room
+
 -- ---- the three upper bytes of each word
 
 abbrev pub uppers : ℕ → ℕ → List ℕ
 uppers zero x = []
 uppers (suc n) x = x / 256 % 256 ∷ x / 256 / 256 % 256 ∷ x / 256 / 256 / 256 % 256 ∷ uppers n (x / 256 / 256 / 256 / 256)
-
-length-uppers : (n x : ℕ) → length (uppers n x) ≡ 3 * n
-length-uppers zero x = refl
-length-uppers (suc n) x = omega (arith, length-uppers n (x / 256 / 256 / 256 / 256))
 
 stored_24 : (z : ℤ) → FitsSigned w32 z → of_z w32 z / 256 ^ 1 % 256 ∷ of_z w32 z / 256 ^ 2 % 256 ∷ of_z w32 z / 256 ^ 3 % 256 ∷ [] ≡ storing 24 (down 24 z)
 stored_24 z fits = grind (arith, ints)

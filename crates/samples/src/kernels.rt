@@ -102,6 +102,22 @@ pub(crate) fn sixteen_to_8(samples: &[i32], out: &mut [u8], place: usize)
     bytes.copy_to_slice(&mut out[place..]);
 }
 
+// Writes sixteen samples more, in 16 bits.
+pub(crate) fn sixteen_to_16(samples: &[i32], out: &mut [u8], place: usize)
+    requires there { place + 16 ≤ length samples.now }
+    requires room { 2 * place + 32 ≤ length out.old }
+    requires fits { (k : ℕ) → k < length samples.now → FitsSigned w32 (sample samples.now k) }
+    requires front { take (2 * place) out.old ≡ bytes_of 16 (take place samples.now) }
+    ensures { take (2 * place + 32) out.new ≡ bytes_of 16 (take (place + 16) samples.now) }
+{
+    let tops = i32x16::from_slice(&samples[place..]) >> i32x16::splat(16);
+    let lowest = tops.to_le_bytes().swizzle([
+        0, 1, 4, 5, 8, 9, 12, 13, 16, 17, 20, 21, 24, 25, 28, 29, 32, 33, 36, 37, 40, 41, 44, 45,
+        48, 49, 52, 53, 56, 57, 60, 61,
+    ]);
+    lowest.copy_to_slice(&mut out[2 * place..]);
+}
+
 // Writes four samples more, in 32 bits.
 pub(crate) fn four_to_32(samples: &[i32], out: &mut [u8], place: usize)
     requires there { place + 4 ≤ length samples.now }

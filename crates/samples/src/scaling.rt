@@ -4,6 +4,7 @@ ghost use Rattle.session_model.specs.WaveFiles.{is_width};
 
 use crate::kernels::{
     eight_8, eight_16, four_24, four_32, four_to_24, four_to_32, read_all, sixteen_to_8,
+    sixteen_to_16,
 };
 
 /// Reads samples from a file's bytes.
@@ -210,15 +211,30 @@ fn to_8(samples: &[i32], out: &mut [u8])
     to_8_plain(samples, out, 16 * blocks);
 }
 
+// Writes the samples from `start` on, one at a time.
+pub(crate) fn to_16_plain(samples: &[i32], out: &mut [u8], start: usize)
+    requires lengths { length out.old ≡ length samples.now * 2 }
+    requires start { start ≤ length samples.now }
+    requires front { take (2 * start) out.old ≡ bytes_of 16 (take start samples.now) }
+    ensures { out.new ≡ bytes_of 16 samples.now }
+{
+    for i in start..samples.len() {
+        let [a, b] = bytes_16(samples[i]);
+        out[2 * i] = a;
+        out[2 * i + 1] = b;
+    }
+}
+
 fn to_16(samples: &[i32], out: &mut [u8])
     requires { length out.old ≡ length samples.now * 2 }
     ensures { out.new ≡ bytes_of 16 samples.now }
 {
-    for (i, sample) in samples.iter().enumerate() {
-        let [a, b] = bytes_16(*sample);
-        out[2 * i] = a;
-        out[2 * i + 1] = b;
+    read_all(samples);
+    let blocks = samples.len() / 16;
+    for block in 0..blocks {
+        sixteen_to_16(samples, out, 16 * block);
     }
+    to_16_plain(samples, out, 16 * blocks);
 }
 
 // Writes the samples from `start` on, one at a time.

@@ -4,7 +4,8 @@ ghost use Rattle.session_model.specs.WaveFiles.{is_width};
 ghost use Rattle.samples.specs.Sums.{IsSmall};
 
 use crate::scaling::{
-    from_8_plain, from_16_plain, from_24_plain, from_32_plain, to_8_plain, to_24_plain, to_32_plain,
+    from_8_plain, from_16_plain, from_24_plain, from_32_plain, to_8_plain, to_16_plain,
+    to_24_plain, to_32_plain,
 };
 use crate::sums::settle_plain;
 use crate::{add_into, clamp64, from_bytes, settle, to_bytes};
@@ -145,9 +146,9 @@ fn both_write(bits: u16, samples: &[i32], blocks: &mut [u8], plain: &mut [u8])
     to_bytes(bits, samples, blocks);
     match bits {
         8 => to_8_plain(samples, plain, 0),
+        16 => to_16_plain(samples, plain, 0),
         24 => to_24_plain(samples, plain, 0),
-        32 => to_32_plain(samples, plain, 0),
-        _ => to_bytes(bits, samples, plain),
+        _ => to_32_plain(samples, plain, 0),
     }
 }
 
@@ -213,6 +214,7 @@ fn blocks_are_written_as_single_samples_are(rt: HostRuntime) -> Result<(), Fail>
     for frames in [0usize, 1, 7, 8, 9, 17, 4096] {
         let least = i32::MIN + 16_777_215;
         assert!(rt; are_written(rt.alloc(), 8, frames, least, 16_777_216)?);
+        assert!(rt; are_written(rt.alloc(), 16, frames, 65_535, 65_536)?);
         assert!(rt; are_written(rt.alloc(), 24, frames, 255, 256)?);
         assert!(rt; are_written(rt.alloc(), 32, frames, 0, 1)?);
     }

@@ -2,5 +2,5 @@ use Rattle.std.proofs.Common.{◌≡◌, ◌*◌, take}
 use Rattle.session_model.specs.Samples.{bytes_of}
 use Rattle.samples.proofs.scaling.to_16.Given as goal
 
-abbrev pub invariant-loop-i : goal.invariant-loop-i
-invariant-loop-i l = take (2 * l.i) l.out ≡ bytes_of 16 (take l.i l.samples)
+abbrev pub invariant-loop-block : goal.invariant-loop-block
+invariant-loop-block l = take (2 * (16 * l.block)) l.out ≡ bytes_of 16 (take (16 * l.block) l.samples)

@@ -1,0 +1,6 @@
+use Rattle.std.proofs.Common.{◌≡◌, ◌*◌, take}
+use Rattle.session_model.specs.Samples.{bytes_of}
+use Rattle.samples.proofs.scaling.to_16_plain.Given as goal
+
+abbrev pub invariant-loop-i : goal.invariant-loop-i
+invariant-loop-i l = take (2 * l.i) l.out ≡ bytes_of 16 (take l.i l.samples)
