@@ -5,7 +5,6 @@ mod captures;
 mod fault_lines;
 mod preparing;
 mod reading;
-mod rows;
 mod sessions;
 mod status;
 #[cfg(test)]
@@ -14,6 +13,5 @@ mod top;
 mod words;
 mod writing;
 
-pub use rows::{Part, Row};
 pub use status::{Difference, Status, What};
 pub use top::jackd;

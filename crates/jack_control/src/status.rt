@@ -1,5 +1,4 @@
-use crate::Row;
-use jack_types::{ScriptFault, WaveFault};
+use jack_types::{Row, ScriptFault, WaveFault};
 
 /// What a script and the files or guests that it is played with differ in.
 #[derive(Clone, Copy, Debug, PartialEq, Eq)]

@@ -1,0 +1,58 @@
+//! The lines of calls.
+
+ghost use Rattle.std.specs.Prelude.{◌≡◌, ◌≤◌, ◌+◌, ◌++◌, flat_map, length, map};
+ghost use Rattle.jack_host.specs.Bytes.{Puts};
+ghost use Rattle.jack_host.specs.Causes.{HasCause};
+ghost use Rattle.session_model.specs.Reports.{call_line, printed_call, reply_words, spaced};
+ghost use Rattle.report_lines.specs.Outputs.{text_of};
+
+use crate::lines::{Line, add_number, add_word, begun, end_line};
+use jack_host::{Failed, Sink};
+use jack_types::{Entry, Reply};
+
+// The line of a call with its reply.
+fn line_of(entry: &Entry) -> Line
+    ensures { result.bytes ≡ call_line (printed_call entry.now) }
+{
+    let mut line = begun("call");
+    add_number(&mut line, u64::from(entry.call.lane));
+    add_number(&mut line, u64::from(entry.call.index));
+    match entry.reply {
+        Reply::Accepted(number) => {
+            add_word(&mut line, "ok");
+            add_number(&mut line, u64::from(number));
+        }
+        Reply::Refused(refusal) => {
+            add_word(&mut line, "refused");
+            add_number(&mut line, u64::from(refusal.number()));
+            add_word(&mut line, refusal.name());
+        }
+        Reply::Latency(range) => {
+            add_word(&mut line, "latency");
+            add_number(&mut line, u64::from(range.min));
+            add_number(&mut line, u64::from(range.max));
+        }
+    }
+    end_line(&mut line);
+    line
+}
+
+/// Puts the line of a call: its lane, its index in the lane, and the reply.
+pub fn put_call<K: Sink>(out: &mut K, entry: &Entry) -> Result<(), Failed>
+    ensures puts { Puts (K.content out.old) (K.content out.new) result (call_line (printed_call entry.now)) }
+    ensures cause { HasCause (K.faults out.old) (K.faults out.new) result }
+{
+    out.put(line_of(entry).as_str().as_bytes())
+}
+
+/// Puts the lines of all calls of a history, in its order. At a failure the lines before it and a first part of the
+/// line that failed were put.
+pub fn put_calls<K: Sink>(out: &mut K, history: &[Entry]) -> Result<(), Failed>
+    ensures puts { Puts (K.content out.old) (K.content out.new) result (text_of (map call_line (map printed_call history.now))) }
+    ensures cause { HasCause (K.faults out.old) (K.faults out.new) result }
+{
+    for entry in history {
+        put_call(out, entry)?;
+    }
+    Ok(())
+}
