@@ -11,15 +11,18 @@ mod Stilling
 mod Entering
 mod Leaving
 mod Acting
-mod Listed
+pub mod Listed
 mod Played
 mod Slots
 mod Shares
+pub mod Waiting
+pub mod Returned
 mod Alone
 mod Begun
-mod Gathered
-mod Places
+pub mod Gathered
+pub mod Places
 mod Turning
 mod Entered
 pub mod Ended
 mod Sharing
+mod Diamonds

@@ -2,6 +2,8 @@
 use Rattle.std.proofs.Common.{◌≡◌, ℕ, zero, suc, ◌+◌, ◌<◌, ◌≤◌, Bool, true, false, cond, ◌==◌, List, [], ◌∷◌, length, map, filter, get_or, set, All, Contains, Some, refl, sym, ◌∙◌, ap, subst, arith, eqb-true, eq-eqb, length-set, get_or-set_same, get_or-set_other}
 use Rattle.std.proofs.lemmas.List.{map-set, length-map, ext_get_or}
 use mathlib.Core.Logic.{dite}
+use mathlib.Core.Option.{some, some-injective, some-ne-none}
+use lib.ListN.{get_elem?}
 use native.Mathlib.Decide.{ℕ_discrete}
 use Rattle.jack_types.specs.declared.ports.Link.{Link}
 use Rattle.session_model.specs.Activation.{link_at, incoming, outgoing}
@@ -14,6 +16,11 @@ pub each_at : {A : Type 0} (P : A → Type 0) (xs : List A) → Each P xs → (j
 each_at P [] h j d b = absurd (omega (arith, b))
 each_at P (x ∷ xs) h zero d b = h.0
 each_at P (x ∷ xs) h (suc j) d b = each_at P xs h.1 j d (omega (arith, b))
+
+pub one_of : {A : Type 0} (P : A → Type 0) (xs : List A) (n : ℕ) (x : A) → All P xs → get_elem? xs n ≡ some x → P x
+one_of P [] n x all e = absurd (some-ne-none x (sym e))
+one_of P (y ∷ ys) zero x all e = subst P (some-injective y x e) (all 0 y (omega arith))
+one_of P (y ∷ ys) (suc n) x all e = one_of P ys n x (λ k d low. all (suc k) d (omega (arith, low))) e
 
 pub get_or-map : {A C : Type 0} (f : A → C) (xs : List A) (i : ℕ) (d : A) (e : C) → i < length xs → get_or (map f xs) i e ≡ f (get_or xs i d)
 get_or-map f [] i d e h = absurd (omega (arith, h))

@@ -7,6 +7,7 @@
 mod changes;
 mod cores;
 mod crews;
+mod crossing;
 mod gathering;
 mod indexes;
 mod making;

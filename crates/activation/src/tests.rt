@@ -1,15 +1,27 @@
-use crate::{Core, Step};
+ghost use Rattle.std.specs.Prelude.{◌≡◌, ◌≤◌, List, [], ◌∷◌, length, map, true, All, IfOk, replicate};
+ghost use Rattle.activation.specs.Diamonds.{diamond};
+ghost use Rattle.activation.specs.Seats.{Sits, new_duty};
+
+use crate::{Core, Crew, Seat, Step, Work};
 use jack_types::Link;
+use std::alloc::{AllocError, Global};
 use std::test::Fail;
 
-#[test]
-fn a_diamond_takes_its_last_node_once(rt: HostRuntime) -> Result<(), Fail> {
-    let links = [
+// Node 0 feeds nodes 1 and 2, and both feed node 3.
+fn links_of_a_diamond() -> [Link; 4]
+    ensures { result ≡ diamond }
+{
+    [
         Link { from: 0, to: 1 },
         Link { from: 0, to: 2 },
         Link { from: 1, to: 3 },
         Link { from: 2, to: 3 },
-    ];
+    ]
+}
+
+#[test]
+fn a_diamond_takes_its_last_node_once(rt: HostRuntime) -> Result<(), Fail> {
+    let links = links_of_a_diamond();
     let mut core = Core::new(rt.alloc(), &links, 4, 1)?;
     assert!(rt; core.step(Step::Start(0, 0)) == Some(0));
     assert!(rt; core.step(Step::Start(0, 1)) == None);
@@ -20,5 +32,109 @@ fn a_diamond_takes_its_last_node_once(rt: HostRuntime) -> Result<(), Fail> {
     assert!(rt; core.step(Step::Home(0, 0)) == None);
     assert!(rt; core.step(Step::Release(0, 2)) == None);
     assert!(rt; core.step(Step::Release(0, 3)) == Some(3));
+    Ok(())
+}
+
+/// Counts its plays, and hands the place of each link.
+#[derive(Drop)]
+struct Counter {
+    plays: u64,
+    room: [bool; 64],
+}
+
+impl Work for Counter {
+    type Value = u64;
+
+    type Memory = u64;
+
+    ghost use Rattle.std.specs.Prelude.{slice_index_or, false, ◌+◌, ◌%◌, ◌^◌};
+
+    ghost memory = { λ b. b.plays };
+
+    ghost has_room = { λ b place. slice_index_or b.room place false };
+
+    ghost value_at = { λ b place. place };
+
+    ghost after = { λ m given. (m + 1) % 2 ^ 64 };
+
+    ghost gives = { λ m given place. place };
+
+    fn play(&mut self, _given: &[Option<u64>]) {
+        self.plays = self.plays.wrapping_add(1);
+    }
+
+    fn hand(&mut self, place: u32) -> u64 {
+        self.room[place as usize] = false;
+        u64::from(place)
+    }
+
+    fn back(&mut self, place: u32, _value: u64) {
+        self.room[place as usize] = true;
+    }
+}
+
+// The steps of one seat over a diamond: whether each took the node that it is to take.
+fn takes_a_diamond(crew: &Crew<Counter>, seat: &mut Seat<Counter>) -> bool
+    requires crew { (crew.now.links.items ≡ diamond) × (crew.now.nodes ≡ 4) × (crew.now.seats ≡ 1) }
+    requires seat { Sits crew.now.board.shared.table_id diamond 4 1 0 seat.old.token × (seat.old.number ≡ 0) }
+    requires fresh { (before : List Counter) × (seat.old.token.me.0.duty ≡ new_duty diamond before 1 (0 ∷ [])) × All (λ b. b.room ≡ replicate 64 true) before }
+{
+    let Some(mut first) = crew.start(seat, 0) else {
+        return false;
+    };
+    if crew.start(seat, 1).is_some() {
+        return false;
+    }
+    if crew.start(seat, 2).is_some() {
+        return false;
+    }
+    if crew.start(seat, 3).is_some() {
+        return false;
+    }
+    first.play();
+    let Some(mut second) = crew.release(seat, &mut first, 0) else {
+        return false;
+    };
+    let Some(mut third) = crew.release(seat, &mut first, 1) else {
+        return false;
+    };
+    second.play();
+    third.play();
+    if crew.release(seat, &mut second, 2).is_some() {
+        return false;
+    }
+    let Some(last) = crew.release(seat, &mut third, 3) else {
+        return false;
+    };
+    second.node() == 1 && third.node() == 2 && last.node() == 3
+}
+
+// Benches of four nodes, with all their room.
+fn counters(alloc: Global) -> Result<Vec<Counter>, AllocError>
+    ensures { IfOk result (λ all. (length all.items ≡ 4) × All (λ b. b.room ≡ replicate 64 true) all.items) }
+{
+    let mut all = Vec::with_capacity(alloc, 4)?;
+    for _ in 0..4 {
+        all.push_reserved(Counter {
+            plays: 0,
+            room: [true; 64],
+        });
+    }
+    Ok(all)
+}
+
+// A crew of one seat over a diamond, played by that seat.
+fn plays_a_diamond(alloc: Global) -> Result<bool, AllocError> {
+    let benches = counters(alloc)?;
+    let (crew, mut seats) = match Crew::new(alloc, &links_of_a_diamond(), benches, 1) {
+        Ok(made) => made,
+        Err((_, error)) => return Err(error),
+    };
+    Ok(takes_a_diamond(&crew, &mut seats[0]))
+}
+
+#[test]
+fn a_crew_takes_the_nodes_of_a_diamond_in_turn(rt: HostRuntime) -> Result<(), Fail> {
+    assert!(rt; plays_a_diamond(rt.alloc())?);
     Ok(())
 }

@@ -1,2 +1,2 @@
 mod Going
-mod Adding
+mod Hashing
