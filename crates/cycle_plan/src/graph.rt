@@ -132,7 +132,7 @@ impl Graph {
     }
 
     /// The open clients, in order of opening.
-    pub(crate) fn clients(&self) -> &[Client]
+    pub fn clients(&self) -> &[Client]
         ensures value { result.now ≡ self.now.held.clients }
         ensures network { IsNetwork self.now }
     {

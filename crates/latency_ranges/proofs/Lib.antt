@@ -1,6 +1,6 @@
 mod DepthLemmas
 mod JoinLemmas
-mod PortLemmas
+pub mod PortLemmas
 mod RowLemmas
 mod SweepLemmas
 mod WiringLemmas

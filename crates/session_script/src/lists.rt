@@ -33,3 +33,18 @@ pub fn lists_of(alloc: Global, found: &[Item]) -> Result<Vec<Vec<(u32, Event)>>,
     }
     Ok(lists)
 }
+
+/// The lists anew.
+pub fn copies_of(
+    alloc: Global,
+    lists: &[Vec<(u32, Event)>],
+) -> Result<Vec<Vec<(u32, Event)>>, AllocError>
+    ensures { IfOk result (λ v. map (λ list. list.items) v.items ≡ map (λ list. list.items) lists.now) }
+{
+    let mut copies = Vec::new(alloc);
+    for list in lists {
+        let copy = Vec::from_slice(alloc, list.as_slice())?;
+        copies.push(copy)?;
+    }
+    Ok(copies)
+}

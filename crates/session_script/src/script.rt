@@ -3,6 +3,7 @@
 ghost use Rattle.std.specs.Prelude.{◌≡◌, ◌≢◌, ◌<◌, [], ℕ, IfErr, IfOk, Some, slice_index_or};
 ghost use Rattle.jack_types.specs.declared.scripts.Cause.TheVariants.{Memory as WantOfMemory};
 
+use crate::lists::copies_of;
 use crate::reading::read_parts;
 use jack_types::{Body, Event, Header, Memory, ScriptFault};
 use script_text::printed;
@@ -92,6 +93,23 @@ impl Script {
             Ok(text) => Ok(Text { text }),
             Err(_) => Err(Memory),
         }
+    }
+
+    /// The script anew, for one who keeps it.
+    pub fn copy(&self, alloc: Global) -> Result<Script, Memory>
+        ensures copy { IfOk result (λ copy. copy ≡ self.now) }
+    {
+        let Ok(events) = copies_of(alloc, self.events.as_slice()) else {
+            return Err(Memory);
+        };
+        let Ok(lines) = Vec::from_slice(alloc, self.lines.as_slice()) else {
+            return Err(Memory);
+        };
+        Ok(Script {
+            header: self.header,
+            events,
+            lines,
+        })
     }
 
     /// What the header lines say.

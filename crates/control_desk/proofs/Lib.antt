@@ -1,0 +1,10 @@
+mod ItemLemmas
+pub mod LawfulLemmas
+pub mod CallLemmas
+pub mod LaneLemmas
+pub mod LegalLemmas
+mod ScriptLemmas
+mod AcceptedLemmas
+mod PastLemmas
+mod DeskLemmas
+mod StepLemmas
