@@ -5,7 +5,7 @@
 use Rattle.std.proofs.Common.{◌≡◌, ℕ, suc, ◌+◌, ◌-◌, ◌<◌, ◌≤◌, Bool, true, false, cond, not, ◌&&◌, ◌||◌, ◌==◌, List, [], ◌∷◌, ◌++◌, length, map, filter, count_by, get_or, All, IsTrue, ℤ, refl, sym, ◌∙◌, ap, ap₂, subst, arith, true≢false, ne_eqb, eq-eqb}
 use Rattle.std.specs.List.{list_any}
 use Rattle.std.specs.List.Sorted.{IsStrictlyIncreasing, IsNonDecreasing}
-use Rattle.std.proofs.lemmas.List.{map-append, append-nil}
+use Rattle.std.proofs.lemmas.List.{map-append, append-nil, length-map}
 use Rattle.std.proofs.lemmas.List.Elements.{All-push, All-map}
 use Rattle.std.proofs.lemmas.List.Folds.{list_any-append, list_any_none}
 use Rattle.std.proofs.lemmas.List.Sums.{length-filter}
@@ -18,10 +18,6 @@ use Rattle.record_ring.specs.Rings.{Sending, Puts, IsFull}
 use Rattle.driver_laws.specs.Keeping.{is_kept, kept_blocks, IsLoss, KeepsRing}
 use Rattle.driver_laws.specs.Cycling.{PutsOne, Idle, Went, Lacked}
 use Rattle.driver_laws.proofs.NumberLemmas.{IsStrictlyIncreasing-push, IsNonDecreasing-push, filter-below_next, filter-below_same}
-
-pub length-mapped : {X Y : Type 0} (f : X → Y) (xs : List X) → length (map f xs) ≡ length xs
-length-mapped f [] = refl
-length-mapped f (x ∷ xs) = ap suc (length-mapped f xs)
 
 or_false : (b : Bool) → (b || false) ≡ b
 or_false true = refl
@@ -86,7 +82,7 @@ module _ (course : Course) (recorder : ℕ) where
   pub kept_blocks-counted : (losses : List Overrun) (n : ℕ) → length (kept_blocks course losses recorder n) ≡ kept_before course losses recorder (n + 1)
   kept_blocks-counted losses n =
       let size : n + 1 - 1 ≡ n = omega arith in
-      length-mapped made (filter (is_kept course losses recorder) (below n)) ∙ length-filter (is_kept course losses recorder) (below n)
+      length-map (filter (is_kept course losses recorder) (below n)) made ∙ length-filter (is_kept course losses recorder) (below n)
       ∙ sym (ap (λ m. count_by (is_kept course losses recorder) (below m)) size)
 
   -- ---- one cycle more

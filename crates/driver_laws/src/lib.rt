@@ -1,2 +1,4 @@
-//! What contracts see of the driver of the cycles, and laws of it.
+//! What contracts see of the driver of the cycles, and the laws of it, each as the contract of a function that does nothing.
 #![tactic(auto)]
+
+pub mod cycling;
