@@ -4,3 +4,8 @@ pub mod DiskLemmas
 pub mod DrivenLemmas
 pub mod FrameLemmas
 pub mod StepLemmas
+pub mod FitLemmas
+pub mod MeetingLemmas
+pub mod SegmentLemmas
+pub mod WholeLemmas
+pub mod OpeningLemmas

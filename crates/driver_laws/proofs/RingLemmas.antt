@@ -19,7 +19,7 @@ use Rattle.driver_laws.specs.Keeping.{is_kept, kept_blocks, IsLoss, KeepsRing}
 use Rattle.driver_laws.specs.Cycling.{PutsOne, Idle, Went, Lacked}
 use Rattle.driver_laws.proofs.NumberLemmas.{IsStrictlyIncreasing-push, IsNonDecreasing-push, filter-below_next, filter-below_same}
 
-or_false : (b : Bool) → (b || false) ≡ b
+pub or_false : (b : Bool) → (b || false) ≡ b
 or_false true = refl
 or_false false = refl
 

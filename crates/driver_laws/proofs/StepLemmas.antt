@@ -46,7 +46,8 @@ module _ (driver after : Driver) (steps : StepsOnce driver after) where
       let size : run after ≡ run driver + 1 = ap length steps.numbers ∙ length_push driver.numbers steps.number in
       omega (arith, size)
 
-  rows_are : after.reading.rows ≡ driver.reading.rows ++ record { cycle = run driver + 1; changes = steps.taken.held } ∷ []
+  -- its row stands behind those before
+  pub rows_are : after.reading.rows ≡ driver.reading.rows ++ record { cycle = run driver + 1; changes = steps.taken.held } ∷ []
   rows_are =
       ap (λ (r : Reading). r.rows) steps.begins.after_is
       ∙ ap (λ rows. rows ++ record { cycle = run driver + 1; changes = steps.taken.held } ∷ []) (ap (λ (r : Reading). r.rows) steps.takes.same)

@@ -1,3 +1,5 @@
 pub mod Drivers
 pub mod Keeping
 pub mod Cycling
+pub mod Openings
+pub mod Segments
