@@ -87,6 +87,7 @@ Fits-earlier driver after course steps fits =
     record {
       script = fits.script ∙ steps.script;
       scores = fits.scores ∙ steps.scores;
+      channels = fits.channels;
       of_calls = fits.of_calls;
       numbers = front_in driver.numbers steps.number (run after) course.numbers (sym steps.numbers ∙ fits.numbers);
       rows = λ k taken here. fits.rows k taken (ap (λ rows. slice_get rows k) (rows_are driver after steps) ∙ still_there driver.reading.rows (record { cycle = run driver + 1; changes = steps.taken.held } ∷ []) k taken here);

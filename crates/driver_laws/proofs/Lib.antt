@@ -9,3 +9,6 @@ pub mod MeetingLemmas
 pub mod SegmentLemmas
 pub mod WholeLemmas
 pub mod OpeningLemmas
+pub mod TransportLemmas
+pub mod CaptureLemmas
+pub mod TaskLemmas

@@ -26,6 +26,7 @@ module _ (driver after : Driver) (course : Course) (met : HasMetOthers driver af
   Fits-met fits = record {
     script = fits.script ∙ ap (λ (d : Driver). d.script) met.same;
     scores = fits.scores ∙ ap (λ (d : Driver). d.scores) met.same;
+    channels = fits.channels;
     of_calls = fits.of_calls;
     numbers = subst (λ ns. ns ≡ take (length ns) course.numbers) numbers_same fits.numbers;
     rows = λ k taken here. fits.rows k taken (ap (λ rows. slice_get rows k) met.rows ∙ here);

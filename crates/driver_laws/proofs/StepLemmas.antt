@@ -17,7 +17,7 @@ use Rattle.session_model.specs.Transport.{moment, row}
 use Rattle.graph_word.specs.declared.view.TakenRow.{TakenRow}
 use Rattle.graph_word.specs.Publications.{Reading}
 use Rattle.record_ring.specs.Rings.{Sending, Getting}
-use Rattle.driver_laws.specs.Drivers.{Driver, run, turn_of, frames_read, graph_of, graph_now, has_tape, has_disk, overruns_on, underruns_on, bench_at, memory_in, block_in}
+use Rattle.driver_laws.specs.Drivers.{Driver, run, turn_of, frames_read, graph_of, last_content, content_now, graph_now, has_tape, has_disk, overruns_on, underruns_on, bench_at, memory_in, block_in}
 use Rattle.driver_laws.specs.Keeping.{Fits, Keeps, KeepsRing, KeepsDisk, HasTape, played_so_far}
 use Rattle.driver_laws.specs.Cycling.{StepsOnce, PlaysOnce}
 use Rattle.driver_laws.proofs.RingLemmas.{KeepsRing-next}
@@ -39,6 +39,11 @@ last_of : {X : Type 0} (xs : List X) (x : X) → slice_get (xs ++ x ∷ []) (len
 last_of [] x = refl
 last_of (y ∷ xs) x = last_of xs x
 
+last_content-push : (rows : List TakenRow) (taken : TakenRow) → last_content (rows ++ taken ∷ []) ≡ taken.changes
+last_content-push [] taken = refl
+last_content-push (first ∷ []) taken = refl
+last_content-push (first ∷ next ∷ rows) taken = last_content-push (next ∷ rows) taken
+
 module _ (driver after : Driver) (steps : StepsOnce driver after) where
   -- one cycle more was run
   pub ran : run after ≡ suc (run driver)
@@ -53,27 +58,28 @@ module _ (driver after : Driver) (steps : StepsOnce driver after) where
       ∙ ap (λ rows. rows ++ record { cycle = run driver + 1; changes = steps.taken.held } ∷ []) (ap (λ (r : Reading). r.rows) steps.takes.same)
 
   -- there is one row for each cycle before
-  rows_before : length driver.reading.rows ≡ run driver
+  pub rows_before : length driver.reading.rows ≡ run driver
   rows_before =
       let size : length after.reading.rows ≡ length driver.reading.rows + 1 = ap length rows_are ∙ length_push driver.reading.rows (record { cycle = run driver + 1; changes = steps.taken.held }) in
       let own : length after.reading.rows ≡ run after = sym (length-map after.reading.rows (λ (r : TakenRow). length r.changes)) ∙ ap length steps.own_rows.numbers in
       omega (arith, size, own, ran)
 
-  row_there : slice_get after.reading.rows (run driver) ≡ Some (record { cycle = run driver + 1; changes = steps.taken.held })
+  pub row_there : slice_get after.reading.rows (run driver) ≡ Some (record { cycle = run driver + 1; changes = steps.taken.held })
   row_there =
       ap (λ rows. slice_get rows (run driver)) rows_are
       ∙ ap (slice_get (driver.reading.rows ++ record { cycle = run driver + 1; changes = steps.taken.held } ∷ [])) (sym rows_before)
       ∙ last_of driver.reading.rows (record { cycle = run driver + 1; changes = steps.taken.held })
 
-  held_is : after.reading.held ≡ steps.taken.held
-  held_is = ap (λ (r : Reading). r.held) steps.begins.after_is
+  -- the last content is the one that was taken
+  pub content-taken : content_now after ≡ steps.taken.held
+  content-taken = ap last_content rows_are ∙ last_content-push driver.reading.rows (record { cycle = run driver + 1; changes = steps.taken.held })
 
   module _ (course : Course) (fits : Fits after course) where
     -- the graph of the cycle is that of the content that its row took
     pub graph-of_row : graph course (suc (run driver)) ≡ graph_now after
     graph-of_row =
         ap (λ (s : Script). graph_of s (take (number course (suc (run driver))) course.changes)) fits.script
-        ∙ ap (graph_of after.script) (sym (fits.rows (run driver) (record { cycle = run driver + 1; changes = steps.taken.held }) row_there) ∙ sym held_is)
+        ∙ ap (graph_of after.script) (sym (fits.rows (run driver) (record { cycle = run driver + 1; changes = steps.taken.held }) row_there) ∙ sym content-taken)
 
     next : suc (run driver) ≡ run driver + 1
     next = omega arith

@@ -74,9 +74,18 @@ frames_read turn = if turn.is_freewheel then 0 else turn.period
 abbrev pub graph_of : Script → List Change → State
 graph_of script changes = replay (opening script.header.capture script.header.playback) changes
 
--- the graph of the last cycle: that of the content that the reader holds
+-- the content that the last row took; nothing before the first
+abbrev pub last_content : List TakenRow → List Change
+last_content [] = []
+last_content (taken ∷ []) = taken.changes
+last_content (taken ∷ next ∷ rows) = last_content (next ∷ rows)
+
+-- the changes of the last cycle, and the graph that they make
+abbrev pub content_now : Driver → List Change
+content_now driver = last_content driver.reading.rows
+
 abbrev pub graph_now : Driver → State
-graph_now driver = graph_of driver.script driver.reading.held
+graph_now driver = graph_of driver.script (content_now driver)
 
 -- whether an active client records on the recorder, or plays the disk's file
 abbrev pub has_tape : State → ℕ → Bool
@@ -121,8 +130,10 @@ pub record HasOwnRows (driver : Driver) : Type 0 where
   pub cycles : map (λ (row : TakenRow). row.cycle) driver.reading.rows ≡ map (λ i. i + 1) (below (run driver))
   pub numbers : map (λ (row : TakenRow). length row.changes) driver.reading.rows ≡ driver.numbers
 
--- what was put into the rings, and got from them, are its cycles' blocks
+-- there is a ring for each recorder and each disk, and what was put into them, and got from them, are its cycles' blocks
 pub record HasOwnRings (driver : Driver) : Type 0 where
+  pub recorders : length driver.rings ≡ length driver.script.header.recorders
+  pub disks : length driver.disks ≡ length driver.script.header.disks
   pub puts : map (λ (ring : Sending). length ring.put) driver.rings ≡ driver.sent
   pub gets : map (λ (got : Getting). length got.got) driver.disks ≡ driver.played
 

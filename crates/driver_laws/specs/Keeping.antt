@@ -8,7 +8,7 @@ use Rattle.jack_types.specs.declared.commands.Call.{Call}
 use Rattle.jack_types.specs.declared.commands.Change.{Change}
 use Rattle.jack_types.specs.declared.replies.Overrun.{Overrun}
 use Rattle.jack_types.specs.declared.replies.Underrun.{Underrun}
-use Rattle.session_model.specs.Courses.{Course, turn, frames_before, disk_file, block_channel, is_underrun, is_disk_active, played_before}
+use Rattle.session_model.specs.Courses.{Course, DiskFile, turn, frames_before, disk_file, block_channel, is_underrun, is_disk_active, played_before}
 use Rattle.session_model.specs.Disks.{file_blocks}
 use Rattle.session_model.specs.Driving.{IsDriven}
 use Rattle.session_model.specs.Playback.{played_in}
@@ -41,10 +41,11 @@ pub record FitsDisk (course : Course) (disk : ℕ) (got : Getting) : Type 0 wher
   pub blocks : (i : ℕ) (one : RingBlock) → slice_get got.got i ≡ Some one → (i < file_blocks course disk) × (one.samples ≡ file_block course disk i)
   pub whole : got.done ≡ true → length got.got ≡ file_blocks course disk
 
--- the course has the driver's script and scores; in its first cycles it takes what the driver took, and misses what the driver missed
+-- the course has the driver's script and scores, and files of the script's channels; in its first cycles it takes what the driver took, and misses what the driver missed
 pub record Fits (driver : Driver) (course : Course) : Type 0 where
   pub script : course.script ≡ driver.script
   pub scores : course.scores ≡ driver.scores
+  pub channels : map (λ (file : DiskFile). file.channels) course.disks ≡ course.script.header.disks
   pub of_calls : AreOfCalls course.script course.changes
   pub numbers : driver.numbers ≡ take (run driver) course.numbers
   pub rows : (k : ℕ) (taken : TakenRow) → slice_get driver.reading.rows k ≡ Some taken → taken.changes ≡ take (slice_index_or course.numbers k 0) course.changes
