@@ -22,7 +22,7 @@ use Rattle.driver_laws.specs.Cycling.{GetsOne, Silent, Heard, Over, Missed}
 use Rattle.driver_laws.proofs.NumberLemmas.{IsStrictlyIncreasing-push}
 
 -- a count within a file is that of the blocks played
-within : (file played count : ℕ) → count ≡ min file played → count < file → count ≡ played
+pub within : (file played count : ℕ) → count ≡ min file played → count < file → count ≡ played
 within file played count is low = go (cases_lt file played)
   where
     go : (file < played) ⊎ (played ≤ file) → count ≡ played

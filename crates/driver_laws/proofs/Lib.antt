@@ -12,3 +12,5 @@ pub mod OpeningLemmas
 pub mod TransportLemmas
 pub mod CaptureLemmas
 pub mod TaskLemmas
+pub mod BlockLemmas
+pub mod FedLemmas

@@ -3,6 +3,7 @@
 --     adopted-now      the changes that the cycle adopts
 --     row-now, moment-now      its row, and what it shows
 use Rattle.std.proofs.Common.{◌≡◌, ℕ, zero, suc, ◌+◌, ◌-◌, ◌<◌, List, [], ◌∷◌, ◌++◌, length, take, drop, slice_get, slice_index, slice_index_or, get_or, Some, refl, sym, ◌∙◌, ap, ap₂, subst, arith}
+use Rattle.std.proofs.Math.Seq.{take-nil}
 use Rattle.std.proofs.lemmas.List.{get_or-take}
 use Rattle.jack_types.specs.declared.commands.Change.{Change}
 use Rattle.session_model.specs.Courses.{Course, turn, period, graph, number, adopted}
@@ -36,11 +37,7 @@ content_behind (first ∷ rows) numbers changes h = let w = last_there first row
 drop_take : {X : Type 0} (a n : ℕ) (xs : List X) → drop a (take n xs) ≡ take (n - a) (drop a xs)
 drop_take zero n xs = let e : n ≡ n - 0 = omega arith in ap (λ m. take m xs) e
 drop_take (suc a) zero xs = let e : 0 ≡ 0 - suc a = omega arith in ap (λ m. take m (drop (suc a) xs)) e
-drop_take {X} (suc a) (suc n) [] = sym (none (suc n - suc a))
-  where
-    none : (m : ℕ) → take {A = X} m [] ≡ []
-    none zero = refl
-    none (suc m) = refl
+drop_take (suc a) (suc n) [] = sym (take-nil (suc n - suc a))
 drop_take (suc a) (suc n) (x ∷ xs) = let e : n - a ≡ suc n - suc a = omega arith in drop_take a n xs ∙ ap (λ m. take m (drop a xs)) e
 
 module _ (driver after : Driver) (steps : StepsOnce driver after) (course : Course) (fits : Fits after course) where
