@@ -14,3 +14,5 @@ pub mod CaptureLemmas
 pub mod TaskLemmas
 pub mod BlockLemmas
 pub mod FedLemmas
+pub mod TapeLemmas
+pub mod OwnLemmas
