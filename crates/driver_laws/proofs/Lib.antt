@@ -16,3 +16,4 @@ pub mod BlockLemmas
 pub mod FedLemmas
 pub mod TapeLemmas
 pub mod OwnLemmas
+pub mod CycleLemmas

@@ -1,5 +1,6 @@
 -- A cycle that played what its driver's own rings, capture and benches say played what each course gives that fits and was kept.
 --     PlaysOnce-own      from the driver's own terms to a course's
+--     played-now      and so the playback's samples
 use Rattle.std.proofs.Common.{◌≡◌, ℕ, suc, ◌+◌, ◌*◌, ◌<◌, ◌==◌, ◌&&◌, Bool, true, false, cond, List, [], ◌∷◌, ◌++◌, length, map, drop, ℤ, Option, Some, None, unwrap_or, Contains, refl, sym, ◌∙◌, ap, ap₂, subst, arith, eq-eqb}
 use Rattle.std.specs.List.{list_any}
 use Rattle.std.specs.Str.{bytes_eq}
@@ -28,7 +29,7 @@ use Rattle.session_laws.proofs.FeedbackLemmas.{FeedbackInside}
 use Rattle.session_laws.proofs.PlaceLemmas.{map-after, map-same}
 use Rattle.session_laws.proofs.PlanLemmas.{FeedbackInside-graph}
 use Rattle.driver_laws.specs.Drivers.{Driver, run, turn_of, graph_now, has_disk, bench_at, memory_in}
-use Rattle.driver_laws.specs.Keeping.{Fits, Keeps, HasTape}
+use Rattle.driver_laws.specs.Keeping.{Fits, Keeps}
 use Rattle.driver_laws.specs.Cycling.{StepsOnce, PlaysOnce}
 use Rattle.driver_laws.specs.Playing.{own_course, moment_now, capture_now, settled_last, kept_now, fed_now, with_fed, settled_now, mixed_now, played_now, PlaysOwn}
 use Rattle.driver_laws.proofs.CaptureLemmas.{channel_of, captured-left}
@@ -180,8 +181,9 @@ module _ (driver after : Driver) (steps : StepsOnce driver after) (left : List �
       ∙ ap (λ state. mix (period course (suc (run driver))) (map (λ (edge : Connection). outputs_by state (period course (suc (run driver))) (captured course (suc (run driver))) (moment_now driver after) after.nodes (bench_at after) edge.source) (edges_into state port))) (sym state_is)
       ∙ sym (input_of-is_mixed course (run driver) after.nodes (bench_at after) (memory_in after) driven port inside refl)
 
-  played_is : played_now driver after left ≡ played_in course (run driver + 1)
-  played_is =
+  -- what was to be written is what the playback gets
+  pub played-now : played_now driver after left ≡ played_in course (run driver + 1)
+  played-now =
       ap (interleaved driver.set) (
       map-after (mixed_now driver after left) (λ i. (playback_port i).name) (below driver.script.header.playback)
       ∙ map-same (λ i. mixed_now driver after left (playback_port i).name) (λ i. input_of course (suc (run driver)) (playback_port i).name) (below driver.script.header.playback) mixed_is
@@ -196,7 +198,6 @@ module _ (driver after : Driver) (steps : StepsOnce driver after) (left : List �
     transport = row_is ∙ ap (row course) next;
     blocks = λ recorder low on.
         block-in after course (run driver) own.links own.plan driven one fits.script state_is (frames_are ∙ sym steps.set) recorder on ∙ ap (block course recorder) next;
-    written = λ run samples has. subst (λ more. HasTape after.playback (samples ++ more)) played_is (own.written run samples has);
     links = own.links;
     before = own.before;
     plan = own.plan;

@@ -2,6 +2,7 @@
 --     ran      one cycle more was run
 --     graph-of_row      the graph of the cycle is that of the content that its row took
 --     Keeps-next      from the facts of one cycle
+--     KeepsBut-next      where the playback failed
 use Rattle.std.proofs.Common.{◌≡◌, ℕ, zero, suc, ◌+◌, ◌*◌, ◌<◌, ◌≤◌, Bool, true, false, List, [], ◌∷◌, ◌++◌, length, map, take, drop, slice_get, ℤ, Option, Some, None, option_map, refl, sym, ◌∙◌, ap, ap₂, subst, arith}
 use Rattle.std.proofs.lemmas.List.{length_push, length-map}
 use Rattle.std.proofs.lemmas.Option.{slice_get_within}
@@ -9,6 +10,7 @@ use Rattle.session_model.specs.Benches.{IsPlan}
 use Rattle.session_model.specs.Courses.{Course, turn, graph, number, frames_before, is_disk_active}
 use Rattle.session_model.specs.Cycles.{player_born}
 use Rattle.session_model.specs.Driving.{IsDriven}
+use Rattle.session_model.specs.Playback.{played_in}
 use Rattle.session_model.specs.Recorders.{is_taping}
 use Rattle.session_model.specs.Samples.{below}
 use Rattle.session_model.specs.Scripts.{Script}
@@ -18,8 +20,8 @@ use Rattle.graph_word.specs.declared.view.TakenRow.{TakenRow}
 use Rattle.graph_word.specs.Publications.{Reading}
 use Rattle.record_ring.specs.Rings.{Sending, Getting}
 use Rattle.driver_laws.specs.Drivers.{Driver, run, turn_of, frames_read, graph_of, last_content, content_now, graph_now, has_tape, has_disk, overruns_on, underruns_on, bench_at, memory_in, block_in}
-use Rattle.driver_laws.specs.Keeping.{Fits, Keeps, KeepsRing, KeepsDisk, HasTape, played_so_far}
-use Rattle.driver_laws.specs.Cycling.{StepsOnce, PlaysOnce}
+use Rattle.driver_laws.specs.Keeping.{Fits, Keeps, KeepsRing, KeepsRings, KeepsDisk, HasTape, HasTapeFront, played_so_far}
+use Rattle.driver_laws.specs.Cycling.{StepsOnce, PlaysOnce, WritesOnce, Written, WrittenFront, KeepsBut}
 use Rattle.driver_laws.proofs.RingLemmas.{KeepsRing-next}
 use Rattle.driver_laws.proofs.DiskLemmas.{KeepsDisk-next}
 use Rattle.driver_laws.proofs.DrivenLemmas.{IsDriven-played}
@@ -123,17 +125,6 @@ module _ (driver after : Driver) (steps : StepsOnce driver after) where
           ∙ ap (option_map (drop (frames_read (turn course (run driver + 1)) * course.script.header.capture))) keeps.left
           ∙ ap (λ samples. Some samples) (left-next course (run driver) course.script.header.capture)
 
-      playback_kept : HasTape after.playback (played_so_far course (suc (run driver)))
-      playback_kept = go (turn course (run driver + 1)).is_freewheel refl
-        where
-          freewheel_is : (turn course (run driver + 1)).is_freewheel ≡ (turn_of driver.script (run driver + 1)).is_freewheel
-          freewheel_is = ap (λ t. t.is_freewheel) turn_is
-
-          go : (b : Bool) → (turn course (run driver + 1)).is_freewheel ≡ b → HasTape after.playback (played_so_far course (suc (run driver)))
-          go true e = subst (HasTape after.playback) (sym (played_so_far-freewheel course (run driver) e))
-              (subst (λ playback. HasTape playback (played_so_far course (run driver))) (sym (steps.unwritten (sym freewheel_is ∙ e))) keeps.playback)
-          go false e = subst (HasTape after.playback) (sym (played_so_far-run course (run driver) e)) (plays.written (sym freewheel_is ∙ e) (played_so_far course (run driver)) keeps.playback)
-
       driven_kept : IsDriven course (suc (run driver)) after.nodes (bench_at after) (memory_in after)
       driven_kept =
           let back : graph_now after ≡ graph course (suc (run driver)) = sym graph-of_row in
@@ -143,16 +134,42 @@ module _ (driver after : Driver) (steps : StepsOnce driver after) where
           plays.ready plays.played plays.remembered
           (λ birth none. plays.others birth (ap (λ state. player_born state birth) back ∙ none))
 
+      freewheel_is : (turn course (run driver + 1)).is_freewheel ≡ (turn_of driver.script (run driver + 1)).is_freewheel
+      freewheel_is = ap (λ t. t.is_freewheel) turn_is
+
+      playback_kept : WritesOnce driver after → Written driver after (played_in course (run driver + 1)) → HasTape after.playback (played_so_far course (suc (run driver)))
+      playback_kept writes written = go (turn course (run driver + 1)).is_freewheel refl
+        where
+          go : (b : Bool) → (turn course (run driver + 1)).is_freewheel ≡ b → HasTape after.playback (played_so_far course (suc (run driver)))
+          go true e = subst (HasTape after.playback) (sym (played_so_far-freewheel course (run driver) e))
+              (subst (λ playback. HasTape playback (played_so_far course (run driver))) (sym (writes.unwritten (sym freewheel_is ∙ e))) keeps.playback)
+          go false e = subst (HasTape after.playback) (sym (played_so_far-run course (run driver) e)) (written (sym freewheel_is ∙ e) (played_so_far course (run driver)) keeps.playback)
+
+      -- the rings are the course's
+      pub KeepsRings-next : KeepsRings after course
+      KeepsRings-next recorder ring here = subst (λ n. KeepsRing course n recorder ring (overruns_on after.overruns recorder)) (sym ran) (ring_kept recorder ring here)
+
       -- what it keeps before a cycle it keeps behind
-      pub Keeps-next : Keeps after course
-      Keeps-next =
+      pub Keeps-next : WritesOnce driver after → Written driver after (played_in course (run driver + 1)) → Keeps after course
+      Keeps-next writes written =
           let back : suc (run driver) ≡ run after = sym ran in
           record {
             moments = subst (λ n. after.moments ≡ map (λ i. moment course (i + 1)) (below n)) back moments_kept;
             transport = plays.transport ∙ ap (row course) (sym next ∙ back);
-            rings = λ recorder ring here. subst (λ n. KeepsRing course n recorder ring (overruns_on after.overruns recorder)) back (ring_kept recorder ring here);
+            rings = KeepsRings-next;
             disks = λ disk got here. subst (λ n. KeepsDisk course n disk got (underruns_on after.underruns disk)) back (disk_kept disk got here);
             left = subst (λ n. after.left ≡ Some (drop (frames_before course (n + 1) * course.script.header.capture) course.capture)) back left_kept;
-            playback = subst (λ n. HasTape after.playback (played_so_far course n)) back playback_kept;
+            playback = subst (λ n. HasTape after.playback (played_so_far course n)) back (playback_kept writes written);
             driven = subst (λ n. IsDriven course n after.nodes (bench_at after) (memory_in after)) back driven_kept;
           }
+
+      -- and where the playback failed, all but that
+      pub KeepsBut-next : WrittenFront driver after (played_in course (run driver + 1)) → KeepsBut after course
+      KeepsBut-next written = record {
+        rings = KeepsRings-next;
+        front =
+            let back : suc (run driver) ≡ run after = sym ran in
+            subst (λ n. HasTapeFront after.playback (played_so_far course n)) back
+            (subst (HasTapeFront after.playback) (sym (played_so_far-run course (run driver) (freewheel_is ∙ written.in_run)))
+            (written.front (played_so_far course (run driver)) keeps.playback));
+      }

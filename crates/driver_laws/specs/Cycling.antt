@@ -3,7 +3,9 @@
 --     PutsOne, GetsOne      what a cycle does at one recorder's ring, and at one disk's
 --     StepsOnce driver after      what a cycle appends, whatever course there is
 --     PlaysOnce driver after course      that it played what the course gives in this cycle
---     CyclesOnce, CyclesMany, CycleFails      one cycle, many cycles, and one that failed
+--     WritesOnce driver after, Written driver after more      what it did to the playback
+--     CyclesOnce, CyclesMany      one cycle, and many
+--     FailsAtRead, FailsAtWrite      a cycle that failed
 --     HasMetOthers driver after      its lent ends met others
 use Rattle.std.specs.Prelude.{◌≡◌, ℕ, zero, suc, ◌+◌, ◌*◌, ◌≤◌, ◌<◌, Bool, true, false, List, [], ◌∷◌, ◌++◌, length, drop, slice_get, All, ℤ, IfSome, Option, Some, None, option_map}
 use Rattle.jack_types.specs.declared.ports.Link.{Link}
@@ -14,7 +16,6 @@ use Rattle.session_model.specs.Benches.{Bench, bench_after, bench_gives, node_at
 use Rattle.session_model.specs.Courses.{Course}
 use Rattle.session_model.specs.Cycles.{player_born}
 use Rattle.session_model.specs.Driving.{settled_from}
-use Rattle.session_model.specs.Playback.{played_in}
 use Rattle.session_model.specs.Recorders.{block}
 use Rattle.session_model.specs.Rings.{RingBlock}
 use Rattle.session_model.specs.Scripts.{turns}
@@ -22,9 +23,9 @@ use Rattle.session_model.specs.Transport.{moment, row}
 use Rattle.graph_word.specs.Publications.{Reading, Takes, Begins}
 use Rattle.record_ring.specs.Rings.{Sending, Getting, Puts, IsFull, Gets}
 use Rattle.record_ring.specs.declared.consumer.Got.TheVariants.{Block, Empty, Ended}
-use Rattle.wave_write.specs.Tapes.{Tape, HasFront, SameFile}
+use Rattle.wave_write.specs.Tapes.{Tape, SameFile}
 use Rattle.driver_laws.specs.Drivers.{Driver, run, turn_of, frames_read, graph_now, has_tape, has_disk, overruns_on, underruns_on, bench_at, memory_in, block_in, HasOwnRows, HasOwnRings, HasPlayback}
-use Rattle.driver_laws.specs.Keeping.{Fits, Keeps, KeepsRings, HasTape, played_so_far}
+use Rattle.driver_laws.specs.Keeping.{Fits, Keeps, KeepsRings, HasTape, HasTapeFront, played_so_far}
 
 pub record MayCycle (driver : Driver) (freewheel : Bool) : Type 0 where
   pub playback : HasPlayback driver
@@ -51,7 +52,7 @@ pub data GetsOne (k disk : ℕ) (active : Bool) (before after : Getting) (misses
   Missed : (one : RingBlock) (found : ℕ) → active ≡ true → Gets before after one found (Empty found found)
       → misses_after ≡ misses ++ record { disk = disk; cycle = k; sent = found; taken = found } ∷ [] → GetsOne k disk active before after misses misses_after
 
--- what a cycle appends, in the driver's own terms: one take and one row; at each ring what `PutsOne` or `GetsOne` says; overruns and underruns of this cycle alone; the capture's next frames and the playback's only in a `run` cycle
+-- what a cycle appends, in the driver's own terms: one take and one row; at each ring what `PutsOne` or `GetsOne` says; overruns and underruns of this cycle alone; the capture's next frames only in a `run` cycle
 pub record StepsOnce (driver after : Driver) : Type 0 where
   pub taken : Reading
   pub number : ℕ
@@ -71,22 +72,33 @@ pub record StepsOnce (driver after : Driver) : Type 0 where
   pub more_underruns : after.underruns ≡ driver.underruns ++ underruns
   pub underruns_now : All (λ (underrun : Underrun). (underrun.cycle ≡ run driver + 1) × (underrun.disk < length driver.disks)) underruns
   pub left : after.left ≡ option_map (drop (frames_read (turn_of driver.script (run driver + 1)) * driver.script.header.capture)) driver.left
-  pub unwritten : (turn_of driver.script (run driver + 1)).is_freewheel ≡ true → after.playback ≡ driver.playback
-  pub playback : HasPlayback after
-  pub file : (tape tape_after : Tape) → driver.playback ≡ Some tape → after.playback ≡ Some tape_after → SameFile tape tape_after
   pub own_rows : HasOwnRows after
   pub own_rings : HasOwnRings after
   pub script : after.script ≡ driver.script
   pub scores : after.scores ≡ driver.scores
   pub set : after.set ≡ driver.set
+
+-- the playback is written in a `run` cycle alone, and stays one file that is attached
+pub record WritesOnce (driver after : Driver) : Type 0 where
+  pub unwritten : (turn_of driver.script (run driver + 1)).is_freewheel ≡ true → after.playback ≡ driver.playback
+  pub playback : HasPlayback after
+  pub file : (tape tape_after : Tape) → driver.playback ≡ Some tape → after.playback ≡ Some tape_after → SameFile tape tape_after
   pub failed : after.failed ≡ false
 
--- what a cycle played is what the course gives: the transport's row; the blocks of the recorders; in a `run` cycle the samples that the playback got; and the benches of a plan of this graph, each ready before, and then what the machine's recursion makes of it, with the memories of all that played
+-- in a `run` cycle these samples were written behind whatever the playback had
+abbrev pub Written : Driver → Driver → List ℤ → Type 0
+Written driver after more = (turn_of driver.script (run driver + 1)).is_freewheel ≡ false → (samples : List ℤ) → HasTape driver.playback samples → HasTape after.playback (samples ++ more)
+
+-- or a front of them was, in a `run` cycle that failed
+pub record WrittenFront (driver after : Driver) (more : List ℤ) : Type 0 where
+  pub in_run : (turn_of driver.script (run driver + 1)).is_freewheel ≡ false
+  pub front : (samples : List ℤ) → HasTape driver.playback samples → HasTapeFront after.playback (samples ++ more)
+
+-- what a cycle played is what the course gives: the transport's row; the blocks of the recorders; and the benches of a plan of this graph, each ready before, and then what the machine's recursion makes of it, with the memories of all that played
 pub record PlaysOnce (driver after : Driver) (course : Course) : Type 0 where
   pub moments : after.moments ≡ driver.moments ++ moment course (run driver + 1) ∷ []
   pub transport : after.transport ≡ row course (run driver + 1)
   pub blocks : (recorder : ℕ) → recorder < length driver.rings → has_tape (graph_now after) recorder ≡ true → block_in after recorder ≡ block course recorder (run driver + 1)
-  pub written : (turn_of driver.script (run driver + 1)).is_freewheel ≡ false → (samples : List ℤ) → HasTape driver.playback samples → HasTape after.playback (samples ++ played_in course (run driver + 1))
   pub links : List Link
   pub before : ℕ → Bench
   pub plan : IsPlan (graph_now after) after.nodes links
@@ -98,6 +110,7 @@ pub record PlaysOnce (driver after : Driver) (course : Course) : Type 0 where
 -- one cycle: whatever course fits behind it, if the driver kept it before, it keeps it behind
 pub record CyclesOnce (driver after : Driver) : Type 0 where
   pub steps : StepsOnce driver after
+  pub writes : WritesOnce driver after
   pub keeps : (course : Course) → Fits after course → Keeps driver course → Keeps after course
 
 -- many cycles, one after another
@@ -105,18 +118,26 @@ abbrev pub CyclesMany : ℕ → Driver → Driver → Type 0
 CyclesMany zero driver after = after ≡ driver
 CyclesMany (suc n) driver after = (between : Driver) × CyclesMany n driver between × CyclesOnce between after
 
--- a failed cycle took its row; where it failed at the capture nothing was put, got or written, and where it failed at the playback all but that was done
-pub record CycleFails (driver after : Driver) (is_write : Bool) : Type 0 where
+-- all but the playback is what the course gives, and the playback has a front of it
+pub record KeepsBut (driver : Driver) (course : Course) : Type 0 where
+  pub rings : KeepsRings driver course
+  pub front : HasTapeFront driver.playback (played_so_far course (run driver))
+
+-- a cycle that failed at the capture took its row, and put, got and wrote nothing
+pub record FailsAtRead (driver after : Driver) : Type 0 where
   pub taken : Reading
   pub number : ℕ
   pub takes : Takes driver.reading number taken
   pub begins : Begins taken (run driver + 1) after.reading
   pub numbers : after.numbers ≡ driver.numbers ++ number ∷ []
   pub failed : after.failed ≡ true
-  pub at_read : is_write ≡ false → (after.rings ≡ driver.rings) × (after.overruns ≡ driver.overruns) × (after.disks ≡ driver.disks) × (after.underruns ≡ driver.underruns) × (after.playback ≡ driver.playback)
-  pub at_write : is_write ≡ true → (course : Course) → Fits after course → Keeps driver course
-      → KeepsRings after course × IfSome after.playback (λ tape. HasFront tape.format (played_so_far course (run after)) tape.bytes)
-  pub script : after.script ≡ driver.script
+  pub same : after ≡ record driver { reading = after.reading; numbers = after.numbers; moments = after.moments; transport = after.transport; left = after.left; failed = true }
+
+-- one that failed at the playback did all but that
+pub record FailsAtWrite (driver after : Driver) : Type 0 where
+  pub steps : StepsOnce driver after
+  pub failed : after.failed ≡ true
+  pub keeps : (course : Course) → Fits after course → Keeps driver course → KeepsBut after course
 
 -- a ring whose ends met: the same blocks, and a bound that did not fall
 pub record RingStays (before after : Sending) : Type 0 where

@@ -25,7 +25,6 @@ use Rattle.session_model.specs.Transport.{next_row, shown, slow_numbers, timeout
 use Rattle.record_ring.specs.Rings.{Getting}
 use Rattle.client_kinds.specs.Buffers.{channels_of}
 use Rattle.driver_laws.specs.Drivers.{Driver, run, turn_of, content_now, graph_now, has_disk, underruns_on, bench_at, memory_in}
-use Rattle.driver_laws.specs.Keeping.{HasTape}
 
 -- a course of the driver's script and scores, for what reads nothing else of a course
 abbrev pub own_course : Driver → Course
@@ -102,7 +101,7 @@ mixed_now driver after left port =
 abbrev pub played_now : Driver → Driver → List ℤ → List ℤ
 played_now driver after left = interleaved driver.set (map (mixed_now driver after left) (map (λ i. (playback_port i).name) (below driver.script.header.playback)))
 
--- a cycle over so many samples left: the period set is the cycle's, and a disk's player has the script's first one; one step of the transport; the benches of a plan of this graph, each ready before, and then what the machine's recursion makes of it, with the memories of all that played; and in a `run` cycle the playback's samples
+-- a cycle over so many samples left: the period set is the cycle's, and a disk's player has the script's first one; one step of the transport; the benches of a plan of this graph, each ready before, and then what the machine's recursion makes of it, with the memories of all that played
 pub record PlaysOwn (driver after : Driver) (left : List ℤ) : Type 0 where
   pub period : (turn_of driver.script (run driver + 1)).period ≡ driver.set
   pub full : (disk : ℕ) → has_disk (graph_now after) disk ≡ true → driver.set ≡ driver.script.header.period
@@ -115,4 +114,3 @@ pub record PlaysOwn (driver after : Driver) (left : List ℤ) : Type 0 where
   pub played : (n : ℕ) → n < length after.nodes → bench_at after n ≡ sequential bench_after bench_gives links before n
   pub remembered : (n : ℕ) → n < length after.nodes → memory_in after (node_at after.nodes n).birth ≡ Some (bench_at after n).memory
   pub others : (birth : ℕ) → player_born (graph_now after) birth ≡ None → memory_in after birth ≡ memory_in driver birth
-  pub written : (turn_of driver.script (run driver + 1)).is_freewheel ≡ false → (samples : List ℤ) → HasTape driver.playback samples → HasTape after.playback (samples ++ played_now driver after left)
