@@ -1,0 +1,32 @@
+//! Laws of the courses that a driver fits and keeps, from its opening on.
+
+ghost use Rattle.std.specs.Prelude.{◌≡◌, ℕ, List, Some};
+ghost use Rattle.jack_types.specs.declared.kinds.Score.{Score as ScoreValue};
+ghost use Rattle.session_model.specs.Courses.{Course};
+ghost use Rattle.session_model.specs.Scripts.{Script};
+ghost use Rattle.driver_laws.specs.Cycling.{CyclesMany, HasMetOthers, StepsOnce};
+ghost use Rattle.driver_laws.specs.Drivers.{Driver};
+ghost use Rattle.driver_laws.specs.Keeping.{Fits, Keeps};
+ghost use Rattle.driver_laws.specs.Openings.{IsNew};
+
+/// A new driver keeps every course of its script over what its capture tells.
+pub fn a_new_driver_keeps()
+    ensures { (script : Script) (scores : List ScoreValue) (driver : Driver) → IsNew script scores driver
+        → (course : Course) → course.script ≡ script → driver.left ≡ Some course.capture → Keeps driver course }
+{}
+
+/// A course that fits behind a cycle fits before it.
+pub fn what_fits_behind_fits_before()
+    ensures { (driver after : Driver) (course : Course) → StepsOnce driver after → Fits after course → Fits driver course }
+{}
+
+/// What is kept before the first of many cycles is kept behind the last.
+pub fn many_cycles_keep()
+    ensures { (n : ℕ) (driver after : Driver) (course : Course) → CyclesMany n driver after → Fits after course → Keeps driver course → Keeps after course }
+{}
+
+/// Where the lent ends of a driver met others, the same courses fit, and what was kept is kept.
+pub fn a_meeting_changes_nothing()
+    ensures fits { (driver after : Driver) (course : Course) → HasMetOthers driver after → Fits after course → Fits driver course }
+    ensures keeps { (driver after : Driver) (course : Course) → HasMetOthers driver after → Keeps driver course → Keeps after course }
+{}
