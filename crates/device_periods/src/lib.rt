@@ -1,0 +1,10 @@
+//! Periods of the device: the capture read and taken apart into channels, and channels laid together into blocks.
+#![tactic(auto)]
+
+mod blocks;
+mod captures;
+#[cfg(test)]
+mod tests;
+
+pub use blocks::{lay_channel, take_channel};
+pub use captures::Capture;
