@@ -22,7 +22,8 @@ fn run<B: Work, G: Gate>(crew: &Crew<B>, seat: &mut Seat<B>, gate: &G, mut taken
     let node = taken.node();
     gate.before_client(seat.number(), node);
     taken.play();
-    for link in crew.outgoing(node) {
+    let links = crew.outgoing(node);
+    for link in links {
         if let Some(next) = crew.release(seat, &mut taken, *link) {
             run(crew, seat, gate, next);
         }

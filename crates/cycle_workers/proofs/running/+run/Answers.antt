@@ -21,8 +21,8 @@ next_link links node k xs outs test =
     let fact = out_fact links node k low in
     (low, is, subst (λ q. q < length links) is fact.0, subst (λ q. (link_at links q).from ≡ node) is fact.1)
 
-pub outgoing-link-items-requires-clause-node : goal.outgoing-link-items-requires-clause-node
-outgoing-link-items-requires-clause-node g t c κs within =
+pub outgoing-links-requires-clause-node : goal.outgoing-links-requires-clause-node
+outgoing-links-requires-clause-node g t c κs within =
     let low = unplayed_low g.B.Work.memory g.B.Work.has_room g.B.Work.value_at g.B.Work.after g.B.Work.gives c.args.seat.now.token.me.0.duty c.args.taken.node c.args.taken.desk c.requires.taken in
     omega (arith, low, c.requires.seat.at.same_nodes, c.node-node.ensures)
 
@@ -49,8 +49,8 @@ release-requires-clause-link g t c κs within =
     let links = c.args.crew.now.links.items in
     let node : ℕ = c.args.taken.node in
     let i = c.loop-link.invariant in
-    let outs : c.outgoing-link-items.result.now ≡ outgoing links node = c.outgoing-link-items.ensures ∙ ap (outgoing links) c.node-node.ensures in
-    let next = next_link links node c.loop-link.link-index c.outgoing-link-items.result.now outs c.loop-link-test.true in
+    let outs : c.outgoing-links.result.now ≡ outgoing links node = c.outgoing-links.ensures ∙ ap (outgoing links) c.node-node.ensures in
+    let next = next_link links node c.loop-link.link-index c.outgoing-links.result.now outs c.loop-link-test.true in
     let off = subst (λ q. has c.loop-link.seat.token.me.0.duty.released q ≡ false) next.1 (i.4.open_links c.loop-link.link-index (omega arith) next.0) in
     (next.2, next.3 ∙ sym i.2, off)
 
@@ -59,21 +59,21 @@ release-requires-clause-room g t c κs within =
     let links = c.args.crew.now.links.items in
     let node : ℕ = c.args.taken.node in
     let i = c.loop-link.invariant in
-    let outs : c.outgoing-link-items.result.now ≡ outgoing links node = c.outgoing-link-items.ensures ∙ ap (outgoing links) c.node-node.ensures in
-    let next = next_link links node c.loop-link.link-index c.outgoing-link-items.result.now outs c.loop-link-test.true in
+    let outs : c.outgoing-links.result.now ≡ outgoing links node = c.outgoing-links.ensures ∙ ap (outgoing links) c.node-node.ensures in
+    let next = next_link links node c.loop-link.link-index c.outgoing-links.result.now outs c.loop-link-test.true in
     let off = subst (λ q. has c.loop-link.seat.token.me.0.duty.released q ≡ false) next.1 (i.4.open_links c.loop-link.link-index (omega arith) next.0) in
     let rooms = subst (HaveRoom g.B.Work.has_room links) (sym i.4.before_stays) c.requires.room in
-    has_room_at g.B.Work.memory g.B.Work.has_room g.B.Work.value_at g.B.Work.after g.B.Work.gives c.loop-link.seat.token.me.0.duty links c.loop-link.taken.node (get_or c.outgoing-link-items.result.now c.loop-link.link-index 0) c.loop-link.taken.desk i.1.at.same_links i.3
-    (λ bench e. rooms (get_or c.outgoing-link-items.result.now c.loop-link.link-index 0) bench next.2 e) next.2 (next.3 ∙ sym i.2) off
+    has_room_at g.B.Work.memory g.B.Work.has_room g.B.Work.value_at g.B.Work.after g.B.Work.gives c.loop-link.seat.token.me.0.duty links c.loop-link.taken.node (get_or c.outgoing-links.result.now c.loop-link.link-index 0) c.loop-link.taken.desk i.1.at.same_links i.3
+    (λ bench e. rooms (get_or c.outgoing-links.result.now c.loop-link.link-index 0) bench next.2 e) next.2 (next.3 ∙ sym i.2) off
 
 pub run-requires : goal.run-requires
 run-requires g t c κs within =
     let links = c.args.crew.now.links.items in
     let node : ℕ = c.args.taken.node in
     let i = c.loop-link.invariant in
-    let outs : c.outgoing-link-items.result.now ≡ outgoing links node = c.outgoing-link-items.ensures ∙ ap (outgoing links) c.node-node.ensures in
-    let x : ℕ = get_or c.outgoing-link-items.result.now c.loop-link.link-index 0 in
-    let at = next_link links node c.loop-link.link-index c.outgoing-link-items.result.now outs c.loop-link-test.true in
+    let outs : c.outgoing-links.result.now ≡ outgoing links node = c.outgoing-links.ensures ∙ ap (outgoing links) c.node-node.ensures in
+    let x : ℕ = get_or c.outgoing-links.result.now c.loop-link.link-index 0 in
+    let at = next_link links node c.loop-link.link-index c.outgoing-links.result.now outs c.loop-link-test.true in
     let next = c.in-Some.ensures.some in
     let up = c.args.crew.now.shape.are.upward x no_link at.2 in
     let within' = c.args.crew.now.shape.are.within x no_link at.2 in
@@ -107,9 +107,9 @@ loop-link-preserved g t c =
     let node : ℕ = c.args.taken.node in
     let k : ℕ = c.loop-link.link-index in
     let i = c.loop-link.invariant in
-    let x : ℕ = get_or c.outgoing-link-items.result.now k 0 in
-    let outs : c.outgoing-link-items.result.now ≡ outgoing links node = c.outgoing-link-items.ensures ∙ ap (outgoing links) c.node-node.ensures in
-    let at = next_link links node k c.outgoing-link-items.result.now outs c.loop-link-test.true in
+    let x : ℕ = get_or c.outgoing-links.result.now k 0 in
+    let outs : c.outgoing-links.result.now ≡ outgoing links node = c.outgoing-links.ensures ∙ ap (outgoing links) c.node-node.ensures in
+    let at = next_link links node k c.outgoing-links.result.now outs c.loop-link-test.true in
     let old = c.args.seat.now.token.me.0.duty in
     let d = c.loop-link.seat.token.me.0.duty in
     let P : Seat g.row.B.Denot g.row.B-Value.Denot g.row.B-Memory.Denot → Type 0 = λ seat.
@@ -163,7 +163,7 @@ home-requires-clause-released g t c κs within l low from =
     let node : ℕ = c.args.taken.node in
     let i = c.loop-link.invariant in
     let not = c.loop-link-test.false in
-    let outs : c.outgoing-link-items.result.now ≡ outgoing links node = c.outgoing-link-items.ensures ∙ ap (outgoing links) c.node-node.ensures in
+    let outs : c.outgoing-links.result.now ≡ outgoing links node = c.outgoing-links.ensures ∙ ap (outgoing links) c.node-node.ensures in
     going_done links node c.loop-link.link-index c.args.seat.now.token.me.0.duty c.loop-link.seat.token.me.0.duty (omega (arith, not, ap length outs)) i.4 l low (from ∙ i.2)
 
 pub returns-clause-seat : goal.returns-clause-seat
