@@ -130,8 +130,8 @@ module _ (driver after : Driver) (steps : StepsOnce driver after) (course : Cour
   due disk = map (block_channel (disk_file course disk) (period course (suc (run driver))) (played_before course disk (suc (run driver)))) (below (disk_file course disk).channels)
 
   -- the channels of the block that was got
-  pub fed-now : (disk : ℕ) → has_disk (graph_now after) disk ≡ true → driver.set ≡ driver.script.header.period → fed course disk (suc (run driver)) ≡ fed_now driver after disk
-  fed-now disk active full =
+  pub fed-now : ((disk : ℕ) → disk < length driver.disks → driver.set ≡ driver.script.header.period) → (disk : ℕ) → has_disk (graph_now after) disk ≡ true → fed course disk (suc (run driver)) ≡ fed_now driver after disk
+  fed-now full disk active =
       ap (λ b. cond b [] (due disk)) (missed_same disk)
       ∙ go (is_missed driver after disk) refl
     where
@@ -148,7 +148,7 @@ module _ (driver after : Driver) (steps : StepsOnce driver after) (course : Cour
           ≡ channels_of (slice_index_or driver.script.header.disks disk 0) driver.set (samples_got (Some got) (slice_get after.disks disk))
       a_ring got here met =
           let w = there_too driver.disks after.disks disk got steps.as_many_disks here in
-          let first : driver.set ≡ course.script.header.period = full ∙ ap (λ (s : Script). s.header.period) (sym (script-same driver after steps course fits)) in
+          let first : driver.set ≡ course.script.header.period = full disk (slice_get_within driver.disks disk got here) ∙ ap (λ (s : Script). s.header.period) (sym (script-same driver after steps course fits)) in
           ap₂ (λ p m. map (block_channel (disk_file course disk) p (played_before course disk m)) (below (disk_file course disk).channels)) (period-now driver after steps course fits set) next
           ∙ given-of_get course disk got w.0 (slice_index_or driver.script.header.disks disk 0) driver.set first (channels-same disk) (run driver) (underruns_on driver.underruns disk) (underruns_on after.underruns disk)
           (keeps.disks disk got here) (fits.disks disk w.0 w.1)

@@ -156,7 +156,7 @@ module _ (driver after : Driver) (steps : StepsOnce driver after) (left : List �
       go : (kind : Kind) → (node_at after.nodes n).kind ≡ kind → (memory : Memory) → with_fed (fed_now driver after) kind memory ≡ with_block course (suc (run driver)) kind memory
       go (Disk disk) e memory =
           let active : has_disk (graph_now after) disk ≡ true = plays_disk (graph_now after) (node_at after.nodes n) disk (player n h) e in
-          ap (λ blocks. record memory { fed = blocks }) (sym (fed-now driver after steps course fits keeps own.period disk active (own.full disk active)))
+          ap (λ blocks. record memory { fed = blocks }) (sym (fed-now driver after steps course fits keeps own.period own.full disk active))
       go _ e memory = refl
 
   ready : IsReady course at after.nodes own.links own.before

@@ -24,7 +24,7 @@ use Rattle.session_model.specs.State.{State, OpenClient, Connection, playback_po
 use Rattle.session_model.specs.Transport.{next_row, shown, slow_numbers, timeout_of, active_master}
 use Rattle.record_ring.specs.Rings.{Getting}
 use Rattle.client_kinds.specs.Buffers.{channels_of}
-use Rattle.driver_laws.specs.Drivers.{Driver, run, turn_of, content_now, graph_now, has_disk, underruns_on, bench_at, memory_in}
+use Rattle.driver_laws.specs.Drivers.{Driver, run, turn_of, content_now, graph_now, underruns_on, bench_at, memory_in}
 
 -- a course of the driver's script and scores, for what reads nothing else of a course
 abbrev pub own_course : Driver → Course
@@ -101,10 +101,10 @@ mixed_now driver after left port =
 abbrev pub played_now : Driver → Driver → List ℤ → List ℤ
 played_now driver after left = interleaved driver.set (map (mixed_now driver after left) (map (λ i. (playback_port i).name) (below driver.script.header.playback)))
 
--- a cycle over so many samples left: the period set is the cycle's, and a disk's player has the script's first one; one step of the transport; the benches of a plan of this graph, each ready before, and then what the machine's recursion makes of it, with the memories of all that played
+-- a cycle over so many samples left: the period set is the cycle's, and where there is a disk the script's first one; one step of the transport; the benches of a plan of this graph, each ready before, and then what the machine's recursion makes of it, with the memories of all that played
 pub record PlaysOwn (driver after : Driver) (left : List ℤ) : Type 0 where
   pub period : (turn_of driver.script (run driver + 1)).period ≡ driver.set
-  pub full : (disk : ℕ) → has_disk (graph_now after) disk ≡ true → driver.set ≡ driver.script.header.period
+  pub full : (disk : ℕ) → disk < length driver.disks → driver.set ≡ driver.script.header.period
   pub transport : after.transport ≡ next_row driver.transport (adopted_now driver after) (slow_numbers (graph_now after)) (timeout_of (graph_now after) driver.script.header.rate driver.set) driver.set
   pub moments : after.moments ≡ driver.moments ++ moment_now driver after ∷ []
   pub links : List Link

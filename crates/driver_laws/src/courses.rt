@@ -4,7 +4,7 @@ ghost use Rattle.std.specs.Prelude.{◌≡◌, ℕ, List, Some};
 ghost use Rattle.jack_types.specs.declared.kinds.Score.{Score as ScoreValue};
 ghost use Rattle.session_model.specs.Courses.{Course};
 ghost use Rattle.session_model.specs.Scripts.{Script};
-ghost use Rattle.driver_laws.specs.Cycling.{CyclesMany, HasMetOthers, StepsOnce};
+ghost use Rattle.driver_laws.specs.Cycling.{CyclesMany, FailsAtRead, HasMetOthers, StepsOnce};
 ghost use Rattle.driver_laws.specs.Drivers.{Driver};
 ghost use Rattle.driver_laws.specs.Keeping.{Fits, Keeps};
 ghost use Rattle.driver_laws.specs.Openings.{IsNew};
@@ -15,9 +15,10 @@ pub fn a_new_driver_keeps()
         → (course : Course) → course.script ≡ script → driver.left ≡ Some course.capture → Keeps driver course }
 {}
 
-/// A course that fits behind a cycle fits before it.
+/// A course that fits behind a cycle fits before it, also where the cycle failed at the capture.
 pub fn what_fits_behind_fits_before()
-    ensures { (driver after : Driver) (course : Course) → StepsOnce driver after → Fits after course → Fits driver course }
+    ensures whole { (driver after : Driver) (course : Course) → StepsOnce driver after → Fits after course → Fits driver course }
+    ensures failed { (driver after : Driver) (course : Course) → FailsAtRead driver after → Fits after course → Fits driver course }
 {}
 
 /// What is kept before the first of many cycles is kept behind the last.
