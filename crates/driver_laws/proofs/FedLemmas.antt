@@ -1,6 +1,6 @@
 -- What a disk's player is given in one cycle more, read from the rings.
 --     fed-now      the channels of the block that was got
-use Rattle.std.proofs.Common.{◌≡◌, ℕ, ℤ, zero, suc, ◌*◌, ◌+◌, ◌-◌, ◌<◌, ◌≤◌, ◌⊎◌, inl, inr, min, Bool, true, false, cond, ◌||◌, ◌==◌, List, [], ◌∷◌, ◌++◌, length, map, get_or, slice_get, slice_index_or, Option, Some, None, refl, sym, ◌∙◌, ap, ap₂, subst, arith, true≢false, eq-eqb}
+use Rattle.std.proofs.Common.{◌≡◌, ℕ, ℤ, zero, suc, ◌*◌, ◌+◌, ◌<◌, ◌≤◌, ◌⊎◌, inl, inr, min, Bool, true, false, cond, ◌||◌, ◌==◌, List, [], ◌∷◌, ◌++◌, length, map, get_or, slice_get, slice_index_or, Option, Some, None, refl, sym, ◌∙◌, ap, ap₂, subst, arith, true≢false, eq-eqb}
 use Rattle.std.specs.List.{list_any}
 use Rattle.std.specs.Option.{option_map_or}
 use Rattle.std.proofs.Math.Nat.{min-le_right}
@@ -13,7 +13,7 @@ use Rattle.jack_types.specs.declared.replies.Underrun.{Underrun}
 use Rattle.session_model.specs.Courses.{Course, DiskFile, no_disk, disk_file, block_channel, period, fed, is_underrun, played_before}
 use Rattle.session_model.specs.Disks.{file_blocks}
 use Rattle.session_model.specs.Rings.{RingBlock}
-use Rattle.session_model.specs.Samples.{below, interleaved, sample}
+use Rattle.session_model.specs.Samples.{below, sample}
 use Rattle.session_model.specs.Scripts.{Script}
 use Rattle.client_kinds.specs.Buffers.{channels_of}
 use Rattle.record_ring.specs.Rings.{Getting}
@@ -23,7 +23,7 @@ use Rattle.driver_laws.specs.Cycling.{StepsOnce, GetsOne, Silent, Heard, Over, M
 use Rattle.driver_laws.specs.Playing.{fed_now, is_missed, samples_got}
 use Rattle.driver_laws.proofs.DiskLemmas.{within}
 use Rattle.driver_laws.proofs.BlockLemmas.{channels-interleaved, channels-past}
-use Rattle.driver_laws.proofs.StepLemmas.{none-some, there_too, ran, script-same}
+use Rattle.driver_laws.proofs.StepLemmas.{there_too, ran, script-same}
 use Rattle.driver_laws.proofs.TransportLemmas.{period-now}
 
 some-none : {X : Type 0} (x : X) → Some x ≡ None → ⊥

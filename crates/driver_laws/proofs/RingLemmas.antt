@@ -2,8 +2,7 @@
 --     kept_blocks-next, kept_blocks-lost      one block more that is kept; none where the cycle is an overrun
 --     kept_before-later      an overrun of a later cycle changes no earlier count
 --     KeepsRing-next      what the ring keeps before a cycle it keeps behind
-use Rattle.std.proofs.Common.{◌≡◌, ℕ, suc, ◌+◌, ◌-◌, ◌<◌, ◌≤◌, Bool, true, false, cond, not, ◌&&◌, ◌||◌, ◌==◌, List, [], ◌∷◌, ◌++◌, length, map, filter, count_by, get_or, All, IsTrue, ℤ, refl, sym, ◌∙◌, ap, ap₂, subst, arith, true≢false, ne_eqb, eq-eqb}
-use Rattle.std.specs.List.{list_any}
+use Rattle.std.proofs.Common.{◌≡◌, ℕ, suc, ◌+◌, ◌-◌, ◌<◌, ◌≤◌, Bool, true, false, cond, not, ◌&&◌, ◌||◌, ◌==◌, List, [], ◌∷◌, ◌++◌, length, map, filter, count_by, get_or, All, IsTrue, ℤ, refl, sym, ◌∙◌, ap, ap₂, subst, arith, ne_eqb, eq-eqb}
 use Rattle.std.specs.List.Sorted.{IsStrictlyIncreasing, IsNonDecreasing}
 use Rattle.std.proofs.lemmas.List.{map-append, append-nil, length-map}
 use Rattle.std.proofs.lemmas.List.Elements.{All-push, All-map}

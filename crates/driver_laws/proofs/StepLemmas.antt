@@ -3,18 +3,16 @@
 --     graph-of_row      the graph of the cycle is that of the content that its row took
 --     Keeps-next      from the facts of one cycle
 --     KeepsBut-next      where the playback failed
-use Rattle.std.proofs.Common.{◌≡◌, ℕ, zero, suc, ◌+◌, ◌*◌, ◌<◌, ◌≤◌, Bool, true, false, List, [], ◌∷◌, ◌++◌, length, map, take, drop, slice_get, ℤ, Option, Some, None, option_map, refl, sym, ◌∙◌, ap, ap₂, subst, arith}
+use Rattle.std.proofs.Common.{◌≡◌, ℕ, zero, suc, ◌+◌, ◌*◌, Bool, true, false, List, [], ◌∷◌, ◌++◌, length, map, take, drop, slice_get, Some, None, option_map, refl, sym, ◌∙◌, ap, subst, arith}
 use Rattle.std.proofs.lemmas.List.{length_push, length-map}
 use Rattle.std.proofs.lemmas.Option.{slice_get_within}
 use Rattle.session_model.specs.Benches.{IsPlan}
-use Rattle.session_model.specs.Courses.{Course, turn, graph, number, frames_before, is_disk_active}
+use Rattle.session_model.specs.Courses.{Course, turn, graph, number, frames_before}
 use Rattle.session_model.specs.Cycles.{player_born}
 use Rattle.session_model.specs.Driving.{IsDriven}
 use Rattle.session_model.specs.Playback.{played_in}
-use Rattle.session_model.specs.Recorders.{is_taping}
 use Rattle.session_model.specs.Samples.{below}
 use Rattle.session_model.specs.Scripts.{Script}
-use Rattle.session_model.specs.State.{State}
 use Rattle.session_model.specs.Transport.{moment, row}
 use Rattle.graph_word.specs.declared.view.TakenRow.{TakenRow}
 use Rattle.graph_word.specs.Publications.{Reading}

@@ -2,7 +2,7 @@
 --     settled_now driver after left      what is settled before the cycle's clients play
 --     played_now driver after left      what the playback gets
 --     PlaysOwn driver after left      the cycle played so
-use Rattle.std.specs.Prelude.{◌≡◌, ℕ, ◌+◌, ◌*◌, ◌<◌, ◌==◌, Bool, true, false, List, [], ◌∷◌, ◌++◌, length, map, drop, slice_get, slice_index, slice_index_or, ℤ, Option, Some, None, unwrap_or, Contains, if◌then◌else◌}
+use Rattle.std.specs.Prelude.{◌≡◌, ℕ, ◌+◌, ◌*◌, ◌<◌, ◌==◌, Bool, List, [], ◌∷◌, ◌++◌, length, map, drop, slice_get, slice_index, slice_index_or, ℤ, Option, Some, None, unwrap_or, if◌then◌else◌}
 use Rattle.std.specs.List.{list_any}
 use Rattle.std.specs.Option.{option_map_or}
 use Rattle.jack_types.specs.declared.commands.Change.{Change}
@@ -13,14 +13,13 @@ use Rattle.jack_types.specs.declared.ports.Link.{Link}
 use Rattle.jack_types.specs.declared.replies.Underrun.{Underrun}
 use Rattle.session_model.specs.Activation.{sequential}
 use Rattle.session_model.specs.Benches.{Bench, bench_after, bench_gives, node_at, outputs_of, IsPlan, IsReady}
-use Rattle.session_model.specs.Courses.{Course, players}
+use Rattle.session_model.specs.Courses.{Course}
 use Rattle.session_model.specs.Cycles.{Signals, Settled, edges_into, no_signals, player_born}
 use Rattle.session_model.specs.Driving.{kept_from}
 use Rattle.session_model.specs.Kinds.{Memory, first}
-use Rattle.session_model.specs.Recorders.{is_tape}
 use Rattle.session_model.specs.Rings.{RingBlock}
 use Rattle.session_model.specs.Samples.{below, interleaved, mix, sample, silence}
-use Rattle.session_model.specs.State.{State, OpenClient, Connection, playback_port}
+use Rattle.session_model.specs.State.{Connection, playback_port}
 use Rattle.session_model.specs.Transport.{next_row, shown, slow_numbers, timeout_of, active_master}
 use Rattle.record_ring.specs.Rings.{Getting}
 use Rattle.client_kinds.specs.Buffers.{channels_of}
