@@ -9,6 +9,7 @@ pub mod MeetingLemmas
 pub mod SegmentLemmas
 pub mod WholeLemmas
 pub mod OpeningLemmas
+pub mod PeriodLemmas
 pub mod TransportLemmas
 pub mod CaptureLemmas
 pub mod TaskLemmas
