@@ -1,13 +1,12 @@
 -- What a disk's player is given in one cycle more, read from the rings.
 --     fed-now      the channels of the block that was got
-use Rattle.std.proofs.Common.{◌≡◌, ℕ, ℤ, zero, suc, ◌*◌, ◌+◌, ◌<◌, ◌≤◌, ◌⊎◌, inl, inr, min, Bool, true, false, cond, ◌||◌, ◌==◌, List, [], ◌∷◌, ◌++◌, length, map, get_or, slice_get, slice_index_or, Option, Some, None, refl, sym, ◌∙◌, ap, ap₂, subst, arith, true≢false, eq-eqb}
+use Rattle.std.proofs.Common.{◌≡◌, ℕ, ℤ, zero, suc, ◌*◌, ◌+◌, ◌<◌, ◌≤◌, ◌⊎◌, inl, inr, min, Bool, true, false, cond, ◌==◌, List, [], ◌∷◌, ◌++◌, length, map, get_or, slice_get, slice_index_or, Option, Some, None, refl, sym, ◌∙◌, ap, ap₂, subst, arith, true≢false}
 use Rattle.std.specs.List.{list_any}
 use Rattle.std.specs.Option.{option_map_or}
 use Rattle.std.proofs.Math.Nat.{min-le_right}
 use Rattle.std.proofs.Math.ListN.{get_or-map}
 use Rattle.std.proofs.lemmas.Bool.{cases_lt}
 use Rattle.std.proofs.lemmas.List.{get_or_past}
-use Rattle.std.proofs.lemmas.List.Folds.{list_any-append}
 use Rattle.std.proofs.lemmas.Option.{slice_get_past, slice_get_within}
 use Rattle.jack_types.specs.declared.replies.Underrun.{Underrun}
 use Rattle.session_model.specs.Courses.{Course, DiskFile, no_disk, disk_file, block_channel, period, fed, is_underrun, played_before}
@@ -22,16 +21,13 @@ use Rattle.driver_laws.specs.Keeping.{Fits, FitsDisk, Keeps, KeepsDisk, file_blo
 use Rattle.driver_laws.specs.Cycling.{StepsOnce, GetsOne, Silent, Heard, Over, Missed}
 use Rattle.driver_laws.specs.Playing.{fed_now, is_missed, samples_got}
 use Rattle.driver_laws.proofs.DiskLemmas.{within}
+use Rattle.driver_laws.proofs.PlaceLemmas.{there_too, last_of, missed_there}
 use Rattle.driver_laws.proofs.BlockLemmas.{channels-interleaved, channels-past}
-use Rattle.driver_laws.proofs.StepLemmas.{there_too, ran, script-same}
+use Rattle.driver_laws.proofs.StepLemmas.{ran, script-same}
 use Rattle.driver_laws.proofs.TransportLemmas.{period-now}
 
 some-none : {X : Type 0} (x : X) → Some x ≡ None → ⊥
 some-none x e = cc
-
-last_of : (blocks : List RingBlock) (block : RingBlock) → slice_get (blocks ++ block ∷ []) (length blocks) ≡ Some block
-last_of [] block = refl
-last_of (b ∷ blocks) block = last_of blocks block
 
 -- the channels of a block of a file, or of silence behind its end
 module _ (course : Course) (disk : ℕ) (got got_after : Getting) (count : ℕ) (period : ℕ) (full : period ≡ course.script.header.period) (channels : (disk_file course disk).channels ≡ count) where
@@ -75,18 +71,8 @@ module _ (course : Course) (disk : ℕ) (got got_after : Getting) (count : ℕ) 
       let count_is : length got.got ≡ min (file_blocks course disk) (played_before course disk (n + 1)) = keeps.count in
       silent_is (played_before course disk (n + 1)) (omega (arith, whole, size, few, count_is))
       ∙ ap (λ (o : Option RingBlock). channels_of count period (option_map_or (λ (b : RingBlock). b.samples) o [])) (sym nothing)
-  given-of_get n misses misses_after keeps fits (Missed one found on gets more) met = absurd (true≢false (sym there ∙ met))
-    where
-      or_true : (b : Bool) → (b || (true || false)) ≡ true
-      or_true true = refl
-      or_true false = refl
-
-      there : list_any (λ (u : Underrun). u.cycle == n + 1) misses_after ≡ true
-      there =
-          ap (list_any (λ (u : Underrun). u.cycle == n + 1)) more
-          ∙ list_any-append (λ (u : Underrun). u.cycle == n + 1) misses (record { disk = disk; cycle = n + 1; sent = found; taken = found } ∷ [])
-          ∙ ap (λ b. list_any (λ (u : Underrun). u.cycle == n + 1) misses || (b || false)) (eq-eqb (n + 1) (n + 1) refl)
-          ∙ or_true (list_any (λ (u : Underrun). u.cycle == n + 1) misses)
+  given-of_get n misses misses_after keeps fits (Missed one found on gets more) met =
+      absurd (true≢false (sym (ap (list_any (λ (u : Underrun). u.cycle == n + 1)) more ∙ missed_there misses (record { disk = disk; cycle = n + 1; sent = found; taken = found }) (n + 1) refl) ∙ met))
 
 module _ (driver after : Driver) (steps : StepsOnce driver after) (course : Course) (fits : Fits after course) (keeps : Keeps driver course) (set : (turn_of driver.script (run driver + 1)).period ≡ driver.set) where
   next : suc (run driver) ≡ run driver + 1

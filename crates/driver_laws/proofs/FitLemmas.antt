@@ -3,7 +3,7 @@
 --     Fits-failed      also where the cycle failed at the capture
 --     content-of_calls      what a cycle took is of calls
 --     Keeps-many      what holds behind one cycle holds behind many
-use Rattle.std.proofs.Common.{◌≡◌, ℕ, zero, suc, ◌+◌, ◌<◌, Bool, true, false, cond, ◌||◌, ◌==◌, List, [], ◌∷◌, ◌++◌, length, map, take, slice_get, slice_index_or, All, Contains, Some, ◌⊎◌, inl, inr, refl, sym, ◌∙◌, ap, subst, arith, true≢false, eqb-true}
+use Rattle.std.proofs.Common.{◌≡◌, ℕ, zero, suc, ◌+◌, ◌<◌, Bool, true, false, cond, ◌||◌, ◌==◌, List, [], ◌∷◌, ◌++◌, length, map, take, slice_get, slice_index_or, All, Contains, ◌⊎◌, inl, inr, refl, sym, ◌∙◌, ap, subst, arith, true≢false, eqb-true}
 use Rattle.std.specs.List.{list_any}
 use Rattle.std.proofs.lemmas.List.{length_push}
 use Rattle.std.proofs.lemmas.List.Elements.{All-take, All-head, All-tail, filter-append}
@@ -21,11 +21,8 @@ use Rattle.record_ring.specs.Rings.{Getting}
 use Rattle.driver_laws.specs.Drivers.{Driver, run, content_now, graph_now, has_disk, underruns_on}
 use Rattle.driver_laws.specs.Keeping.{AreOfCalls, Fits, FitsDisk, Keeps}
 use Rattle.driver_laws.specs.Cycling.{GetsOne, Silent, Heard, Over, Missed, StepsOnce, FailsAtRead, CyclesMany}
-use Rattle.driver_laws.proofs.RingLemmas.{or_false}
-use Rattle.driver_laws.proofs.StepLemmas.{none-some, there_too, ran, rows_are, row_there, content-taken}
-
-none_below : {n : ℕ} → n < 0 → ⊥
-none_below h = omega (arith, h)
+use Rattle.driver_laws.proofs.PlaceLemmas.{none_below, there_too, still_there, or_false}
+use Rattle.driver_laws.proofs.StepLemmas.{ran, rows_are, row_there, content-taken}
 
 -- a list with one more that is a front has a front in it
 front_in : {X : Type 0} (xs : List X) (x : X) (m : ℕ) (whole : List X) → xs ++ x ∷ [] ≡ take m whole → xs ≡ take (length xs) whole
@@ -48,11 +45,6 @@ front_in {X} (y ∷ xs) x (suc m) (z ∷ whole) e = ap_both (heads e) (front_in 
 
     ap_both : y ≡ z → xs ≡ take (length xs) whole → y ∷ xs ≡ z ∷ take (length xs) whole
     ap_both p q = cc
-
-still_there : {X : Type 0} (xs ys : List X) (k : ℕ) (x : X) → slice_get xs k ≡ Some x → slice_get (xs ++ ys) k ≡ Some x
-still_there [] ys k x e = absurd (none-some x e)
-still_there (z ∷ xs) ys zero x e = e
-still_there (z ∷ xs) ys (suc k) x e = still_there xs ys k x e
 
 -- underruns of a later cycle are none of an earlier one
 none_now : (k now disk count : ℕ) → k < now → (more : List Underrun) → All (λ (u : Underrun). (u.cycle ≡ now) × (u.disk < count)) more

@@ -1,4 +1,5 @@
 pub mod NumberLemmas
+pub mod PlaceLemmas
 pub mod RingLemmas
 pub mod DiskLemmas
 pub mod DrivenLemmas

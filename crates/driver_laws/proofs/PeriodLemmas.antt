@@ -1,6 +1,6 @@
 -- A script with disks keeps its first period.
 --     period-first      in every cycle
-use Rattle.std.proofs.Common.{◌≡◌, ℕ, zero, suc, ◌+◌, ◌<◌, Bool, true, false, List, [], ◌∷◌, ◌++◌, length, take, replicate, get_or, slice_get, Some, refl, sym, ◌∙◌, ap, subst, arith, append_assoc, true≢false}
+use Rattle.std.proofs.Common.{◌≡◌, ℕ, zero, suc, ◌+◌, ◌<◌, false, List, [], ◌∷◌, ◌++◌, length, take, replicate, get_or, slice_get, Some, refl, sym, ◌∙◌, ap, subst, arith, append_assoc, true≢false}
 use Rattle.jack_types.specs.declared.scripts.Body.{Body}
 use Rattle.jack_types.specs.declared.scripts.Body.TheVariants.{Do, Run, Freewheel, Lane, Period}
 use Rattle.jack_types.specs.declared.commands.Command.{Command}

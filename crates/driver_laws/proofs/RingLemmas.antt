@@ -16,11 +16,8 @@ use Rattle.session_model.specs.Samples.{below}
 use Rattle.record_ring.specs.Rings.{Sending, Puts, IsFull}
 use Rattle.driver_laws.specs.Keeping.{is_kept, kept_blocks, IsLoss, KeepsRing}
 use Rattle.driver_laws.specs.Cycling.{PutsOne, Idle, Went, Lacked}
+use Rattle.driver_laws.proofs.PlaceLemmas.{or_false, or_true}
 use Rattle.driver_laws.proofs.NumberLemmas.{IsStrictlyIncreasing-push, IsNonDecreasing-push, filter-below_next, filter-below_same}
-
-pub or_false : (b : Bool) → (b || false) ≡ b
-or_false true = refl
-or_false false = refl
 
 -- ---- overruns of earlier and of later cycles
 
@@ -41,10 +38,6 @@ lost_there losses overrun k same =
     list_any-append (λ (o : Overrun). o.cycle == k) losses (overrun ∷ [])
     ∙ ap (λ b. is_lost losses k || (b || false)) (eq-eqb overrun.cycle k same)
     ∙ or_true (is_lost losses k)
-  where
-    or_true : (b : Bool) → (b || (true || false)) ≡ true
-    or_true true = refl
-    or_true false = refl
 
 module _ (course : Course) (recorder : ℕ) where
   -- the block of cycle i + 1

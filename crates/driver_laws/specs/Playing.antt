@@ -67,6 +67,7 @@ abbrev pub samples_got : Option Getting → Option Getting → List ℤ
 samples_got (Some before) (Some after) = option_map_or (λ (one : RingBlock). one.samples) (slice_get after.got (length before.got)) []
 samples_got _ _ = []
 
+-- whether the cycle was an underrun of the disk
 abbrev pub is_missed : Driver → Driver → ℕ → Bool
 is_missed driver after disk = list_any (λ (underrun : Underrun). underrun.cycle == run driver + 1) (underruns_on after.underruns disk)
 
@@ -76,6 +77,7 @@ fed_now driver after disk =
     if is_missed driver after disk then []
     else channels_of (slice_index_or driver.script.header.disks disk 0) driver.set (samples_got (slice_get driver.disks disk) (slice_get after.disks disk))
 
+-- a disk's player is given its block, and no other client is
 abbrev pub with_fed : (ℕ → List (List ℤ)) → Kind → Memory → Memory
 with_fed fed (Disk disk) memory = record memory { fed = fed disk }
 with_fed fed _ memory = memory

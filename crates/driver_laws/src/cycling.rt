@@ -21,7 +21,7 @@ pub fn content_is_of_calls()
 {}
 
 /// Where a cycle played what a course gives, the driver keeps of the course behind it what it kept before; where only the
-/// playback failed, it keeps the rings, and the playback has a front.
+/// playback failed, it keeps all but that, and the file has a front.
 pub fn a_cycle_keeps()
     ensures whole { (driver after : Driver) (course : Course) → StepsOnce driver after → PlaysOnce driver after course → WritesOnce driver after → Written driver after (played_in course (run driver + 1))
         → Fits after course → Keeps driver course → Keeps after course }
