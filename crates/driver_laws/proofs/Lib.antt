@@ -19,3 +19,4 @@ pub mod FedLemmas
 pub mod TapeLemmas
 pub mod OwnLemmas
 pub mod CycleLemmas
+pub mod InstanceLemmas

@@ -1,6 +1,7 @@
 //! Laws of one cycle: what the driver keeps before it, it keeps behind.
 
 ghost use Rattle.std.specs.Prelude.{◌≡◌, ◌+◌, ℤ, List, Some, true};
+ghost use Rattle.atomic_table.specs.Seated.{TableId};
 ghost use Rattle.session_model.specs.Courses.{Course, graph};
 ghost use Rattle.session_model.specs.Playback.{played_in};
 ghost use Rattle.driver_laws.specs.Cycling.{CyclesOnce, FailsAtWrite, KeepsBut, PlaysOnce, StepsOnce, WritesOnce, Written, WrittenFront};
@@ -50,3 +51,8 @@ pub fn steps_that_play_are_a_cycle()
 {
     one_client_of_each();
 }
+
+/// There is a cycle that all of this holds of, with a course that fits behind it and is kept.
+pub fn a_cycle_can_be()
+    ensures { TableId → (driver : Driver) × (after : Driver) × (course : Course) × CyclesOnce driver after × Fits after course × Keeps after course }
+{}
