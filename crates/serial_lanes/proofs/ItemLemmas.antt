@@ -1,5 +1,5 @@
 -- Items of lists.
-use Rattle.std.proofs.Common.{◌≡◌, ℕ, zero, suc, ◌+◌, ◌<◌, ◌≤◌, List, [], ◌∷◌, ◌++◌, length, map, take, drop, slice_get, slice_index_or, All, Contains, Some, None, refl, ap, arith}
+use Rattle.std.proofs.Common.{◌≡◌, ℕ, zero, suc, ◌+◌, ◌<◌, ◌≤◌, List, [], ◌∷◌, ◌++◌, length, map, take, drop, slice_get, slice_index_or, All, Contains, Some, None, refl, sym, ap, arith}
 use Rattle.std.proofs.lemmas.List.Elements.{All-cons, All-head, All-nil, All-tail}
 
 pub none-some : {X : Type 0} (x : X) → None ≡ Some x → ⊥
@@ -22,11 +22,6 @@ mapped_some f [] k x e = absurd (none-some x e)
 mapped_some f (y ∷ xs) zero x e = ap (λ z. Some (f z)) (some-same y x e)
 mapped_some f (y ∷ xs) (suc k) x e = mapped_some f xs k x e
 
-pub there_below : {X : Type 0} (xs : List X) (i : ℕ) (x : X) → slice_get xs i ≡ Some x → suc i ≤ length xs
-there_below [] i x h = absurd (none-some x h)
-there_below (y ∷ xs) zero x h = omega arith
-there_below (y ∷ xs) (suc i) x h = let p = there_below xs i x h in omega (arith, p)
-
 -- an item at a place within a list
 pub some_at : {X : Type 0} (xs : List X) (i : ℕ) → i < length xs → (x : X) × (slice_get xs i ≡ Some x)
 some_at [] i h = absurd (omega (arith, h))
@@ -42,20 +37,13 @@ pub take-whole : {X : Type 0} (xs : List X) → take (length xs) xs ≡ xs
 take-whole [] = refl
 take-whole (x ∷ xs) = ap (λ ys. x ∷ ys) (take-whole xs)
 
-pub drop_front : {X : Type 0} (xs ys : List X) → drop (length xs) (xs ++ ys) ≡ ys
-drop_front [] ys = refl
-drop_front (x ∷ xs) ys = drop_front xs ys
+no-first : {X : Type 0} (x : X) (rest : List X) → [] ≡ x ∷ rest → ⊥
+no-first x rest e = cc
 
 -- the item at a place is the first of what is left there
 pub first_of_rest : {X : Type 0} (xs : List X) (n : ℕ) (x : X) (rest : List X) → drop n xs ≡ x ∷ rest → slice_get xs n ≡ Some x
-first_of_rest [] zero x rest e = absurd (clash x rest e)
-  where
-    clash : {X : Type 0} (x : X) (rest : List X) → [] ≡ x ∷ rest → ⊥
-    clash x rest e = cc
-first_of_rest [] (suc n) x rest e = absurd (clash x rest e)
-  where
-    clash : {X : Type 0} (x : X) (rest : List X) → [] ≡ x ∷ rest → ⊥
-    clash x rest e = cc
+first_of_rest [] zero x rest e = absurd (no-first x rest e)
+first_of_rest [] (suc n) x rest e = absurd (no-first x rest e)
 first_of_rest (y ∷ xs) zero x rest e = ap Some (head e)
   where
     head : {X : Type 0} {y x : X} {xs rest : List X} → y ∷ xs ≡ x ∷ rest → y ≡ x
@@ -64,14 +52,8 @@ first_of_rest (y ∷ xs) (suc n) x rest e = first_of_rest xs n x rest e
 
 -- and what is left behind it
 pub rest_behind : {X : Type 0} (xs : List X) (n : ℕ) (x : X) (rest : List X) → drop n xs ≡ x ∷ rest → drop (suc n) xs ≡ rest
-rest_behind [] zero x rest e = absurd (clash x rest e)
-  where
-    clash : {X : Type 0} (x : X) (rest : List X) → [] ≡ x ∷ rest → ⊥
-    clash x rest e = cc
-rest_behind [] (suc n) x rest e = absurd (clash x rest e)
-  where
-    clash : {X : Type 0} (x : X) (rest : List X) → [] ≡ x ∷ rest → ⊥
-    clash x rest e = cc
+rest_behind [] zero x rest e = absurd (no-first x rest e)
+rest_behind [] (suc n) x rest e = absurd (no-first x rest e)
 rest_behind (y ∷ xs) zero x rest e = tail e
   where
     tail : {X : Type 0} {y x : X} {xs rest : List X} → y ∷ xs ≡ x ∷ rest → xs ≡ rest
@@ -81,8 +63,5 @@ rest_behind (y ∷ xs) (suc n) x rest e = rest_behind xs n x rest e
 -- where nothing is left there is no item
 pub none_of_rest : {X : Type 0} (xs : List X) (n : ℕ) → drop n xs ≡ [] → slice_get xs n ≡ None
 none_of_rest [] n e = refl
-none_of_rest (y ∷ xs) zero e = absurd (clash y xs e)
-  where
-    clash : {X : Type 0} (x : X) (rest : List X) → x ∷ rest ≡ [] → ⊥
-    clash x rest e = cc
+none_of_rest (y ∷ xs) zero e = absurd (no-first y xs (sym e))
 none_of_rest (y ∷ xs) (suc n) e = none_of_rest xs n e

@@ -8,3 +8,4 @@ mod MadeLemmas
 mod StepLemmas
 mod PhaseLemmas
 mod SerialLemmas
+mod HistoryLemmas

@@ -4,6 +4,7 @@ use Rattle.std.specs.Prelude.{flat_map}
 use Rattle.std.specs.Option.{option_map_or}
 use Rattle.std.proofs.lemmas.Bool.Decides.{nat_tests}
 use Rattle.std.proofs.lemmas.List.Elements.{filter-append}
+use Rattle.std.proofs.lemmas.Option.{slice_get_within}
 use Rattle.jack_types.specs.declared.commands.Call.{Call}
 use Rattle.jack_types.specs.declared.commands.Command.{Command}
 use Rattle.jack_types.specs.declared.replies.Entry.{Entry}
@@ -25,7 +26,7 @@ use Rattle.serial_lanes.proofs.TurnLemmas.{phase_at, cycles_in, cycles_more, tur
 use Rattle.serial_lanes.proofs.RoundLemmas.{IsLaterRound, rounds_split, calls_split, due_is}
 use Rattle.control_desk.proofs.LegalLemmas.{asked_within}
 use Rattle.serial_lanes.proofs.GroupLemmas.{dos_wait}
-use Rattle.serial_lanes.proofs.ItemLemmas.{none-some, some-same, mapped_some, there as there_in, there_below}
+use Rattle.serial_lanes.proofs.ItemLemmas.{none-some, some-same, mapped_some, there as there_in}
 use Rattle.std.proofs.lemmas.List.{length-take-le}
 use Rattle.std.proofs.lemmas.List.Sums.{sum_by-take-le}
 use Rattle.serial_lanes.specs.Laws.{SerialNumber}
@@ -140,7 +141,7 @@ serial_number_is script done t phase is_script here low =
     more = rounds_split script done (cycles_before script done) (t + 1) (phase.cycles - t)
 
     behind : (later : List Planned) × (calls_from script 0 0 (phases script) ≡ calls_from script 0 0 (take (suc done) (phases script)) ++ later) × Each (λ (plan : Planned). 2 * (0 + suc done) ≤ plan.stage) later
-    behind = calls_split script (phases script) 0 0 (suc done) (there_below (phases script) done phase here)
+    behind = calls_split script (phases script) 0 0 (suc done) (slice_get_within (phases script) done phase here)
 
     front : List Planned
     front = calls_until script done (suc t)
@@ -177,7 +178,7 @@ serial_number_is script done t phase is_script here low =
     Early plan = Contains (planned script) plan → (plan.stage ≤ 2 * done + 1) × (plan.asked + 1 ≤ 1 + (base + t))
 
     size : length (take done (phases script)) ≡ done
-    size = length-take-le done (phases script) (let p = there_below (phases script) done phase here in omega (arith, p))
+    size = length-take-le done (phases script) (let p = slice_get_within (phases script) done phase here in omega (arith, p))
 
     early : Each Early front
     early =

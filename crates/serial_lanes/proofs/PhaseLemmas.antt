@@ -1,12 +1,17 @@
 -- The end of a phase, and a lane's calls there.
 --     group_left      what lane 0 has left before a phase
---     behind-none, behind-last, behind-all      a desk between the phases
+--     behind_none, behind-last, behind-all      a desk between the phases
 use Rattle.std.proofs.Common.{◌≡◌, ℕ, zero, suc, ◌+◌, ◌*◌, ◌<◌, ◌≤◌, Bool, false, cond, ◌==◌, List, [], ◌∷◌, ◌++◌, length, take, drop, filter, slice_get, Contains, Option, Some, None, refl, sym, ◌∙◌, ap, subst, arith, append_assoc, append-nil, eq-eqb, eqb-true, ne_eqb, true≢false}
 use Rattle.std.specs.Prelude.{flat_map}
 use Rattle.std.proofs.lemmas.List.Elements.{filter-append}
+use Rattle.std.proofs.lemmas.Option.{slice_get_within}
+use Rattle.std.proofs.Math.Seq.{drop-append_seam}
+use Rattle.jack_types.specs.declared.commands.Command.{Command}
+use Rattle.jack_types.specs.declared.scripts.Body.{Body}
+use Rattle.jack_types.specs.declared.scripts.Body.TheVariants.{Do, Run, Freewheel, Lane, Period}
 use Rattle.session_model.specs.Grammar.{IsScript}
 use Rattle.session_model.specs.Samples.{below}
-use Rattle.session_model.specs.Scripts.{Script, Phase, Planned, phases, planned, planned_of}
+use Rattle.session_model.specs.Scripts.{Script, Phase, Planned, phases, phases_of, planned, planned_of, with_do}
 use Rattle.session_model.specs.Serial.{calls_from, do_calls, due, lanes_at, serial_calls, history_with}
 use Rattle.session_laws.proofs.ListLemmas.{Each, Each-contains, Each-from_contains, Each-flat_map, Each-below, filter-all, filter-none, Contains-filtered}
 use Rattle.session_laws.proofs.SerialCallsLemmas.{lane_of_serial_calls}
@@ -16,7 +21,7 @@ use Rattle.serial_lanes.specs.Lanes.{BehindPhases, SerialDesk, calls_behind, cal
 use Rattle.serial_lanes.specs.Laws.{BehindAll, BehindLastRound, BehindNone}
 use Rattle.serial_lanes.proofs.CallFronts.{calls-next_phase, calls-whole}
 use Rattle.serial_lanes.proofs.GroupLemmas.{dos_own}
-use Rattle.serial_lanes.proofs.ItemLemmas.{contained, drop_front, first_of_rest, none_of_rest, there_below}
+use Rattle.serial_lanes.proofs.ItemLemmas.{contained, first_of_rest, none_of_rest}
 use Rattle.serial_lanes.proofs.MadeLemmas.{made_behind, within-later, within-none, within-zero}
 use Rattle.serial_lanes.proofs.RoundLemmas.{calls_split, due_is, on_lane}
 
@@ -51,7 +56,7 @@ lane_left script done lane is_script there low =
 pub group_left : (script : Script) (done n : ℕ) (phase : Phase) → IsScript script → slice_get (phases script) done ≡ Some phase → n ≡ length (on_lane 0 (calls_behind script done))
     → (later : List Planned) × (drop n (planned_of script 0) ≡ do_calls script done ++ later) × ((plan : Planned) → Contains later plan → 2 * suc done ≤ plan.stage)
 group_left script done n phase is_script here count =
-    let left = lane_left script (suc done) 0 is_script (there_below (phases script) done phase here) (omega arith) in
+    let left = lane_left script (suc done) 0 is_script (slice_get_within (phases script) done phase here) (omega arith) in
     let test : Planned → Bool = λ plan. plan.call.lane == 0 in
     let base : ℕ = cycles_before script done in
     let rounds : List Planned = flat_map (λ t. lanes_at script done (base + t)) (below (phase.cycles + 1)) in
@@ -66,7 +71,7 @@ group_left script done n phase is_script here count =
       left.0,
       ap (λ m. drop m (planned_of script 0)) count
       ∙ ap (drop (length (on_lane 0 (calls_behind script done)))) (left.1 ∙ ap (λ xs. xs ++ left.0) own ∙ append_assoc (on_lane 0 (calls_behind script done)) (do_calls script done) left.0)
-      ∙ drop_front (on_lane 0 (calls_behind script done)) (do_calls script done ++ left.0),
+      ∙ drop-append_seam (on_lane 0 (calls_behind script done)) (do_calls script done ++ left.0),
       left.2,
     )
 
@@ -82,7 +87,7 @@ none_left script done lane is_script there low = go left.0 left.1 left.2
     left = lane_left script done lane is_script there low
 
     rest : (later : List Planned) → planned_of script lane ≡ own ++ later → drop (length own) (planned_of script lane) ≡ later
-    rest later e = ap (drop (length own)) e ∙ drop_front own later
+    rest later e = ap (drop (length own)) e ∙ drop-append_seam own later
 
     go : (later : List Planned) → planned_of script lane ≡ own ++ later → ((plan : Planned) → Contains later plan → 2 * done ≤ plan.stage) → within done (slice_get (planned_of script lane) (length own)) ≡ None
     go [] e late = within-none done (slice_get (planned_of script lane) (length own)) (none_of_rest (planned_of script lane) (length own) (rest [] e))
@@ -97,8 +102,8 @@ used-behind desk done is_script there history phase lane low =
     ∙ ap (λ n. within done (slice_get (planned_of desk.script lane) n)) count
     ∙ none_left desk.script done lane is_script there low
 
-pub behind-none : BehindNone
-behind-none script publisher desk new = subst (λ d. BehindPhases d 0) (sym new) (record {
+pub behind_none : BehindNone
+behind_none script publisher desk new = subst (λ d. BehindPhases d 0) (sym new) (record {
   history = refl;
   phase = refl;
   used = λ lane low. within-zero (slice_get (planned_of script lane) (made [] lane));
@@ -110,8 +115,24 @@ behind-last desk done phase is_script here serial =
     record {
       history = history;
       phase = serial.phase;
-      used = used-behind desk (suc done) is_script (there_below (phases desk.script) done phase here) history serial.phase;
+      used = used-behind desk (suc done) is_script (slice_get_within (phases desk.script) done phase here) history serial.phase;
     }
 
 pub behind-all : BehindAll
 behind-all desk behind = behind.history ∙ ap (history_with desk.script []) (calls-whole desk.script)
+
+-- a script has a phase
+pub phases_some : (script : Script) → 0 < length (phases script)
+phases_some script = some script.header.period script.lines
+  where
+    longer : (command : Command) (phs : List Phase) → length (with_do command phs) ≡ length phs
+    longer command [] = refl
+    longer command (phase ∷ phs) = refl
+
+    some : (period : ℕ) (lines : List Body) → 0 < length (phases_of period lines)
+    some period [] = omega arith
+    some period (Do command ∷ lines) = let same = longer command (phases_of period lines) in let rest = some period lines in omega (arith, same, rest)
+    some period (Run cycles ∷ lines) = omega arith
+    some period (Freewheel cycles ∷ lines) = omega arith
+    some period (Lane _ _ _ ∷ lines) = some period lines
+    some period (Period next ∷ lines) = some next lines

@@ -2,6 +2,8 @@
 use Rattle.std.proofs.Common.{◌≡◌, ◌≢◌, ℕ, zero, suc, ◌+◌, ◌-◌, ◌*◌, ◌<◌, ◌≤◌, Bool, true, false, ◌&&◌, ◌==◌, List, [], ◌∷◌, ◌++◌, length, take, drop, filter, slice_get, Contains, Some, refl, sym, ◌∙◌, ap, subst, arith, append_assoc, append-nil, eq-eqb, eqb-true, ne_eqb, true≢false, ◌⊎◌, inl, inr}
 use Rattle.std.specs.Prelude.{flat_map}
 use Rattle.std.proofs.lemmas.List.Elements.{filter-append}
+use Rattle.std.proofs.lemmas.Option.{slice_get_within}
+use Rattle.std.proofs.Math.Seq.{drop-append_seam}
 use Rattle.session_model.specs.Samples.{below}
 use Rattle.session_model.specs.Scripts.{Script, Phase, Planned, phases, planned, planned_of}
 use Rattle.session_model.specs.Serial.{due, lanes_at, do_calls, calls_from, serial_calls}
@@ -12,7 +14,7 @@ use Rattle.session_laws.proofs.SerialLawfulLemmas.{KeepsLanes-phases}
 use Rattle.control_desk.specs.Desks.{cycles_before}
 use Rattle.serial_lanes.specs.Lanes.{calls_behind, calls_until}
 use Rattle.serial_lanes.proofs.CallFronts.{lanes-next, calls-next_phase, calls-next_round}
-use Rattle.serial_lanes.proofs.ItemLemmas.{drop_front, there_below}
+
 use Rattle.session_model.specs.Grammar.{IsScript}
 
 three : (a b c : Bool) → (a && b && c) ≡ true → (a ≡ true) × (b ≡ true) × (c ≡ true)
@@ -134,7 +136,7 @@ lane_round script done rounds lane n phase is_script here few low high is_front 
     let test : Planned → Bool = λ plan. plan.call.lane == lane in
     let count : phase.cycles + 1 ≡ rounds + 1 + (phase.cycles - rounds) = omega (arith, few) in
     let more = rounds_split script done base (rounds + 1) (phase.cycles - rounds) in
-    let behind = calls_split script (phases script) 0 0 (suc done) (there_below (phases script) done phase here) in
+    let behind = calls_split script (phases script) 0 0 (suc done) (slice_get_within (phases script) done phase here) in
     let front : List Planned = calls_behind script done ++ do_calls script done in
     let until : List Planned = calls_until script done rounds in
     let round : List Planned = lanes_at script done (base + rounds) in
@@ -161,6 +163,6 @@ lane_round script done rounds lane n phase is_script here few low high is_front 
     let late_behind : Each IsLate (on_lane lane behind.0) =
     Each-from_contains IsLate (on_lane lane behind.0) (λ plan c. let m = Each-contains (λ (p : Planned). 2 * (0 + suc done) ≤ p.stage) behind.0 plan behind.2 (Contains-filtered test behind.0 plan c) in λ q. absurd (omega (arith, m, q))) in (
       later,
-      ap (λ m. drop m (planned_of script lane)) is_front ∙ ap (drop (length own)) shape ∙ drop_front own (now ++ later),
+      ap (λ m. drop m (planned_of script lane)) is_front ∙ ap (drop (length own)) shape ∙ drop-append_seam own (now ++ later),
       λ plan c. Each-contains IsLate later plan (Each-append IsLate (on_lane lane more.0) (on_lane lane behind.0) late_more late_behind) c,
     )

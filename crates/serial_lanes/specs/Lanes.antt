@@ -56,7 +56,7 @@ pub record LanesRun (desk after : Desk) : Type 0 where
   pub third : LaneRuns two 3 three
   pub fourth : LaneRuns three 4 after
 
--- the cycle that the lanes wait for in this round: so many of the session have begun
+-- how many cycles of the session have begun when the lanes go this round
 abbrev pub cycles_begun : Script → ℕ → ℕ → ℕ
 cycles_begun script done rounds = cycles_before script done + rounds
 

@@ -1,6 +1,6 @@
 //! Laws of serial mode's calls, each as the contract of a function that does nothing.
 
-ghost use Rattle.serial_lanes.specs.Laws.{BehindAll, BehindLastRound, BehindNone, CallsNextPhase, CallsNextRound, CallsWhole, CyclesTotal, RoundOfLanes, SerialNumber};
+ghost use Rattle.serial_lanes.specs.Laws.{BehindAll, BehindLastRound, BehindNone, BehindWhereMet, CallsNextPhase, CallsNextRound, CallsWhole, CyclesTotal, DoneWhereMet, HistoryFront, PublishedNumber, RoundOfLanes, SerialNumber, SerialWhereMet};
 
 /// The calls up to a place: one more round of the lanes, the end of a phase, and all phases.
 pub fn calls_by_rounds()
@@ -21,9 +21,22 @@ pub fn round_of_lanes()
     ensures { RoundOfLanes }
 {}
 
-/// What was accepted before a cycle is the number of the definition.
+/// What was accepted before a cycle is the number of the definition, and is what the desk has published then.
 pub fn number_before_cycle()
-    ensures { SerialNumber }
+    ensures number { SerialNumber }
+    ensures published { PublishedNumber }
+{}
+
+/// The history of serial mode begins with what a desk has made so far.
+pub fn front_of_history()
+    ensures { HistoryFront }
+{}
+
+/// A desk that meets its reader stays at its place of the session.
+pub fn desk_that_meets()
+    ensures serial { SerialWhereMet }
+    ensures behind { BehindWhereMet }
+    ensures done { DoneWhereMet }
 {}
 
 /// The phases' cycles are the script's turns.

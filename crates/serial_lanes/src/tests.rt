@@ -18,6 +18,7 @@ const LANES: &str =
     "jackd 1\nrate 8000\nperiod 4\ncapture 1\nplayback 1 16\nmode serial\ndo open a pass\nrun 2\nlane 3 at 0 open d pass\nlane 1 at 0 open b pass\nlane 1 at 0 open c pass\nlane 1 at 1 open e pass\nlane 2 at 2 open f pass\nlane 4 at 1 open b pass\n";
 
 /// A desk for the script, met with its reader, and its first phase begun.
+#[tactic(auto, using(crate::proofs::PhaseLemmas::behind_none, crate::proofs::PhaseLemmas::phases_some))]
 fn begun(rt: &impl Abort, alloc: Global, text: &str) -> (Desk, Reader<Plan>)
     ensures phase { 1 ≤ result.0.phase }
     ensures group { IsDone result.0 0 }

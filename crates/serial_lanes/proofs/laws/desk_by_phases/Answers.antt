@@ -1,8 +1,8 @@
-use Rattle.serial_lanes.proofs.PhaseLemmas.{behind-all, behind-last, behind-none}
+use Rattle.serial_lanes.proofs.PhaseLemmas.{behind-all, behind-last, behind_none}
 use Rattle.serial_lanes.proofs.laws.desk_by_phases.Goals as goal
 
 pub returns-clause-none : goal.returns-clause-none
-returns-clause-none c = behind-none
+returns-clause-none c = behind_none
 
 pub returns-clause-last : goal.returns-clause-last
 returns-clause-last c = behind-last
