@@ -4,3 +4,5 @@ pub mod PartLemmas
 pub mod RouteLemmas
 pub mod KeptLemmas
 pub mod InsideLemmas
+pub mod ScoreLemmas
+pub mod CountLemmas

@@ -4,6 +4,7 @@
 --     own_scores standing      scores that have its guest's at its place
 --     task_in scores kept turn, bench_in scores kept      its task, and it as a bench of the program's scores
 --     kept_after kept given, kept_gives kept given place      what it remembers behind one play, and what it gives over its outgoing link of this place
+--     HasScores scores kept      these are the scores that it plays by
 --     new_bench kind period, cleared bench      a new bench, and one whose work is taken
 --     moved_to moment period turn      a task at another moment
 --     MayPlay standing turn      what a bench can play
@@ -16,7 +17,7 @@ use Rattle.jack_types.specs.declared.moments.Moment.{Moment}
 use Rattle.session_model.specs.Benches.{Task, Bench, Signal, bench_after, bench_gives}
 use Rattle.session_model.specs.Kinds.{first}
 use Rattle.session_model.specs.Samples.{below}
-use Rattle.client_kinds.specs.Standings.{Standing, HasGuest}
+use Rattle.client_kinds.specs.Standings.{Standing, HasGuest, HasScore}
 use Rattle.client_benches.specs.declared.benches.Turn.{Turn}
 use Rattle.client_benches.specs.declared.values.Route.{Route}
 use Rattle.client_benches.specs.declared.wires.Wire.{Wire}
@@ -91,6 +92,10 @@ kept_after kept given =
 abbrev pub kept_gives : Remembered → List (List Signal) → ℕ → List Signal
 kept_gives kept given place = bench_gives (own_bench kept) given place
 
+-- of a bench that has a task, the scores of the program's guests have its guest's at its place
+abbrev pub HasScores : List Score → Remembered → Type 0
+HasScores scores kept = (turn : Turn) → kept.turn ≡ Some turn → HasScore kept.standing scores
+
 abbrev pub new_standing : Kind → ℕ → Standing
 new_standing kind period = record { kind = kind; period = period; score = None; memory = first [] kind }
 
@@ -110,8 +115,8 @@ abbrev pub cleared : Seen → Seen
 cleared seen = record { kept = record seen.kept { turn = None; wires = []; routes = [] }; rooms = replicate 64 None }
 
 -- how many rooms it has for links
-abbrev pub room_count : List (Option (List Signal)) → ℕ
-room_count rooms = count_by is_some rooms
+unfoldable pub room_count : Seen → ℕ
+room_count seen = count_by (has_room_at seen) (below 64)
 
 -- each room that is there holds its place's value, nothing from place `links` on
 abbrev pub AreFilled : List (Option (List Signal)) → List (Option (List Signal)) → ℕ → (ℕ → List Signal) → Type 0

@@ -8,6 +8,7 @@
 mod benches;
 mod filling;
 mod known;
+mod laws;
 mod mixing;
 mod playing;
 mod reading;
@@ -19,6 +20,7 @@ mod wires;
 
 pub use benches::{BenchMemory, ClientBench, Turn};
 pub use known::Room;
+pub use laws::{crew_plays_by_all_scores, plays_by_all_scores};
 pub use values::{Rooms, Route};
 pub use wires::{Source, Wire};
 

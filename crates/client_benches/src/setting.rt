@@ -1,7 +1,6 @@
 //! How a driver sets a client's bench.
 
-ghost use Rattle.std.specs.Prelude.{◌≡◌, ◌+◌, ◌≤◌, [], None, length, replicate, vec_capacity};
-ghost use Rattle.client_benches.specs.Seen.{room_count};
+ghost use Rattle.std.specs.Prelude.{◌≡◌, ◌+◌, ◌≤◌, [], None, count_by, is_some, length, replicate, vec_capacity};
 ghost use Rattle.client_benches.specs.Wires.{kept_count};
 
 use crate::benches::{ClientBench, Turn};
@@ -26,9 +25,9 @@ fn unwire(wires: &mut Vec<Wire>, spare: &mut Vec<Room>)
 
 /// Takes the rooms of all links, and gives them to those that are spare.
 fn empty_places(rooms: &mut [Option<Rooms>], spare: &mut Vec<Rooms>)
-    requires { length spare.old.items + room_count rooms.old ≤ vec_capacity spare.old }
+    requires { length spare.old.items + count_by is_some rooms.old ≤ vec_capacity spare.old }
     ensures rooms { rooms.new ≡ replicate (length rooms.old) None }
-    ensures spare { (length spare.new.items ≡ length spare.old.items + room_count rooms.old) × (vec_capacity spare.new ≡ vec_capacity spare.old) }
+    ensures spare { (length spare.new.items ≡ length spare.old.items + count_by is_some rooms.old) × (vec_capacity spare.new ≡ vec_capacity spare.old) }
 {
     for place in 0..rooms.len() {
         if let Some(room) = rooms[place].take() {
@@ -89,10 +88,10 @@ impl<G: Guest> ClientBench<G> {
     /// spare. What it played last stays.
     pub fn clear(&mut self, spare: &mut Vec<Room>, spare_links: &mut Vec<Rooms>)
         requires spare { length spare.old.items + kept_count self.old.kept.wires ≤ vec_capacity spare.old }
-        requires spare_links { length spare_links.old.items + room_count self.old.rooms ≤ vec_capacity spare_links.old }
+        requires spare_links { length spare_links.old.items + room_count self.old ≤ vec_capacity spare_links.old }
         ensures bench { self.new ≡ cleared self.old }
         ensures spare { (length spare.new.items ≡ length spare.old.items + kept_count self.old.kept.wires) × (vec_capacity spare.new ≡ vec_capacity spare.old) }
-        ensures spare_links { (length spare_links.new.items ≡ length spare_links.old.items + room_count self.old.rooms) × (vec_capacity spare_links.new ≡ vec_capacity spare_links.old) }
+        ensures spare_links { (length spare_links.new.items ≡ length spare_links.old.items + room_count self.old) × (vec_capacity spare_links.new ≡ vec_capacity spare_links.old) }
     {
         self.turn = None;
         self.routes.clear();
