@@ -1,7 +1,7 @@
 -- What a bench remembers behind a play.
 --     HasScore-own      a bench's own scores have its guest's at its place
 --     play-scores      a kind plays the same by all scores that have its guest's
---     first-log, play-log, play-fed      nothing is logged at first or by a play, and no block is fed
+--     first-log, first_fed, play-log, play-fed      nothing is logged at first or by a play, and no block is fed
 --     midi-none      with no MIDI port nothing is played there
 --     kept-played, gives-carried      a bench that mixed, played and carried is as after a play, and gives what it has to
 --     kept-idle, gives-idle      an idle bench stays, and gives nothing
@@ -85,6 +85,11 @@ pub first-log : (scores : List Score) (kind : Kind) → (first scores kind).log 
 first-log scores (Delay frames) = refl
 first-log scores (Guest guest) = refl
 first-log scores _ = refl
+
+pub first_fed : (scores : List Score) (kind : Kind) → (first scores kind).fed ≡ []
+first_fed scores (Delay frames) = refl
+first_fed scores (Guest guest) = refl
+first_fed scores _ = refl
 
 -- what a bench with this task gets, plays and gives
 module _ (kept : Remembered) (given : List (List Signal)) where

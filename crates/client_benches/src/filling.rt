@@ -25,7 +25,11 @@ fn copy_output(buffers: &mut [i32], ports: Shape, outputs: &[i32], output: u16)
     ensures { buffers.new ≡ with_buffer ports.period output buffers.old (slice_range outputs.now (output * ports.period) (output * ports.period + ports.period)) }
 {
     let first = usize::from(output) * ports.period as usize;
-    put_at(buffers, first, &outputs[first..first + ports.period as usize]);
+    put_at(
+        buffers,
+        first,
+        &outputs[first..first + ports.period as usize],
+    );
 }
 
 /// Copies the outputs that the connections of a link carry, and lists which these are.

@@ -41,13 +41,23 @@ impl<G: Guest> ClientBench<G> {
     pub fn sound(&self, input: usize) -> &[i32]
         ensures { result.now ≡ slice_index_or self.now.kept.sounds input [] }
     {
-        buffer(self.input.as_slice(), self.played.inputs, self.played.period, input)
+        buffer(
+            self.input.as_slice(),
+            self.played.inputs,
+            self.played.period,
+            input,
+        )
     }
 
     /// What an output gave when it was last played, nothing where there was no such output.
     pub fn output(&self, output: usize) -> &[i32]
         ensures { result.now ≡ slice_index_or self.now.kept.audio output [] }
     {
-        buffer(self.output.as_slice(), self.played.outputs, self.played.period, output)
+        buffer(
+            self.output.as_slice(),
+            self.played.outputs,
+            self.played.period,
+            output,
+        )
     }
 }

@@ -18,16 +18,16 @@ use Rattle.client_benches.proofs.benches.ClientBench.play_turn.Goals as goal
 
 pub invariant_of-self : goal.invariant_of-self
 invariant_of-self g c = (
-    room-stays c.self.inside.bench c.play_front.new.bench _ c.self.inside.mixer c.mix_inputs.new.mixer c.self.inside.padded.items _ c.self.inside.input.items _ c.self.inside.output.items _ c.self.inside.wires c.self.inside.routes c.self.inside.rooms.items _
-    c.play_front.ensures.bench c.mix_inputs.ensures.room
-    (ap length (front c.self.inside.padded.len c.mix_inputs.new.padded _ (padded ∙ sym c.self.inside.padded.ok.0)) ∙ padded)
-    (ap length (front c.self.inside.input.len c.mix_inputs.new.inputs _ (input ∙ sym c.self.inside.input.ok.0)) ∙ input)
-    (ap length (front c.self.inside.output.len c.play_front.new.output _ (output ∙ sym c.self.inside.output.ok.0)) ∙ output)
-    (ap length (front c.self.inside.rooms.len c.fill_rooms.new.rooms _ (rooms ∙ sym c.self.inside.rooms.ok.0)) ∙ rooms)
-    c.self.invariant.0,
-    shape-played c.self.inside.bench c.play_front.new.bench _ c.args.turn c.play_front.ensures.bench (c.self.invariant.2.task c.args.turn busy),
-    sound-played c.self.inside.bench c.play_front.new.bench c.self.inside.turn c.args.turn c.self.inside.routes.items _ busy c.play_front.ensures.bench c.self.invariant.2,
-  )
+  room-stays c.self.inside.bench c.play_front.new.bench _ c.self.inside.mixer c.mix_inputs.new.mixer c.self.inside.padded.items _ c.self.inside.input.items _ c.self.inside.output.items _ c.self.inside.wires c.self.inside.routes c.self.inside.rooms.items _
+      c.play_front.ensures.bench c.mix_inputs.ensures.room
+      (ap length (front c.self.inside.padded.len c.mix_inputs.new.padded _ (padded ∙ sym c.self.inside.padded.ok.0)) ∙ padded)
+      (ap length (front c.self.inside.input.len c.mix_inputs.new.inputs _ (input ∙ sym c.self.inside.input.ok.0)) ∙ input)
+      (ap length (front c.self.inside.output.len c.play_front.new.output _ (output ∙ sym c.self.inside.output.ok.0)) ∙ output)
+      (ap length (front c.self.inside.rooms.len c.fill_rooms.new.rooms _ (rooms ∙ sym c.self.inside.rooms.ok.0)) ∙ rooms)
+      c.self.invariant.0,
+  shape-played c.self.inside.bench c.play_front.new.bench _ c.args.turn c.play_front.ensures.bench (c.self.invariant.2.task c.args.turn busy),
+  sound-played c.self.inside.bench c.play_front.new.bench c.self.inside.turn c.args.turn c.self.inside.routes.items _ busy c.play_front.ensures.bench c.self.invariant.2,
+)
   where
     busy : c.self.inside.turn ≡ Some c.args.turn
     busy = ap (λ (seen : Seen). seen.kept.turn) c.self.view_is ∙ c.requires.turn
