@@ -15,6 +15,7 @@ pub mod Listed
 mod Played
 mod Slots
 mod Shares
+mod Indexed
 pub mod Waiting
 pub mod Returned
 mod Alone

@@ -63,6 +63,9 @@ ordered-at (x ∷ xs) h (suc j) (suc k) lt low = ordered-at xs h.1 j k (omega (a
 pub incoming-rises : (links : List Link) (n j k : ℕ) → j < k → k < length (incoming links n) → get_or (incoming links n) j 0 < get_or (incoming links n) k 0
 incoming-rises links n = ordered-at (incoming links n) (Ordered-filter (λ a b. a < b) (λ l. (link_at links l).to == n) (below (length links)) (ordered-below (length links)))
 
+pub outgoing-rises : (links : List Link) (n j k : ℕ) → j < k → k < length (outgoing links n) → get_or (outgoing links n) j 0 < get_or (outgoing links n) k 0
+outgoing-rises links n = ordered-at (outgoing links n) (Ordered-filter (λ a b. a < b) (λ l. (link_at links l).from == n) (below (length links)) (ordered-below (length links)))
+
 filter-short : (p : ℕ → Bool) (xs : List ℕ) → length (filter p xs) ≤ length xs
 filter-short p [] = omega arith
 filter-short p (x ∷ xs) = go (p x) (filter-short p xs)

@@ -1,20 +1,24 @@
 -- A node that a seat holds stays as it is while the seat does other steps.
+--     unplayed_low      it is one of the nodes
 --     unplayed_stays, unplayed_same, played_stays      before its play, and after it
 --     unplayed_at_taken, unplayed_at_released      a link of another node is released
 --     has_room_at      a link of a played node that is not released has room at its place
-use Rattle.std.proofs.Common.{◌≡◌, ◌≢◌, ◌≤◌, ◌<◌, ℕ, Bool, true, false, cond, List, length, refl, sym, ◌∙◌, ap, subst}
+use Rattle.std.proofs.Common.{◌≡◌, ◌≢◌, ◌<◌, ℕ, Bool, true, false, cond, List, length, refl, sym, ◌∙◌, ap, subst}
 use mathlib.Core.Option.{some}
 use lib.ListN.{get_elem?}
+use Rattle.table_lemmas.proofs.Readings.{inside}
 use Rattle.jack_types.specs.declared.ports.Link.{Link}
-use Rattle.session_model.specs.Activation.{AreLinks, link_at, incoming, place_among}
+use Rattle.session_model.specs.Activation.{link_at, place_among}
 use Rattle.activation.specs.declared.views.Desk.{Desk}
 use Rattle.activation.specs.declared.views.Duty.{Duty}
 use Rattle.activation.specs.Rule.{has}
-use Rattle.activation.specs.Contents.{AreValuesOf}
 use Rattle.activation.specs.Takens.{IsUnplayed, IsPlayed, with_released, with_held}
 use Rattle.activation.proofs.Testing.{has_skip, has_there}
 
 module _ {B M Y : Type 0} (memory : B → M) (has_room : B → ℕ → Bool) (value_at : B → ℕ → Y) (after : M → List Y → M) (gives : M → List Y → ℕ → Y) where
+  pub unplayed_low : (duty : Duty B) (node : ℕ) (desk : Desk B Y) → IsUnplayed memory has_room value_at after gives duty node desk → node < length duty.before
+  unplayed_low duty node desk u = inside duty.before node desk.bench u.bench
+
   pub unplayed_stays : (old new : Duty B) (node : ℕ) (desk : Desk B Y) → new.links ≡ old.links → new.before ≡ old.before → (has old.held node ≡ true → has new.held node ≡ true)
       → ((l : ℕ) → l < length old.links → (link_at old.links l).from ≡ node → has old.released l ≡ false → has new.released l ≡ false) → IsUnplayed memory has_room value_at after gives old node desk → IsUnplayed memory has_room value_at after gives new node desk
   unplayed_stays old new node desk links before held released u =

@@ -2,7 +2,7 @@
 ghost use Rattle.std.specs.Prelude.{◌≡◌, ◌<◌, ◌≤◌, ◌⊎◌, ℕ, List, length, map};
 ghost use mathlib.Core.Option.{some};
 ghost use lib.ListN.{get_elem?};
-ghost use Rattle.session_model.specs.Activation.{AreLinks};
+ghost use Rattle.session_model.specs.Activation.{AreLinks, outgoing};
 ghost use Rattle.session_model.specs.Samples.{below};
 ghost use Rattle.activation.specs.declared.views.Desk.{Desk};
 ghost use Rattle.activation.specs.Contents.{HasRoomFor, benches_in, from_to};
@@ -35,6 +35,14 @@ impl<B: Work> Crew<B> {
         ensures { result.now ≡ self.now.links.items }
     {
         self.links.as_slice()
+    }
+
+    /// The positions of the links that go out from the node, in the order of the list of links.
+    pub fn outgoing(&self, node: u32) -> &[u32]
+        requires node { node < self.now.nodes }
+        ensures { result.now ≡ outgoing self.now.links.items node }
+    {
+        self.out[node as usize].as_slice()
     }
 
     /// Exchanges the bench of each node with the one at that node's place in the list.
@@ -117,7 +125,13 @@ impl<B: Work> Crew<B> {
             × ((before : List B) → Know before seats.old → AreUnused seats.old → benches ≡ before) }
     {
         let mut token = self.recover(seats);
-        refill(links, &mut self.links, &mut self.into, &mut self.places);
+        refill(
+            links,
+            &mut self.links,
+            &mut self.into,
+            &mut self.out,
+            &mut self.places,
+        );
         self.restart(&mut token);
         self.deal(token, seats);
     }
@@ -141,6 +155,7 @@ impl<B: Work> Crew<B> {
             nodes,
             seats: _,
             into: _,
+            out: _,
             places: _,
             emptied,
         } = self;

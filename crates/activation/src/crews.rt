@@ -5,7 +5,7 @@ ghost use Rattle.activation.specs.Plays.{IsSlotOf, Owns, out_after, open_after, 
 ghost use Rattle.activation.specs.declared.views.Item.TheVariants.{Value};
 ghost use mathlib.Core.Option.{some};
 ghost use lib.ListN.{get_elem?};
-ghost use Rattle.session_model.specs.Activation.{AreLinks, link_at, incoming, place_among};
+ghost use Rattle.session_model.specs.Activation.{AreLinks, link_at, incoming, outgoing, place_among};
 ghost use Rattle.session_model.specs.Samples.{below};
 ghost use Rattle.activation.specs.Contents.{IsFull, IsDone, HasRoomFor, IsValueOf, AreValuesOf, most_links};
 ghost use Rattle.activation.specs.Takens.{IsUnplayed, IsPlayed, with_started, with_held, with_released, with_home};
@@ -46,9 +46,11 @@ pub struct Crew<B: Work> {
     pub(crate) nodes: usize,
     pub(crate) seats: u32,
     pub(crate) into: Vec<Vec<u32>>,
+    pub(crate) out: Vec<Vec<u32>>,
     pub(crate) places: Vec<u32>,
     pub(crate) emptied: Mutex<Emptied<B>>,
     ghost shape: { IsShape board.shared.table_id links.items nodes (map (λ into. into.items) into.items) places.items },
+    ghost outward: { (map (λ which. which.items) out.items ≡ map (outgoing links.items) (below nodes)) × All (λ which. 512 ≤ vec_capacity which) out.items },
     ghost roomy: { IsRoomy seats links into.items places },
 }
 
@@ -85,6 +87,7 @@ impl<B: Work> Crew<B> {
             mut token,
             links: kept,
             into,
+            out,
             places,
             mut rooms,
             seats: room,
@@ -103,6 +106,7 @@ impl<B: Work> Crew<B> {
             nodes,
             seats,
             into,
+            out,
             places,
             emptied: Mutex::new(Emptied { benches }),
         };
@@ -282,11 +286,11 @@ impl<B: Work> Crew<B> {
         ensures some { IfSome result (λ taken. (taken.node ≡ to) × (has seat.old.token.me.0.duty.held to ≡ false) × (seat.new.token.me.0.duty ≡ with_held (with_released seat.old.token.me.0.duty link) to) × IsUnplayed B.memory B.has_room B.value_at B.after B.gives seat.new.token.me.0.duty to taken.desk) }
     {
         self.offer(&mut seat.token, link, value);
-        let found = self
+        let counter = self
             .board
             .shared
             .fetch_sub::<Release>(&mut seat.token, to as usize, 1);
-        if found == 1 {
+        if counter == 1 {
             Some(self.take_up(&mut seat.token, to))
         } else {
             None

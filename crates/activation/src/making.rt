@@ -1,11 +1,11 @@
 //! How a crew is made.
 ghost use Rattle.std.specs.Prelude.{◌≡◌, ◌≤◌, ◌<◌, ◌+◌, ℕ, List, [], ◌∷◌, length, map, All, IfOk, vec_capacity};
-ghost use Rattle.session_model.specs.Activation.{AreLinks, incoming, place_among};
+ghost use Rattle.session_model.specs.Activation.{AreLinks, incoming, outgoing, place_among};
 ghost use Rattle.session_model.specs.Samples.{below};
 ghost use Rattle.activation.specs.Contents.{AreEmpty, first_view, from_to};
 ghost use Rattle.activation.specs.Seats.{IsIdle, IsShare, new_duty};
 
-use crate::indexes::{all_into, all_places, all_rooms, fill_links};
+use crate::indexes::{all_rooms, empty_lists, refill};
 use crate::opening::{lay_benches, set_counters, write};
 use crate::rules::{CrewRule, Shares};
 use crate::takens::Seat;
@@ -29,6 +29,7 @@ pub(crate) struct Parts<B: Work> {
     pub(crate) token: Token<Option<Item<B, B::Value>>, View<Option<Item<B, B::Value>>, B>>,
     pub(crate) links: Vec<Link>,
     pub(crate) into: Vec<Vec<u32>>,
+    pub(crate) out: Vec<Vec<u32>>,
     pub(crate) places: Vec<u32>,
     pub(crate) rooms: Vec<Vec<Option<B::Value>>>,
     pub(crate) seats: Vec<Seat<B>>,
@@ -41,22 +42,23 @@ pub(crate) fn prepare<B: Work>(
     nodes: usize,
     seats: u32,
 ) -> Result<Parts<B>, AllocError>
-    requires { (length links.now ≤ 512) × (nodes ≤ 64) }
+    requires { AreLinks nodes links.now × (length links.now ≤ 512) × (nodes ≤ 64) }
     ensures board { IfOk result (λ parts. (parts.board.shared.table_id.slots ≡ nodes + 512) × (parts.board.shared.table_id.words ≡ nodes + 513) × (parts.token.table_id ≡ parts.board.shared.table_id) × (parts.token.me ≡ (first_view links.now (nodes + 512) seats, []))) }
-    ensures index { IfOk result (λ parts. (parts.links.items ≡ links.now) × (map (λ into. into.items) parts.into.items ≡ map (incoming links.now) (below nodes)) × (parts.places.items ≡ map (place_among links.now) (below (length links.now)))) }
-    ensures kept { IfOk result (λ parts. (512 ≤ vec_capacity parts.links) × All (λ which. 512 ≤ vec_capacity which) parts.into.items × (512 ≤ vec_capacity parts.places)) }
+    ensures index { IfOk result (λ parts. (parts.links.items ≡ links.now) × (map (λ into. into.items) parts.into.items ≡ map (incoming links.now) (below nodes)) × (map (λ out. out.items) parts.out.items ≡ map (outgoing links.now) (below nodes)) × (parts.places.items ≡ map (place_among links.now) (below (length links.now)))) }
+    ensures kept { IfOk result (λ parts. (512 ≤ vec_capacity parts.links) × All (λ which. 512 ≤ vec_capacity which) parts.into.items × All (λ which. 512 ≤ vec_capacity which) parts.out.items × (512 ≤ vec_capacity parts.places)) }
     ensures room { IfOk result (λ parts. (length parts.rooms.items ≡ nodes) × AreEmpty parts.rooms.items × (parts.seats.items ≡ []) × (seats ≤ vec_capacity parts.seats)) }
 {
     let mut kept = Vec::with_capacity(alloc, 512)?;
-    fill_links(links, &mut kept);
+    let mut into = empty_lists(alloc, nodes)?;
+    let mut out = empty_lists(alloc, nodes)?;
+    let mut places = Vec::with_capacity(alloc, 512)?;
+    refill(links, &mut kept, &mut into, &mut out, &mut places);
     let size = Size {
         links: kept,
         slots: nodes + 512,
         seats,
     };
     let words = vec![in alloc; 0u64; nodes + 513]?;
-    let into = all_into(alloc, links, nodes)?;
-    let places = all_places(alloc, links)?;
     let rooms = all_rooms(alloc, nodes)?;
     let seats = Vec::with_capacity(alloc, seats as usize)?;
     let (board, token) = Table::vacant(alloc, words.as_slice(), nodes + 512, &size)?;
@@ -70,6 +72,7 @@ pub(crate) fn prepare<B: Work>(
         token,
         links,
         into,
+        out,
         places,
         rooms,
         seats,

@@ -114,7 +114,7 @@ fn counters(alloc: Global) -> Result<Vec<Counter>, AllocError>
     ensures { IfOk result (λ all. (length all.items ≡ 4) × All (λ b. b.room ≡ replicate 64 true) all.items) }
 {
     let mut all = Vec::with_capacity(alloc, 4)?;
-    for _ in 0..4 {
+    for _ in 0..4u32 {
         all.push_reserved(Counter {
             plays: 0,
             room: [true; 64],

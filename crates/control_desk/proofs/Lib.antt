@@ -8,3 +8,4 @@ mod AcceptedLemmas
 mod PastLemmas
 mod DeskLemmas
 mod StepLemmas
+pub mod GoingLemmas

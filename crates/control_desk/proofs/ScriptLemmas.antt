@@ -1,8 +1,8 @@
 -- What a lawful script plans.
 --     planned-lawful      its commands are lawful
 --     planned-few      there are no more calls than the limit
---     phases-few      and no more phases
-use Rattle.std.proofs.Common.{◌≡◌, ℕ, suc, ◌+◌, ◌*◌, ◌≤◌, Bool, true, cond, count_by, List, [], ◌∷◌, ◌++◌, length, length-append, map, Contains, refl, sym, ◌∙◌, ap, subst, arith, append-nil}
+--     phases-few, phases-there      and no more phases, but one
+use Rattle.std.proofs.Common.{◌≡◌, ℕ, suc, ◌+◌, ◌*◌, ◌<◌, ◌≤◌, Bool, true, cond, count_by, List, [], ◌∷◌, ◌++◌, length, length-append, map, Contains, refl, sym, ◌∙◌, ap, subst, arith, append-nil}
 use Rattle.std.proofs.lemmas.List.Sums.{sum_by-cons}
 use Rattle.jack_types.specs.declared.commands.Command.{Command}
 use Rattle.jack_types.specs.declared.scripts.Body.{Body}
@@ -151,3 +151,6 @@ phases-count (Period next ∷ lines) period =
 
 pub phases-few : (script : Script) → IsScript script → length (phases script) ≤ 257
 phases-few script is = let size = phases-count script.lines script.header.period in let few = is.few_segments in omega (arith, size, few)
+
+pub phases-there : (script : Script) → 0 < length (phases script)
+phases-there script = let size = phases-count script.lines script.header.period in omega (arith, size)

@@ -8,7 +8,8 @@ use Rattle.session_model.specs.Histories.{Legal, LegalSoFar, accepted, accepted_
 use Rattle.session_model.specs.Replies.{AreLawful}
 use Rattle.session_model.specs.Scripts.{Script, Planned, phases, planned}
 use Rattle.session_model.specs.State.{opening}
-use Rattle.control_desk.specs.Desks.{Desk, IsDesk, IsDone, IsOfPhases, GoesOn, cycles_before, next_call}
+use Rattle.control_desk.specs.Desks.{Desk, IsDesk, IsDone, IsOfPhases, GoesOn, MayBegin, Steps, cycles_before, next_call}
+use Rattle.control_desk.specs.declared.steps.Stepped.{Stepped}
 
 -- what a legal history accepts is lawful
 abbrev pub LawfulAccepted : Type 0
@@ -67,3 +68,11 @@ AskedWithin = (script : Script) (plan : Planned) (done : ℕ) → IsScript scrip
 -- `do` calls have even stages, and those of other lanes odd ones
 abbrev pub StageOfLane : Type 0
 StageOfLane = (script : Script) (plan : Planned) → IsScript script → Contains (planned script) plan → plan.stage % 2 ≡ (if plan.call.lane == 0 then 0 else 1)
+
+-- before any phase the first one may begin
+abbrev pub FirstBegins : Type 0
+FirstBegins = (desk : Desk) → desk.phase ≡ 0 → MayBegin desk 0 0
+
+-- whatever a step answers, the desk goes on
+abbrev pub StepGoesOn : Type 0
+StepGoesOn = (desk after : Desk) (lane : ℕ) (answer : Stepped) → Steps desk lane answer after → GoesOn desk after

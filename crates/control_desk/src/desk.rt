@@ -67,11 +67,7 @@ impl Desk {
     /// A desk before its first phase, over a publication for the script's channels of which nothing was published or seen.
     ///
     /// It keeps a script of its own, and takes room for all of its calls.
-    pub fn new(
-        alloc: Global,
-        script: &Script,
-        publisher: Publisher<Plan>,
-    ) -> Result<Desk, Memory>
+    pub fn new(alloc: Global, script: &Script, publisher: Publisher<Plan>) -> Result<Desk, Memory>
         requires fresh { IsFresh script.now publisher.0 }
         requires plan { publisher.1.base ≡ publisher.0.base }
         ensures { IfOk result (λ desk. IsNewDesk script.now publisher.0 desk) }
@@ -144,7 +140,7 @@ impl Desk {
     }
 
     /// The lane's next call, if it has one in the phases begun.
-    fn next(&self, lane: usize) -> Option<PlannedCall>
+    pub(crate) fn next(&self, lane: usize) -> Option<PlannedCall>
         requires { lane ≤ 4 }
         ensures next { option_map plan_of result ≡ next_call self.now lane }
         ensures desk { IsDesk self.now }

@@ -129,12 +129,7 @@ impl History {
     {
         let call = planned.call;
         let number = self.changes.len() as u32 + 1;
-        let reply = answer(
-            &mut self.graph,
-            &mut self.latencies,
-            number,
-            &call.command,
-        );
+        let reply = answer(&mut self.graph, &mut self.latencies, number, &call.command);
         keep_change(&mut self.changes, &call, reply);
         self.entries.push_reserved(Entry { call, reply });
         self.made[call.lane as usize] += 1;

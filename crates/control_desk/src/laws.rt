@@ -1,6 +1,6 @@
 //! Laws of legal histories and of desks.
 
-ghost use Rattle.control_desk.specs.Laws.{AcceptedAll, AcceptedLater, AcceptedUpTo, AskedWithin, DoneGoesOn, LawfulAccepted, LegalWhereDone, MadeWhereDone, NextStage, OfCallsAccepted, StageOfLane};
+ghost use Rattle.control_desk.specs.Laws.{AcceptedAll, AcceptedLater, AcceptedUpTo, AskedWithin, DoneGoesOn, FirstBegins, LawfulAccepted, LegalWhereDone, MadeWhereDone, NextStage, OfCallsAccepted, StageOfLane, StepGoesOn};
 
 /// What a legal history accepts is lawful, and is commands of calls of the script, each call once.
 pub fn accepted_of_legal()
@@ -21,8 +21,10 @@ pub fn made_where_done()
     ensures legal { LegalWhereDone }
 {}
 
-/// A desk that goes on: lane 0 has no call left where it had none, and a lane's next call is of the present phase.
+/// Whatever a step answers, the desk goes on; in a desk that goes on lane 0 has no call left where it had none, and a
+/// lane's next call is of the present phase.
 pub fn goes_on()
+    ensures step { StepGoesOn }
     ensures done { DoneGoesOn }
     ensures next { NextStage }
 {}
@@ -31,4 +33,9 @@ pub fn goes_on()
 pub fn plans_of_lanes()
     ensures asked { AskedWithin }
     ensures stages { StageOfLane }
+{}
+
+/// Before any phase the first one may begin.
+pub fn first_begins()
+    ensures { FirstBegins }
 {}

@@ -2,19 +2,19 @@
 use Rattle.std.proofs.Common.{◌≡◌, ◌≢◌, ℕ, suc, ◌+◌, ◌%◌, ◌<◌, ◌≤◌, Bool, true, false, cond, ◌==◌, List, [], ◌∷◌, length, map, get_or, refl, sym, ◌∙◌, ap, subst, arith, true≢false, eq-eqb, ne_eqb}
 use Rattle.std.proofs.lemmas.List.{length-map}
 use Rattle.session_model.specs.Samples.{below}
-use Rattle.session_laws.proofs.SequentialLemmas.{length-below}
+use Rattle.session_laws.proofs.SequentialLemmas.{length-below, outgoing_at}
 use mathlib.Core.Logic.{dite}
-use native.Mathlib.Decide.{ℕ_discrete}
+use native.Mathlib.Decide.{dec_lt, ℕ_discrete}
 use Rattle.jack_types.specs.declared.ports.Link.{Link}
 use lib.ListN.{get_elem?}
-use Rattle.session_model.specs.Activation.{AreLinks, no_link, link_at, place_among}
-use Rattle.activation.specs.declared.views.Desk.{Desk}
+use Rattle.session_model.specs.Activation.{AreLinks, no_link, link_at, outgoing, place_among}
 use Rattle.activation.specs.declared.views.Duty.{Duty}
 use Rattle.activation.specs.Rule.{has}
 use Rattle.activation.specs.Plays.{without}
-use Rattle.activation.specs.Takens.{IsPlayed, with_started, with_released, with_held}
+use Rattle.activation.specs.Takens.{with_started, with_released, with_held}
+use Rattle.activation.proofs.Listed.{each_at, outgoing-facts, outgoing-rises}
 use Rattle.activation.proofs.Testing.{has_here, has_skip, has_there}
-use Rattle.cycle_workers.specs.Runs.{HaveRoom, IsRun}
+use Rattle.cycle_workers.specs.Runs.{IsRun}
 
 pub without_front : (n : ℕ) (xs : List ℕ) → without n (n ∷ xs) ≡ without n xs
 without_front n xs = ap (λ b. cond b (without n xs) (n ∷ without n xs)) (eq-eqb n n refl)
@@ -39,45 +39,25 @@ has_without n (x ∷ xs) q ne = dite (ℕ_discrete x n)
 pub kept_held : {B : Type 0} (n q : ℕ) (mid new : Duty B) → new.held ≡ without n mid.held → q ≢ n → has new.held q ≡ has mid.held q
 kept_held n q mid new is ne = ap (λ l. has l q) is ∙ has_without n mid.held q ne
 
-module _ {B M Y : Type 0} (memory : B → M) (has_room : B → ℕ → Bool) (value_at : B → ℕ → Y) (after : M → List Y → M) (gives : M → List Y → ℕ → Y) where
-  -- a played node waits while others run
-  pub played_stays : (old new : Duty B) (node : ℕ) (desk : Desk B Y) → new.links ≡ old.links → new.before ≡ old.before → has new.held node ≡ has old.held node
-      → ((l : ℕ) → l < length old.links → (link_at old.links l).from ≡ node → has new.released l ≡ has old.released l) → IsPlayed memory has_room value_at after gives old node desk → IsPlayed memory has_room value_at after gives new node desk
-  played_stays old new node desk links before held released p =
-      subst (λ (x : List Link × List B). IsPlayed memory has_room value_at after gives (record new { links = x.0; before = x.1 }) node desk) (λ i. (sym links i, sym before i))
-      record {
-        held = held ∙ p.held;
-        old = p.old;
-        old_is = p.old_is;
-        bench = p.bench;
-        room = p.room;
-        given = p.given;
-        rooms = record {
-          places = λ l h e. p.rooms.places l h e ∙ ap (λ b. cond b false (has_room p.old (place_among old.links l))) (sym (released l h e));
-          had = λ l h e on. p.rooms.had l h e (sym (released l h e) ∙ on);
-          others = p.rooms.others;
-        };
-        shown = λ l h e off on. p.shown l h e (sym (released l h e) ∙ off) on;
-      }
+-- a link out of a node, by its place among them
+pub out_fact : (links : List Link) (node j : ℕ) → j < length (outgoing links node) → (get_or (outgoing links node) j 0 < length links) × ((link_at links (get_or (outgoing links node) j 0)).from ≡ node)
+out_fact links node j low = each_at (λ l. (l < length links) × ((link_at links l).from ≡ node)) (outgoing links node) (outgoing-facts links node) j 0 low
 
-  -- a link of a played node that is not released has room at its place
-  pub has_room_at : (d : Duty B) (links : List Link) (node l : ℕ) (desk : Desk B Y) → d.links ≡ links → IsPlayed memory has_room value_at after gives d node desk → HaveRoom has_room links d.before → l < length links → (link_at links l).from ≡ node → has d.released l ≡ false
-      → has_room desk.bench (place_among links l) ≡ true
-  has_room_at d links node l desk same p rooms low from off =
-      subst (λ (ls : List Link). HaveRoom has_room ls d.before → l < length ls → (link_at ls l).from ≡ node → has_room desk.bench (place_among ls l) ≡ true) same
-      (λ rooms' low' from'. p.rooms.places l low' from' ∙ (ap (λ b. cond b false (has_room p.old (place_among d.links l))) off ∙ rooms' l p.old low' (ap (get_elem? d.before) from' ∙ p.old_is)))
-      rooms low from
+out_apart : (links : List Link) (node j k : ℕ) → j < length (outgoing links node) → k < length (outgoing links node) → j ≢ k → get_or (outgoing links node) j 0 ≢ get_or (outgoing links node) k 0
+out_apart links node j k low low' ne e = dite (dec_lt j k)
+    (λ lt. let rise = outgoing-rises links node j k lt low' in absurd (omega (arith, rise, e)))
+    (λ ge. let rise = outgoing-rises links node k j (omega (arith, ge, ne)) low in absurd (omega (arith, rise, e)))
 
 module _ {B : Type 0} (links : List Link) (node : ℕ) where
-  -- so far the links of the node below this position are released
-  pub record Going (position : ℕ) (old d : Duty B) : Type 0 where
+  -- so far the first of the node's links are released, in their order
+  pub record Going (count : ℕ) (old d : Duty B) : Type 0 where
     pub links_stay : d.links ≡ old.links
     pub before_stays : d.before ≡ old.before
     pub started_stay : d.started ≡ old.started
     pub held_are : d.held ≡ old.held
     pub lower : (l : ℕ) → l < length links → (link_at links l).from < node → has d.released l ≡ has old.released l
-    pub done : (l : ℕ) → l < position → l < length links → (link_at links l).from ≡ node → has d.released l ≡ true
-    pub open_links : (l : ℕ) → position ≤ l → l < length links → (link_at links l).from ≡ node → has d.released l ≡ false
+    pub done : (j : ℕ) → j < count → j < length (outgoing links node) → has d.released (get_or (outgoing links node) j 0) ≡ true
+    pub open_links : (j : ℕ) → count ≤ j → j < length (outgoing links node) → has d.released (get_or (outgoing links node) j 0) ≡ false
 
   pub going_first : (old : Duty B) → ((l : ℕ) → l < length links → (link_at links l).from ≡ node → has old.released l ≡ false) → Going 0 old old
   going_first old none = record {
@@ -86,49 +66,53 @@ module _ {B : Type 0} (links : List Link) (node : ℕ) where
     started_stay = refl;
     held_are = refl;
     lower = λ l low from. refl;
-    done = λ l h low from. absurd (omega (arith, h));
-    open_links = λ l h low from. none l low from;
+    done = λ j h low. absurd (omega (arith, h));
+    open_links = λ j h low. let fact = out_fact links node j low in none (get_or (outgoing links node) j 0) fact.0 fact.1;
   }
 
-  pub going_skip : (position : ℕ) (old d : Duty B) → (link_at links position).from ≢ node → Going position old d → Going (position + 1) old d
-  going_skip position old d ne go = record {
-    links_stay = go.links_stay;
-    before_stays = go.before_stays;
-    started_stay = go.started_stay;
-    held_are = go.held_are;
-    lower = go.lower;
-    done = λ l h low from. let apart : l ≢ position = λ is. ne (ap (λ j. (link_at links j).from) (sym is) ∙ from) in go.done l (omega (arith, h, apart)) low from;
-    open_links = λ l h low from. go.open_links l (omega (arith, h)) low from;
-  }
+  pub going_on : (count position : ℕ) (old d new : Duty B) → count < length (outgoing links node) → get_or (outgoing links node) count 0 ≡ position → new.links ≡ d.links → new.before ≡ d.before → new.started ≡ d.started → new.held ≡ d.held
+      → ((l : ℕ) → l < length links → (link_at links l).from ≤ node → has new.released l ≡ has (position ∷ d.released) l) → Going count old d → Going (count + 1) old new
+  going_on count position old d new few is same_links same_before same_started same_held released go =
+      let mine : (link_at links position).from ≡ node = subst (λ q. (link_at links q).from ≡ node) is (out_fact links node count few).1 in record {
+        links_stay = same_links ∙ go.links_stay;
+        before_stays = same_before ∙ go.before_stays;
+        started_stay = same_started ∙ go.started_stay;
+        held_are = same_held ∙ go.held_are;
+        lower = λ l low from.
+            let ne : position ≢ l = λ e. absurd (omega (arith, from, mine, ap (λ j. (link_at links j).from) e)) in
+            released l low (omega (arith, from)) ∙ (has_skip position d.released l ne ∙ go.lower l low from);
+        done = λ j h low.
+            let fact = out_fact links node j low in
+            let out = fact.1 in
+            released (get_or (outgoing links node) j 0) fact.0 (omega (arith, out)) ∙ dite (ℕ_discrete j count)
+            (λ e. ap (has (position ∷ d.released)) (ap (λ i. get_or (outgoing links node) i 0) e ∙ is) ∙ has_here position d.released)
+            (λ ne. has_there position d.released (get_or (outgoing links node) j 0) (go.done j (omega (arith, h, ne)) low));
+        open_links = λ j h low.
+            let fact = out_fact links node j low in
+            let out = fact.1 in
+            let ne : position ≢ get_or (outgoing links node) j 0 = λ e. out_apart links node count j few low (λ z. absurd (omega (arith, h, z))) (is ∙ e) in
+            released (get_or (outgoing links node) j 0) fact.0 (omega (arith, out)) ∙ (has_skip position d.released (get_or (outgoing links node) j 0) ne ∙ go.open_links j (omega (arith, h)) low);
+      }
 
-  pub going_on : (position : ℕ) (old d new : Duty B) → (link_at links position).from ≡ node → new.links ≡ d.links → new.before ≡ d.before → new.started ≡ d.started → new.held ≡ d.held
-      → ((l : ℕ) → l < length links → (link_at links l).from ≤ node → has new.released l ≡ has (position ∷ d.released) l) → Going position old d → Going (position + 1) old new
-  going_on position old d new mine same_links same_before same_started same_held released go = record {
-    links_stay = same_links ∙ go.links_stay;
-    before_stays = same_before ∙ go.before_stays;
-    started_stay = same_started ∙ go.started_stay;
-    held_are = same_held ∙ go.held_are;
-    lower = λ l low from.
-        let ne : position ≢ l = λ is. absurd (omega (arith, from, mine, ap (λ j. (link_at links j).from) is)) in
-        released l low (omega (arith, from)) ∙ (has_skip position d.released l ne ∙ go.lower l low from);
-    done = λ l h low from. released l low (omega (arith, from)) ∙ dite (ℕ_discrete position l)
-        (λ is. ap (has (position ∷ d.released)) (sym is) ∙ has_here position d.released)
-        (λ ne. has_there position d.released l (go.done l (omega (arith, h, ne)) low from));
-    open_links = λ l h low from.
-        let ne : position ≢ l = λ is. absurd (omega (arith, h, is)) in
-        released l low (omega (arith, from)) ∙ (has_skip position d.released l ne ∙ go.open_links l (omega (arith, h)) low from);
-  }
+  pub going_none : (count position : ℕ) (old d new : Duty B) → count < length (outgoing links node) → get_or (outgoing links node) count 0 ≡ position → new ≡ with_released d position → Going count old d → Going (count + 1) old new
+  going_none count position old d new few at is go = going_on count position old d new few at (ap (λ (e : Duty B). e.links) is) (ap (λ (e : Duty B). e.before) is) (ap (λ (e : Duty B). e.started) is) (ap (λ (e : Duty B). e.held) is) (λ l low from. ap (λ (e : Duty B). has e.released l) is) go
 
-  pub going_none : (position : ℕ) (old d new : Duty B) → (link_at links position).from ≡ node → new ≡ with_released d position → Going position old d → Going (position + 1) old new
-  going_none position old d new mine is go = going_on position old d new mine (ap (λ (e : Duty B). e.links) is) (ap (λ (e : Duty B). e.before) is) (ap (λ (e : Duty B). e.started) is) (ap (λ (e : Duty B). e.held) is) (λ l low from. ap (λ (e : Duty B). has e.released l) is) go
-
-  pub going_some : (nodes position next : ℕ) (old d mid new : Duty B) → AreLinks nodes links → position < length links → (link_at links position).from ≡ node → next ≡ (link_at links position).to → has d.held next ≡ false → mid ≡ with_held (with_released d position) next
-      → IsRun links next mid new → Going position old d → Going (position + 1) old new
-  going_some nodes position next old d mid new are low mine to off is run go =
-      let up : (link_at links position).from < (link_at links position).to = are.upward position no_link low in
-      going_on position old d new mine (run.links_stay ∙ ap (λ (e : Duty B). e.links) is) (run.before_stays ∙ ap (λ (e : Duty B). e.before) is) (run.started_stay ∙ ap (λ (e : Duty B). e.started) is)
+  pub going_some : (nodes count position next : ℕ) (old d mid new : Duty B) → AreLinks nodes links → count < length (outgoing links node) → get_or (outgoing links node) count 0 ≡ position → next ≡ (link_at links position).to → has d.held next ≡ false → mid ≡ with_held (with_released d position) next
+      → IsRun links next mid new → Going count old d → Going (count + 1) old new
+  going_some nodes count position next old d mid new are few at to off is run go =
+      let fact = out_fact links node count few in
+      let mine : (link_at links position).from ≡ node = subst (λ q. (link_at links q).from ≡ node) at fact.1 in
+      let up : (link_at links position).from < (link_at links position).to = are.upward position no_link (subst (λ q. q < length links) at fact.0) in
+      going_on count position old d new few at (run.links_stay ∙ ap (λ (e : Duty B). e.links) is) (run.before_stays ∙ ap (λ (e : Duty B). e.before) is) (run.started_stay ∙ ap (λ (e : Duty B). e.started) is)
       (run.held_are ∙ (ap (λ (e : Duty B). without next e.held) is ∙ gone next d.held off))
       (λ l low' from. run.lower l low' (omega (arith, from, mine, to, up)) ∙ ap (λ (e : Duty B). has e.released l) is) go
+
+  -- where all are released
+  pub going_done : (count : ℕ) (old d : Duty B) → length (outgoing links node) ≤ count → Going count old d → (l : ℕ) → l < length links → (link_at links l).from ≡ node → has d.released l ≡ true
+  going_done count old d all go l low from =
+      let at = subst (λ n. (place_among links l < length (outgoing links n)) × (get_or (outgoing links n) (place_among links l) 0 ≡ l)) from (outgoing_at links l 0 low) in
+      let few = at.0 in
+      subst (λ q. has d.released q ≡ true) at.1 (go.done (place_among links l) (omega (arith, few, all)) few)
 
 module _ {B : Type 0} (count number : ℕ) where
   -- of the share the nodes below this one were started, and none is held

@@ -19,13 +19,13 @@ fn run<B: Work, G: Gate>(crew: &Crew<B>, seat: &mut Seat<B>, gate: &G, mut taken
     ensures seat { (seat.new.number ≡ seat.old.number) × Sits crew.now.board.shared.table_id crew.now.links.items crew.now.nodes crew.now.seats seat.new.number seat.new.token }
     ensures run { IsRun crew.now.links.items taken.node seat.old.token.me.0.duty seat.new.token.me.0.duty }
 {
-    gate.before_client(seat.number(), taken.node());
+    let node = taken.node();
+    gate.before_client(seat.number(), node);
     taken.play();
-    for (position, link) in crew.links().iter().enumerate() {
-        if link.from == taken.node() {
-            if let Some(next) = crew.release(seat, &mut taken, position as u32) {
-                run(crew, seat, gate, next);
-            }
+    let links = crew.outgoing(node);
+    for link in links {
+        if let Some(next) = crew.release(seat, &mut taken, *link) {
+            run(crew, seat, gate, next);
         }
     }
     crew.home(seat, taken);

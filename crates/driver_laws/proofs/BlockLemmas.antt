@@ -1,7 +1,7 @@
 -- The channels of an interleaved block, and of a block past the end of its file.
 --     channels-interleaved      interleaved channels taken apart again
 --     channels-past      a block behind the file's blocks is silent
-use Rattle.std.proofs.Common.{◌≡◌, ℕ, zero, suc, ◌+◌, ◌-◌, ◌*◌, ◌<◌, ◌≤◌, ◌⊎◌, inl, inr, List, [], ◌∷◌, ◌++◌, length, length-append, map, flat_map, get_or, ℤ, pos, refl, sym, ◌∙◌, ap, ap₂, subst, arith}
+use Rattle.std.proofs.Common.{◌≡◌, ℕ, zero, suc, ◌+◌, ◌*◌, ◌<◌, ◌≤◌, ◌⊎◌, inl, inr, List, [], ◌∷◌, ◌++◌, length, length-append, map, flat_map, get_or, ℤ, pos, refl, sym, ◌∙◌, ap, ap₂, subst, arith}
 use Rattle.std.proofs.Math.Nat.{add-mul, suc-mul, mul_comm, mul_assoc, mul-le-mul_right}
 use Rattle.std.proofs.lemmas.Bool.{cases_lt}
 use Rattle.std.proofs.lemmas.Grind.{flat_map-append, div_ceil_times}

@@ -1,6 +1,6 @@
 -- What the capture ports give in one cycle more, read from the samples that are left.
 --     captured-left      of any course
-use Rattle.std.proofs.Common.{◌≡◌, ℕ, ◌+◌, ◌*◌, cond, if◌then◌else◌, List, map, drop, ℤ, pos, refl, sym, ◌∙◌, ap, arith}
+use Rattle.std.proofs.Common.{◌≡◌, ℕ, ◌+◌, ◌*◌, cond, if◌then◌else◌, List, map, drop, ℤ, pos, sym, ◌∙◌, ap, arith}
 use Rattle.std.proofs.Math.Nat.{add-mul}
 use Rattle.std.proofs.lemmas.List.{get_or-drop}
 use Rattle.session_model.specs.Courses.{Course, turn, period, captured, frames_before}

@@ -1,14 +1,14 @@
 -- A disk's ring behind one cycle more.
 --     played_before-next      one active cycle more that is no underrun
 --     KeepsDisk-next      what the ring keeps before a cycle it keeps behind
-use Rattle.std.proofs.Common.{◌≡◌, ℕ, suc, ◌+◌, ◌-◌, ◌<◌, ◌≤◌, min, Bool, true, false, cond, not, ◌&&◌, ◌||◌, ◌==◌, List, [], ◌∷◌, ◌++◌, length, map, slice_get, Some, count_by, get_or, All, IsTrue, inl, inr, ◌⊎◌, refl, sym, ◌∙◌, ap, ap₂, subst, arith, true≢false, ne_eqb, eq-eqb}
+use Rattle.std.proofs.Common.{◌≡◌, ℕ, suc, ◌+◌, ◌-◌, ◌<◌, ◌≤◌, min, Bool, true, false, cond, not, ◌&&◌, ◌==◌, List, [], ◌∷◌, ◌++◌, length, map, slice_get, Some, count_by, get_or, All, IsTrue, inl, inr, ◌⊎◌, refl, sym, ◌∙◌, ap, ap₂, subst, arith, true≢false, ne_eqb}
 use Rattle.std.specs.List.{list_any}
 use Rattle.std.specs.List.Sorted.{IsStrictlyIncreasing}
 use Rattle.std.proofs.Math.Nat.{min-eq_left, min-eq_right}
 use Rattle.std.proofs.lemmas.Bool.{cases_lt}
 use Rattle.std.proofs.lemmas.List.{map-append, length_push}
 use Rattle.std.proofs.lemmas.List.Elements.{All-push, All-map}
-use Rattle.std.proofs.lemmas.List.Folds.{list_any-append, list_any_none}
+use Rattle.std.proofs.lemmas.List.Folds.{list_any_none}
 use Rattle.std.proofs.lemmas.List.Sums.{sum_by_push}
 use Rattle.jack_types.specs.declared.replies.Underrun.{Underrun}
 use Rattle.session_model.specs.Courses.{Course, is_underrun, is_disk_active, played_before}
@@ -19,6 +19,7 @@ use Rattle.record_ring.specs.Rings.{Getting, Gets}
 use Rattle.record_ring.specs.declared.consumer.Got.TheVariants.{Block, Empty, Ended}
 use Rattle.driver_laws.specs.Keeping.{FitsDisk, IsMiss, KeepsDisk}
 use Rattle.driver_laws.specs.Cycling.{GetsOne, Silent, Heard, Over, Missed}
+use Rattle.driver_laws.proofs.PlaceLemmas.{last_of, missed_there}
 use Rattle.driver_laws.proofs.NumberLemmas.{IsStrictlyIncreasing-push}
 
 -- a count within a file is that of the blocks played
@@ -113,10 +114,6 @@ module _ (course : Course) (disk n : ℕ) where
         by_cycle = keeps.by_cycle;
         all = later_all misses keeps.all;
       }
-    where
-      last_of : (blocks : List RingBlock) (block : RingBlock) → slice_get (blocks ++ block ∷ []) (length blocks) ≡ Some block
-      last_of [] block = refl
-      last_of (b ∷ blocks) block = last_of blocks block
 
   over : (one : RingBlock) (found : ℕ) (got got_after : Getting) (misses : List Underrun) → is_disk_active course disk (n + 1) ≡ true → is_underrun course disk (n + 1) ≡ false
       → FitsDisk course disk got_after → Gets got got_after one found Ended → KeepsDisk course n disk got misses → KeepsDisk course (suc n) disk got_after misses
@@ -181,11 +178,5 @@ module _ (course : Course) (disk n : ℕ) where
       subst (λ us. KeepsDisk course (suc n) disk got_after us) (sym none) (over one found got got_after misses (playing ∙ on) (lacking ∙ ap (list_any (λ (u : Underrun). u.cycle == n + 1)) none ∙ none_yet misses keeps.all) fits gets keeps)
   KeepsDisk-next active got got_after misses misses_after playing lacking fits (Missed one found on gets more) keeps =
       let new : Underrun = record { disk = disk; cycle = n + 1; sent = found; taken = found } in
-      let there : list_any (λ (u : Underrun). u.cycle == n + 1) (misses ++ new ∷ []) ≡ true =
-      list_any-append (λ (u : Underrun). u.cycle == n + 1) misses (new ∷ []) ∙ ap (λ b. list_any (λ (u : Underrun). u.cycle == n + 1) misses || (b || false)) (eq-eqb (n + 1) (n + 1) refl) ∙ or_true (list_any (λ (u : Underrun). u.cycle == n + 1) misses) in
       subst (λ us. KeepsDisk course (suc n) disk got_after us) (sym more)
-      (missed one found got got_after misses new refl (playing ∙ on) (lacking ∙ ap (list_any (λ (u : Underrun). u.cycle == n + 1)) more ∙ there) gets keeps)
-    where
-      or_true : (b : Bool) → (b || (true || false)) ≡ true
-      or_true true = refl
-      or_true false = refl
+      (missed one found got got_after misses new refl (playing ∙ on) (lacking ∙ ap (list_any (λ (u : Underrun). u.cycle == n + 1)) more ∙ missed_there misses new (n + 1) refl) gets keeps)

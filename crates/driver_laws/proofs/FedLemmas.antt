@@ -1,19 +1,18 @@
 -- What a disk's player is given in one cycle more, read from the rings.
 --     fed-now      the channels of the block that was got
-use Rattle.std.proofs.Common.{◌≡◌, ℕ, ℤ, zero, suc, ◌*◌, ◌+◌, ◌-◌, ◌<◌, ◌≤◌, ◌⊎◌, inl, inr, min, Bool, true, false, cond, ◌||◌, ◌==◌, List, [], ◌∷◌, ◌++◌, length, map, get_or, slice_get, slice_index_or, Option, Some, None, refl, sym, ◌∙◌, ap, ap₂, subst, arith, true≢false, eq-eqb}
+use Rattle.std.proofs.Common.{◌≡◌, ℕ, ℤ, zero, suc, ◌*◌, ◌+◌, ◌<◌, ◌≤◌, ◌⊎◌, inl, inr, min, Bool, true, false, cond, ◌==◌, List, [], ◌∷◌, ◌++◌, length, map, get_or, slice_get, slice_index_or, Option, Some, None, refl, sym, ◌∙◌, ap, ap₂, subst, arith, true≢false}
 use Rattle.std.specs.List.{list_any}
 use Rattle.std.specs.Option.{option_map_or}
 use Rattle.std.proofs.Math.Nat.{min-le_right}
 use Rattle.std.proofs.Math.ListN.{get_or-map}
 use Rattle.std.proofs.lemmas.Bool.{cases_lt}
 use Rattle.std.proofs.lemmas.List.{get_or_past}
-use Rattle.std.proofs.lemmas.List.Folds.{list_any-append}
 use Rattle.std.proofs.lemmas.Option.{slice_get_past, slice_get_within}
 use Rattle.jack_types.specs.declared.replies.Underrun.{Underrun}
 use Rattle.session_model.specs.Courses.{Course, DiskFile, no_disk, disk_file, block_channel, period, fed, is_underrun, played_before}
 use Rattle.session_model.specs.Disks.{file_blocks}
 use Rattle.session_model.specs.Rings.{RingBlock}
-use Rattle.session_model.specs.Samples.{below, interleaved, sample}
+use Rattle.session_model.specs.Samples.{below, sample}
 use Rattle.session_model.specs.Scripts.{Script}
 use Rattle.client_kinds.specs.Buffers.{channels_of}
 use Rattle.record_ring.specs.Rings.{Getting}
@@ -22,16 +21,13 @@ use Rattle.driver_laws.specs.Keeping.{Fits, FitsDisk, Keeps, KeepsDisk, file_blo
 use Rattle.driver_laws.specs.Cycling.{StepsOnce, GetsOne, Silent, Heard, Over, Missed}
 use Rattle.driver_laws.specs.Playing.{fed_now, is_missed, samples_got}
 use Rattle.driver_laws.proofs.DiskLemmas.{within}
+use Rattle.driver_laws.proofs.PlaceLemmas.{there_too, last_of, missed_there}
 use Rattle.driver_laws.proofs.BlockLemmas.{channels-interleaved, channels-past}
-use Rattle.driver_laws.proofs.StepLemmas.{none-some, there_too, ran, script-same}
+use Rattle.driver_laws.proofs.StepLemmas.{ran, script-same}
 use Rattle.driver_laws.proofs.TransportLemmas.{period-now}
 
 some-none : {X : Type 0} (x : X) → Some x ≡ None → ⊥
 some-none x e = cc
-
-last_of : (blocks : List RingBlock) (block : RingBlock) → slice_get (blocks ++ block ∷ []) (length blocks) ≡ Some block
-last_of [] block = refl
-last_of (b ∷ blocks) block = last_of blocks block
 
 -- the channels of a block of a file, or of silence behind its end
 module _ (course : Course) (disk : ℕ) (got got_after : Getting) (count : ℕ) (period : ℕ) (full : period ≡ course.script.header.period) (channels : (disk_file course disk).channels ≡ count) where
@@ -75,18 +71,8 @@ module _ (course : Course) (disk : ℕ) (got got_after : Getting) (count : ℕ) 
       let count_is : length got.got ≡ min (file_blocks course disk) (played_before course disk (n + 1)) = keeps.count in
       silent_is (played_before course disk (n + 1)) (omega (arith, whole, size, few, count_is))
       ∙ ap (λ (o : Option RingBlock). channels_of count period (option_map_or (λ (b : RingBlock). b.samples) o [])) (sym nothing)
-  given-of_get n misses misses_after keeps fits (Missed one found on gets more) met = absurd (true≢false (sym there ∙ met))
-    where
-      or_true : (b : Bool) → (b || (true || false)) ≡ true
-      or_true true = refl
-      or_true false = refl
-
-      there : list_any (λ (u : Underrun). u.cycle == n + 1) misses_after ≡ true
-      there =
-          ap (list_any (λ (u : Underrun). u.cycle == n + 1)) more
-          ∙ list_any-append (λ (u : Underrun). u.cycle == n + 1) misses (record { disk = disk; cycle = n + 1; sent = found; taken = found } ∷ [])
-          ∙ ap (λ b. list_any (λ (u : Underrun). u.cycle == n + 1) misses || (b || false)) (eq-eqb (n + 1) (n + 1) refl)
-          ∙ or_true (list_any (λ (u : Underrun). u.cycle == n + 1) misses)
+  given-of_get n misses misses_after keeps fits (Missed one found on gets more) met =
+      absurd (true≢false (sym (ap (list_any (λ (u : Underrun). u.cycle == n + 1)) more ∙ missed_there misses (record { disk = disk; cycle = n + 1; sent = found; taken = found }) (n + 1) refl) ∙ met))
 
 module _ (driver after : Driver) (steps : StepsOnce driver after) (course : Course) (fits : Fits after course) (keeps : Keeps driver course) (set : (turn_of driver.script (run driver + 1)).period ≡ driver.set) where
   next : suc (run driver) ≡ run driver + 1
@@ -130,8 +116,8 @@ module _ (driver after : Driver) (steps : StepsOnce driver after) (course : Cour
   due disk = map (block_channel (disk_file course disk) (period course (suc (run driver))) (played_before course disk (suc (run driver)))) (below (disk_file course disk).channels)
 
   -- the channels of the block that was got
-  pub fed-now : (disk : ℕ) → has_disk (graph_now after) disk ≡ true → driver.set ≡ driver.script.header.period → fed course disk (suc (run driver)) ≡ fed_now driver after disk
-  fed-now disk active full =
+  pub fed-now : ((disk : ℕ) → disk < length driver.disks → driver.set ≡ driver.script.header.period) → (disk : ℕ) → has_disk (graph_now after) disk ≡ true → fed course disk (suc (run driver)) ≡ fed_now driver after disk
+  fed-now full disk active =
       ap (λ b. cond b [] (due disk)) (missed_same disk)
       ∙ go (is_missed driver after disk) refl
     where
@@ -148,7 +134,7 @@ module _ (driver after : Driver) (steps : StepsOnce driver after) (course : Cour
           ≡ channels_of (slice_index_or driver.script.header.disks disk 0) driver.set (samples_got (Some got) (slice_get after.disks disk))
       a_ring got here met =
           let w = there_too driver.disks after.disks disk got steps.as_many_disks here in
-          let first : driver.set ≡ course.script.header.period = full ∙ ap (λ (s : Script). s.header.period) (sym (script-same driver after steps course fits)) in
+          let first : driver.set ≡ course.script.header.period = full disk (slice_get_within driver.disks disk got here) ∙ ap (λ (s : Script). s.header.period) (sym (script-same driver after steps course fits)) in
           ap₂ (λ p m. map (block_channel (disk_file course disk) p (played_before course disk m)) (below (disk_file course disk).channels)) (period-now driver after steps course fits set) next
           ∙ given-of_get course disk got w.0 (slice_index_or driver.script.header.disks disk 0) driver.set first (channels-same disk) (run driver) (underruns_on driver.underruns disk) (underruns_on after.underruns disk)
           (keeps.disks disk got here) (fits.disks disk w.0 w.1)

@@ -1,18 +1,28 @@
 -- Courses that fit behind cycles, and what is kept over many.
 --     Fits-earlier      a course that fits behind a cycle fits before it
+--     Fits-failed      also where the cycle failed at the capture
+--     content-of_calls      what a cycle took is of calls
 --     Keeps-many      what holds behind one cycle holds behind many
-use Rattle.std.proofs.Common.{◌≡◌, ℕ, zero, suc, ◌+◌, ◌<◌, Bool, true, false, cond, ◌||◌, ◌==◌, List, [], ◌∷◌, ◌++◌, length, take, slice_get, All, Some, refl, sym, ◌∙◌, ap, subst, arith, true≢false, eqb-true}
+use Rattle.std.proofs.Common.{◌≡◌, ℕ, zero, suc, ◌+◌, ◌<◌, Bool, true, false, cond, ◌||◌, ◌==◌, List, [], ◌∷◌, ◌++◌, length, map, take, slice_get, slice_index_or, All, Contains, ◌⊎◌, inl, inr, refl, sym, ◌∙◌, ap, subst, arith, true≢false, eqb-true}
 use Rattle.std.specs.List.{list_any}
-use Rattle.std.proofs.lemmas.List.Elements.{All-head, All-tail, filter-append}
+use Rattle.std.proofs.lemmas.List.{length_push}
+use Rattle.std.proofs.lemmas.List.Elements.{All-take, All-head, All-tail, filter-append}
 use Rattle.std.proofs.lemmas.List.Folds.{list_any-append}
+use Rattle.jack_types.specs.declared.commands.Call.{Call}
+use Rattle.jack_types.specs.declared.commands.Change.{Change}
 use Rattle.jack_types.specs.declared.replies.Underrun.{Underrun}
 use Rattle.session_model.specs.Courses.{Course}
+use Rattle.session_model.specs.Scripts.{Script, Planned, planned}
+use Rattle.session_model.specs.Soundness.{Apart}
+use Rattle.session_laws.proofs.ListLemmas.{map-take}
+use Rattle.session_laws.proofs.LoopLemmas.{Contains-cases, Contains-first, Contains-later}
+use Rattle.graph_word.specs.Publications.{Reading}
 use Rattle.record_ring.specs.Rings.{Getting}
-use Rattle.driver_laws.specs.Drivers.{Driver, run, graph_now, has_disk, underruns_on}
-use Rattle.driver_laws.specs.Keeping.{Fits, FitsDisk, Keeps}
-use Rattle.driver_laws.specs.Cycling.{GetsOne, Silent, Heard, Over, Missed, StepsOnce, CyclesMany}
-use Rattle.driver_laws.proofs.RingLemmas.{or_false}
-use Rattle.driver_laws.proofs.StepLemmas.{none-some, there_too, ran, rows_are}
+use Rattle.driver_laws.specs.Drivers.{Driver, run, content_now, graph_now, has_disk, underruns_on}
+use Rattle.driver_laws.specs.Keeping.{AreOfCalls, Fits, FitsDisk, Keeps}
+use Rattle.driver_laws.specs.Cycling.{GetsOne, Silent, Heard, Over, Missed, StepsOnce, FailsAtRead, CyclesMany}
+use Rattle.driver_laws.proofs.PlaceLemmas.{none_below, there_too, still_there, or_false}
+use Rattle.driver_laws.proofs.StepLemmas.{ran, rows_are, row_there, content-taken}
 
 -- a list with one more that is a front has a front in it
 front_in : {X : Type 0} (xs : List X) (x : X) (m : ℕ) (whole : List X) → xs ++ x ∷ [] ≡ take m whole → xs ≡ take (length xs) whole
@@ -35,11 +45,6 @@ front_in {X} (y ∷ xs) x (suc m) (z ∷ whole) e = ap_both (heads e) (front_in 
 
     ap_both : y ≡ z → xs ≡ take (length xs) whole → y ∷ xs ≡ z ∷ take (length xs) whole
     ap_both p q = cc
-
-still_there : {X : Type 0} (xs ys : List X) (k : ℕ) (x : X) → slice_get xs k ≡ Some x → slice_get (xs ++ ys) k ≡ Some x
-still_there [] ys k x e = absurd (none-some x e)
-still_there (z ∷ xs) ys zero x e = e
-still_there (z ∷ xs) ys (suc k) x e = still_there xs ys k x e
 
 -- underruns of a later cycle are none of an earlier one
 none_now : (k now disk count : ℕ) → k < now → (more : List Underrun) → All (λ (u : Underrun). (u.cycle ≡ now) × (u.disk < count)) more
@@ -102,6 +107,55 @@ Fits-earlier driver after course steps fits =
           let w = there_too driver.disks after.disks disk got steps.as_many_disks here in
           earlier_disk course (run driver + 1) disk (has_disk (graph_now after) disk) got w.0 (underruns_on driver.underruns disk) (underruns_on after.underruns disk) (steps.disks disk got w.0 here w.1) (fits.disks disk w.0 w.1);
     }
+
+-- what fits behind a cycle that failed at the capture fits before it
+pub Fits-failed : (driver after : Driver) (course : Course) → FailsAtRead driver after → Fits after course → Fits driver course
+Fits-failed driver after course fails fits =
+    let longer : run after ≡ run driver + 1 = ap length fails.numbers ∙ length_push driver.numbers fails.number in
+    let more : after.reading.rows ≡ driver.reading.rows ++ record { cycle = run driver + 1; changes = fails.taken.held } ∷ [] =
+    ap (λ (r : Reading). r.rows) fails.begins.after_is
+    ∙ ap (λ rows. rows ++ record { cycle = run driver + 1; changes = fails.taken.held } ∷ []) (ap (λ (r : Reading). r.rows) fails.takes.same) in
+    record {
+      script = fits.script ∙ ap (λ (d : Driver). d.script) fails.same;
+      scores = fits.scores ∙ ap (λ (d : Driver). d.scores) fails.same;
+      channels = fits.channels;
+      of_calls = fits.of_calls;
+      numbers = front_in driver.numbers fails.number (run after) course.numbers (sym fails.numbers ∙ fits.numbers);
+      rows = λ k taken here. fits.rows k taken (ap (λ rows. slice_get rows k) more ∙ still_there driver.reading.rows (record { cycle = run driver + 1; changes = fails.taken.held } ∷ []) k taken here);
+      underruns = λ disk k low. fits.underruns disk k (omega (arith, low, longer)) ∙ ap (λ (d : Driver). list_any (λ (u : Underrun). u.cycle == k) (underruns_on d.underruns disk)) fails.same;
+      disks = λ disk got here. fits.disks disk got (ap (λ (d : Driver). slice_get d.disks disk) fails.same ∙ here);
+    }
+
+-- the first changes are of calls where all are
+AreOfCalls-take : (script : Script) (changes : List Change) (n : ℕ) → AreOfCalls script changes → AreOfCalls script (take n changes)
+AreOfCalls-take script changes n of_calls = record {
+  calls = take n of_calls.calls;
+  commands = map-take (λ (call : Call). call.command) n of_calls.calls ∙ ap (take n) of_calls.commands ∙ sym (map-take (λ (change : Change). change.command) n changes);
+  planned_ones = All-take (Contains (map (λ (plan : Planned). plan.call) (planned script))) n of_calls.calls of_calls.planned_ones;
+  once = Apart-take of_calls.calls n of_calls.once;
+}
+  where
+    taken_among : {X : Type 0} (xs : List X) (n : ℕ) (x : X) → Contains (take n xs) x → Contains xs x
+    taken_among xs zero x m = absurd (none_below m.1)
+    taken_among [] (suc n) x m = absurd (none_below m.1)
+    taken_among {X} (y ∷ xs) (suc n) x m = go (Contains-cases y x (take n xs) m) (taken_among xs n x)
+      where
+        go : (y ≡ x) ⊎ Contains (take n xs) x → (Contains (take n xs) x → Contains xs x) → Contains (y ∷ xs) x
+        go (inl e) rest = subst (Contains (y ∷ xs)) e (Contains-first y xs)
+        go (inr k) rest = Contains-later y x xs (rest k)
+
+    Apart-take : (calls : List Call) (n : ℕ) → Apart (λ (call : Call). call) calls → Apart (λ (call : Call). call) (take n calls)
+    Apart-take calls zero h = tt
+    Apart-take [] (suc n) h = tt
+    Apart-take (call ∷ calls) (suc n) h = (λ other m e. h.0 other (taken_among calls n other m) e, Apart-take calls n h.1)
+
+-- what a cycle took is of calls
+pub content-of_calls : (driver after : Driver) (course : Course) → StepsOnce driver after → Fits after course → AreOfCalls driver.script (content_now after)
+content-of_calls driver after course steps fits =
+    let content : content_now after ≡ take (slice_index_or course.numbers (run driver) 0) course.changes =
+    content-taken driver after steps ∙ fits.rows (run driver) (record { cycle = run driver + 1; changes = steps.taken.held }) (row_there driver after steps) in
+    subst (AreOfCalls driver.script) (sym content)
+    (subst (λ (s : Script). AreOfCalls s (take (slice_index_or course.numbers (run driver) 0) course.changes)) (fits.script ∙ steps.script) (AreOfCalls-take course.script course.changes (slice_index_or course.numbers (run driver) 0) fits.of_calls))
 
 -- what holds behind one cycle holds behind many
 pub Keeps-many : (n : ℕ) (driver after : Driver) (course : Course) → CyclesMany n driver after → Fits after course → Keeps driver course → Keeps after course

@@ -3,16 +3,15 @@
 --     left-next      what is left of the capture behind them
 --     played_so_far-run, played_so_far-freewheel      the samples of a `run` cycle go behind those so far; a freewheel cycle has none
 --     moments-next      one moment more
-use Rattle.std.proofs.Common.{◌≡◌, ℕ, zero, suc, ◌+◌, ◌-◌, ◌*◌, Bool, true, false, cond, not, List, [], ◌∷◌, ◌++◌, map, flat_map, filter, take, drop, sum_by, get_or, ℤ, refl, sym, ◌∙◌, ap, ap₂, subst, arith}
+use Rattle.std.proofs.Common.{◌≡◌, ℕ, zero, suc, ◌+◌, ◌-◌, ◌*◌, true, false, cond, not, List, [], ◌∷◌, ◌++◌, map, flat_map, take, drop, sum_by, get_or, refl, sym, ◌∙◌, ap, ap₂, arith}
 use Rattle.std.proofs.Math.Nat.{add-mul}
 use Rattle.std.proofs.lemmas.Grind.{flat_map-append}
 use Rattle.std.proofs.lemmas.List.{map-append, append-nil, drop-drop}
 use Rattle.std.proofs.lemmas.List.Sums.{sum_by-cons}
-use Rattle.jack_types.specs.declared.moments.Moment.{Moment}
 use Rattle.session_model.specs.Courses.{Course, turn, no_turn, frames_before}
 use Rattle.session_model.specs.Playback.{played_in}
 use Rattle.session_model.specs.Samples.{below}
-use Rattle.session_model.specs.Scripts.{Turn, turns}
+use Rattle.session_model.specs.Scripts.{turns}
 use Rattle.session_model.specs.Transport.{moment}
 use Rattle.driver_laws.specs.Drivers.{frames_read}
 use Rattle.driver_laws.specs.Keeping.{run_cycles, played_so_far}

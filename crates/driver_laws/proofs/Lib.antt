@@ -1,4 +1,5 @@
 pub mod NumberLemmas
+pub mod PlaceLemmas
 pub mod RingLemmas
 pub mod DiskLemmas
 pub mod DrivenLemmas
@@ -9,6 +10,7 @@ pub mod MeetingLemmas
 pub mod SegmentLemmas
 pub mod WholeLemmas
 pub mod OpeningLemmas
+pub mod PeriodLemmas
 pub mod TransportLemmas
 pub mod CaptureLemmas
 pub mod TaskLemmas
@@ -17,3 +19,4 @@ pub mod FedLemmas
 pub mod TapeLemmas
 pub mod OwnLemmas
 pub mod CycleLemmas
+pub mod InstanceLemmas

@@ -68,4 +68,3 @@ module _ (driver after : Driver) (course : Course) (met : HasMetOthers driver af
         driven = keeps.driven;
       } in
       subst (λ (d : Driver). Keeps d course) (sym met.same) there
-

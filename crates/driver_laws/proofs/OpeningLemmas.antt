@@ -1,12 +1,11 @@
 -- A driver before its first cycle.
 --     Keeps-none      a new driver keeps every course of its script and scores over what its capture tells
-use Rattle.std.proofs.Common.{◌≡◌, ℕ, ◌+◌, ◌*◌, ◌<◌, List, [], length, map, drop, slice_get, get_or, All, ℤ, Option, Some, None, IfSome, refl, sym, ◌∙◌, ap, ap₂, subst, arith}
+use Rattle.std.proofs.Common.{◌≡◌, ℕ, ◌+◌, ◌*◌, List, [], length, map, drop, slice_get, get_or, Option, Some, None, sym, ◌∙◌, ap, subst, arith}
 use Rattle.std.proofs.Math.Nat.{min-zero}
 use Rattle.std.proofs.lemmas.Option.{slice_get_within, get_or_from_slice_get}
 use Rattle.jack_types.specs.declared.kinds.Score.{Score}
 use Rattle.jack_types.specs.declared.replies.Overrun.{Overrun}
 use Rattle.jack_types.specs.declared.replies.Underrun.{Underrun}
-use Rattle.session_model.specs.Benches.{Bench}
 use Rattle.session_model.specs.Courses.{Course, frames_before}
 use Rattle.session_model.specs.Disks.{file_blocks}
 use Rattle.session_model.specs.Driving.{IsDriven}
@@ -20,9 +19,7 @@ use Rattle.record_ring.specs.Rings.{Sending, Getting}
 use Rattle.driver_laws.specs.Drivers.{Driver, Remembered, run, overruns_on, underruns_on, bench_at, memory_in}
 use Rattle.driver_laws.specs.Keeping.{KeepsRing, KeepsDisk, HasTape, played_so_far, Keeps}
 use Rattle.driver_laws.specs.Openings.{IsEmptyRing, IsEmptyDisk, IsNew}
-
-none_below : {n : ℕ} → n < 0 → ⊥
-none_below h = omega (arith, h)
+use Rattle.driver_laws.proofs.PlaceLemmas.{none_below}
 
 KeepsRing-none : (course : Course) (recorder : ℕ) (ring : Sending) → IsEmptyRing course.script.header.ring ring → KeepsRing course 0 recorder ring []
 KeepsRing-none course recorder ring empty = record {

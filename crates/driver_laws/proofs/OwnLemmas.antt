@@ -1,27 +1,24 @@
 -- A cycle that played what its driver's own rings, capture and benches say played what each course gives that fits and was kept.
 --     PlaysOnce-own      from the driver's own terms to a course's
 --     played-now      and so the playback's samples
-use Rattle.std.proofs.Common.{◌≡◌, ℕ, suc, ◌+◌, ◌*◌, ◌<◌, ◌==◌, ◌&&◌, Bool, true, false, cond, List, [], ◌∷◌, ◌++◌, length, map, drop, ℤ, Option, Some, None, unwrap_or, Contains, refl, sym, ◌∙◌, ap, ap₂, subst, arith, eq-eqb}
+use Rattle.std.proofs.Common.{◌≡◌, ℕ, suc, ◌+◌, ◌*◌, ◌<◌, ◌==◌, ◌&&◌, Bool, true, cond, List, [], ◌∷◌, ◌++◌, length, map, drop, ℤ, Some, unwrap_or, Contains, refl, sym, ◌∙◌, ap, ap₂, subst, arith, eq-eqb}
 use Rattle.std.specs.List.{list_any}
 use Rattle.std.specs.Str.{bytes_eq}
 use Rattle.std.proofs.lemmas.List.Folds.{list_any-from_Any}
-use Rattle.jack_types.specs.Names.{client_part}
 use Rattle.jack_types.specs.declared.kinds.Kind.{Kind}
 use Rattle.jack_types.specs.declared.kinds.Kind.TheVariants.{Disk}
 use Rattle.jack_types.specs.declared.kinds.Score.{Score}
 use Rattle.jack_types.specs.declared.moments.Moment.{Moment}
-use Rattle.jack_types.specs.declared.ports.Link.{Link}
-use Rattle.jack_types.specs.declared.ports.Mark.TheVariants.{Feedback}
 use Rattle.session_model.specs.Benches.{Bench, Task, node_at, outputs_of, task_of, IsPlan, IsReady}
 use Rattle.session_model.specs.Courses.{Course, turn, graph, period, captured, frames_before, players, is_disk}
 use Rattle.session_model.specs.Cycles.{Signals, Settled, cycle, edges_into, input_of, no_signals, was_there, with_block, player_born}
 use Rattle.session_model.specs.Driving.{kept_from, settled_from, IsDriven}
 use Rattle.session_model.specs.Kinds.{Memory, first}
-use Rattle.session_model.specs.Playback.{played_in, playback_names}
+use Rattle.session_model.specs.Playback.{played_in}
 use Rattle.session_model.specs.Recorders.{block}
 use Rattle.session_model.specs.Samples.{below, interleaved, mix, silence}
 use Rattle.session_model.specs.Scripts.{Script}
-use Rattle.session_model.specs.State.{State, OpenClient, Connection, playback_port, is_system}
+use Rattle.session_model.specs.State.{State, OpenClient, Connection, playback_port}
 use Rattle.session_model.specs.Transport.{moment, row}
 use Rattle.session_laws.proofs.CycleLemmas.{find-contains}
 use Rattle.session_laws.proofs.DrivingLemmas.{cycle-graph, cycle-frames, input_of-is_mixed}
@@ -35,7 +32,7 @@ use Rattle.driver_laws.specs.Playing.{own_course, moment_now, capture_now, settl
 use Rattle.driver_laws.proofs.CaptureLemmas.{channel_of, captured-left}
 use Rattle.driver_laws.proofs.DrivenLemmas.{IsDriven-played}
 use Rattle.driver_laws.proofs.FedLemmas.{fed-now}
-use Rattle.driver_laws.proofs.StepLemmas.{graph-of_row, graph-now, script-same}
+use Rattle.driver_laws.proofs.StepLemmas.{graph-of_row, script-same}
 use Rattle.driver_laws.proofs.TapeLemmas.{IsOneOfEach, block-in}
 use Rattle.driver_laws.proofs.TaskLemmas.{AgreeBack, outputs-plain, outputs-plain_midi, task_of-same}
 use Rattle.driver_laws.proofs.TransportLemmas.{graph-last, period-now, period-last, row-now, moment-now}
@@ -156,7 +153,7 @@ module _ (driver after : Driver) (steps : StepsOnce driver after) (left : List �
       go : (kind : Kind) → (node_at after.nodes n).kind ≡ kind → (memory : Memory) → with_fed (fed_now driver after) kind memory ≡ with_block course (suc (run driver)) kind memory
       go (Disk disk) e memory =
           let active : has_disk (graph_now after) disk ≡ true = plays_disk (graph_now after) (node_at after.nodes n) disk (player n h) e in
-          ap (λ blocks. record memory { fed = blocks }) (sym (fed-now driver after steps course fits keeps own.period disk active (own.full disk active)))
+          ap (λ blocks. record memory { fed = blocks }) (sym (fed-now driver after steps course fits keeps own.period own.full disk active))
       go _ e memory = refl
 
   ready : IsReady course at after.nodes own.links own.before

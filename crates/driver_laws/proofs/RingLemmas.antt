@@ -2,8 +2,7 @@
 --     kept_blocks-next, kept_blocks-lost      one block more that is kept; none where the cycle is an overrun
 --     kept_before-later      an overrun of a later cycle changes no earlier count
 --     KeepsRing-next      what the ring keeps before a cycle it keeps behind
-use Rattle.std.proofs.Common.{◌≡◌, ℕ, suc, ◌+◌, ◌-◌, ◌<◌, ◌≤◌, Bool, true, false, cond, not, ◌&&◌, ◌||◌, ◌==◌, List, [], ◌∷◌, ◌++◌, length, map, filter, count_by, get_or, All, IsTrue, ℤ, refl, sym, ◌∙◌, ap, ap₂, subst, arith, true≢false, ne_eqb, eq-eqb}
-use Rattle.std.specs.List.{list_any}
+use Rattle.std.proofs.Common.{◌≡◌, ℕ, suc, ◌+◌, ◌-◌, ◌<◌, ◌≤◌, Bool, true, false, cond, not, ◌&&◌, ◌||◌, ◌==◌, List, [], ◌∷◌, ◌++◌, length, map, filter, count_by, get_or, All, IsTrue, ℤ, refl, sym, ◌∙◌, ap, ap₂, subst, arith, ne_eqb, eq-eqb}
 use Rattle.std.specs.List.Sorted.{IsStrictlyIncreasing, IsNonDecreasing}
 use Rattle.std.proofs.lemmas.List.{map-append, append-nil, length-map}
 use Rattle.std.proofs.lemmas.List.Elements.{All-push, All-map}
@@ -17,11 +16,8 @@ use Rattle.session_model.specs.Samples.{below}
 use Rattle.record_ring.specs.Rings.{Sending, Puts, IsFull}
 use Rattle.driver_laws.specs.Keeping.{is_kept, kept_blocks, IsLoss, KeepsRing}
 use Rattle.driver_laws.specs.Cycling.{PutsOne, Idle, Went, Lacked}
+use Rattle.driver_laws.proofs.PlaceLemmas.{or_false, or_true}
 use Rattle.driver_laws.proofs.NumberLemmas.{IsStrictlyIncreasing-push, IsNonDecreasing-push, filter-below_next, filter-below_same}
-
-pub or_false : (b : Bool) → (b || false) ≡ b
-or_false true = refl
-or_false false = refl
 
 -- ---- overruns of earlier and of later cycles
 
@@ -42,10 +38,6 @@ lost_there losses overrun k same =
     list_any-append (λ (o : Overrun). o.cycle == k) losses (overrun ∷ [])
     ∙ ap (λ b. is_lost losses k || (b || false)) (eq-eqb overrun.cycle k same)
     ∙ or_true (is_lost losses k)
-  where
-    or_true : (b : Bool) → (b || (true || false)) ≡ true
-    or_true true = refl
-    or_true false = refl
 
 module _ (course : Course) (recorder : ℕ) where
   -- the block of cycle i + 1

@@ -13,7 +13,6 @@ use Rattle.driver_laws.specs.Keeping.{kept_blocks}
 use Rattle.driver_laws.specs.Segments.{cycles_before}
 use Rattle.driver_laws.proofs.RingLemmas.{kept_blocks-counted}
 
-
 abbrev pub cycles_in : List Phase → ℕ
 cycles_in phs = sum_by (λ (p : Phase). p.cycles) phs
 

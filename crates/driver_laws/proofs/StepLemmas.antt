@@ -3,43 +3,29 @@
 --     graph-of_row      the graph of the cycle is that of the content that its row took
 --     Keeps-next      from the facts of one cycle
 --     KeepsBut-next      where the playback failed
-use Rattle.std.proofs.Common.{◌≡◌, ℕ, zero, suc, ◌+◌, ◌*◌, ◌<◌, ◌≤◌, Bool, true, false, List, [], ◌∷◌, ◌++◌, length, map, take, drop, slice_get, ℤ, Option, Some, None, option_map, refl, sym, ◌∙◌, ap, ap₂, subst, arith}
+use Rattle.std.proofs.Common.{◌≡◌, ℕ, suc, ◌+◌, ◌*◌, Bool, true, false, List, [], ◌∷◌, ◌++◌, length, map, take, drop, slice_get, Some, None, Option, option_map, refl, sym, ◌∙◌, ap, subst, arith}
 use Rattle.std.proofs.lemmas.List.{length_push, length-map}
 use Rattle.std.proofs.lemmas.Option.{slice_get_within}
 use Rattle.session_model.specs.Benches.{IsPlan}
-use Rattle.session_model.specs.Courses.{Course, turn, graph, number, frames_before, is_disk_active}
+use Rattle.session_model.specs.Courses.{Course, turn, graph, number, frames_before}
 use Rattle.session_model.specs.Cycles.{player_born}
 use Rattle.session_model.specs.Driving.{IsDriven}
 use Rattle.session_model.specs.Playback.{played_in}
-use Rattle.session_model.specs.Recorders.{is_taping}
 use Rattle.session_model.specs.Samples.{below}
 use Rattle.session_model.specs.Scripts.{Script}
-use Rattle.session_model.specs.State.{State}
 use Rattle.session_model.specs.Transport.{moment, row}
 use Rattle.graph_word.specs.declared.view.TakenRow.{TakenRow}
 use Rattle.graph_word.specs.Publications.{Reading}
 use Rattle.record_ring.specs.Rings.{Sending, Getting}
+use Rattle.wave_write.specs.Tapes.{Tape}
 use Rattle.driver_laws.specs.Drivers.{Driver, run, turn_of, frames_read, graph_of, last_content, content_now, graph_now, has_tape, has_disk, overruns_on, underruns_on, bench_at, memory_in, block_in}
-use Rattle.driver_laws.specs.Keeping.{Fits, Keeps, KeepsRing, KeepsRings, KeepsDisk, HasTape, HasTapeFront, played_so_far}
+use Rattle.driver_laws.specs.Keeping.{Fits, Keeps, KeepsRing, KeepsDisk, HasTape, HasTapeFront, played_so_far}
 use Rattle.driver_laws.specs.Cycling.{StepsOnce, PlaysOnce, WritesOnce, Written, WrittenFront, KeepsBut}
+use Rattle.driver_laws.proofs.PlaceLemmas.{there_too, last_of}
 use Rattle.driver_laws.proofs.RingLemmas.{KeepsRing-next}
 use Rattle.driver_laws.proofs.DiskLemmas.{KeepsDisk-next}
 use Rattle.driver_laws.proofs.DrivenLemmas.{IsDriven-played}
 use Rattle.driver_laws.proofs.FrameLemmas.{left-next, played_so_far-run, played_so_far-freewheel, moments-next}
-
-pub none-some : {X : Type 0} (x : X) → None ≡ Some x → ⊥
-none-some x e = cc
-
--- a place that is there in a list of the same length
-pub there_too : {X Y : Type 0} (xs : List X) (ys : List Y) (k : ℕ) (x : X) → length ys ≡ length xs → slice_get xs k ≡ Some x → (y : Y) × (slice_get ys k ≡ Some y)
-there_too [] ys k x l e = absurd (none-some x e)
-there_too (z ∷ xs) [] k x l e = absurd (omega (arith, l))
-there_too (z ∷ xs) (y ∷ ys) zero x l e = (y, refl)
-there_too (z ∷ xs) (y ∷ ys) (suc k) x l e = there_too xs ys k x (omega (arith, l)) e
-
-last_of : {X : Type 0} (xs : List X) (x : X) → slice_get (xs ++ x ∷ []) (length xs) ≡ Some x
-last_of [] x = refl
-last_of (y ∷ xs) x = last_of xs x
 
 last_content-push : (rows : List TakenRow) (taken : TakenRow) → last_content (rows ++ taken ∷ []) ≡ taken.changes
 last_content-push [] taken = refl
@@ -145,31 +131,29 @@ module _ (driver after : Driver) (steps : StepsOnce driver after) where
               (subst (λ playback. HasTape playback (played_so_far course (run driver))) (sym (writes.unwritten (sym freewheel_is ∙ e))) keeps.playback)
           go false e = subst (HasTape after.playback) (sym (played_so_far-run course (run driver) e)) (written (sym freewheel_is ∙ e) (played_so_far course (run driver)) keeps.playback)
 
-      -- the rings are the course's
-      pub KeepsRings-next : KeepsRings after course
-      KeepsRings-next recorder ring here = subst (λ n. KeepsRing course n recorder ring (overruns_on after.overruns recorder)) (sym ran) (ring_kept recorder ring here)
-
-      -- what it keeps before a cycle it keeps behind
-      pub Keeps-next : WritesOnce driver after → Written driver after (played_in course (run driver + 1)) → Keeps after course
-      Keeps-next writes written =
+      -- all but the playback is kept, and the playback where it is
+      keeps_with : (playback : Option Tape) → HasTape playback (played_so_far course (run after)) → Keeps (record after { playback = playback }) course
+      keeps_with playback has =
           let back : suc (run driver) ≡ run after = sym ran in
           record {
             moments = subst (λ n. after.moments ≡ map (λ i. moment course (i + 1)) (below n)) back moments_kept;
             transport = plays.transport ∙ ap (row course) (sym next ∙ back);
-            rings = KeepsRings-next;
+            rings = λ recorder ring here. subst (λ n. KeepsRing course n recorder ring (overruns_on after.overruns recorder)) back (ring_kept recorder ring here);
             disks = λ disk got here. subst (λ n. KeepsDisk course n disk got (underruns_on after.underruns disk)) back (disk_kept disk got here);
             left = subst (λ n. after.left ≡ Some (drop (frames_before course (n + 1) * course.script.header.capture) course.capture)) back left_kept;
-            playback = subst (λ n. HasTape after.playback (played_so_far course n)) back (playback_kept writes written);
+            playback = has;
             driven = subst (λ n. IsDriven course n after.nodes (bench_at after) (memory_in after)) back driven_kept;
           }
+
+      -- what it keeps before a cycle it keeps behind
+      pub Keeps-next : WritesOnce driver after → Written driver after (played_in course (run driver + 1)) → Keeps after course
+      Keeps-next writes written = keeps_with after.playback (subst (λ n. HasTape after.playback (played_so_far course n)) (sym ran) (playback_kept writes written))
 
       -- and where the playback failed, all but that
       pub KeepsBut-next : WrittenFront driver after (played_in course (run driver + 1)) → KeepsBut after course
       KeepsBut-next written = record {
-        rings = KeepsRings-next;
-        front =
-            let back : suc (run driver) ≡ run after = sym ran in
-            subst (λ n. HasTapeFront after.playback (played_so_far course n)) back
+        rest = keeps_with None tt;
+        front = subst (λ n. HasTapeFront after.playback (played_so_far course n)) (sym ran)
             (subst (HasTapeFront after.playback) (sym (played_so_far-run course (run driver) (freewheel_is ∙ written.in_run)))
             (written.front (played_so_far course (run driver)) keeps.playback));
       }

@@ -1,6 +1,6 @@
 -- A recorder's block, read from the bench of the client that records on it.
 --     block-in      behind a cycle of the crew
-use Rattle.std.proofs.Common.{◌≡◌, ℕ, suc, ◌+◌, ◌<◌, Bool, true, false, ◌==◌, List, [], length, map, find, position, get_or, slice_index_or, Contains, ℤ, Option, Some, None, is_some, refl, sym, ◌∙◌, ap, ap₂, subst, arith, true≢false, eqb-true, eq-eqb}
+use Rattle.std.proofs.Common.{◌≡◌, ℕ, suc, ◌<◌, Bool, true, List, [], length, map, find, position, slice_index_or, Contains, Option, Some, None, is_some, refl, sym, ◌∙◌, ap, ap₂, true≢false, eqb-true, eq-eqb}
 use Rattle.std.specs.List.{position_or_len}
 use Rattle.std.specs.Option.{option_map_or}
 use Rattle.std.specs.Str.{bytes_eq}
@@ -8,15 +8,15 @@ use Rattle.jack_types.specs.Recorders.{no_format}
 use Rattle.jack_types.specs.declared.kinds.Kind.{Kind}
 use Rattle.jack_types.specs.declared.kinds.Kind.TheVariants.{Tape}
 use Rattle.jack_types.specs.declared.ports.Link.{Link}
-use Rattle.session_model.specs.Benches.{Bench, node_at, IsPlan}
+use Rattle.session_model.specs.Benches.{node_at, IsPlan}
 use Rattle.session_model.specs.Commands.{shares}
 use Rattle.session_model.specs.Courses.{Course, graph, period, players}
 use Rattle.session_model.specs.Driving.{IsDriven}
-use Rattle.session_model.specs.Kinds.{Memory, input_at}
-use Rattle.session_model.specs.Recorders.{block, is_tape, recorder_format, taping}
+use Rattle.session_model.specs.Kinds.{input_at}
+use Rattle.session_model.specs.Recorders.{block, is_tape, taping}
 use Rattle.session_model.specs.Samples.{below, interleaved}
 use Rattle.session_model.specs.Scripts.{Script}
-use Rattle.session_model.specs.State.{State, OpenClient, is_system, system_client}
+use Rattle.session_model.specs.State.{State, OpenClient, system_client}
 use Rattle.session_laws.proofs.CycleLemmas.{find-passes, find-contains}
 use Rattle.session_laws.proofs.DrivingLemmas.{block-is_got}
 use Rattle.session_laws.proofs.PlaceLemmas.{position-passes, position-found, filter-contains}

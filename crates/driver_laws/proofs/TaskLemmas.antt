@@ -1,7 +1,7 @@
 -- What a bench's task reads of what is settled: of the earlier outputs only those that feedback edges bring.
 --     outputs-plain      what an output port of a client gives rests on graph and period alone
 --     task_of-same      tasks over outputs that agree at feedback edges are the same
-use Rattle.std.proofs.Common.{◌≡◌, ℕ, false, cond, List, [], map, ℤ, Option, Contains, refl, sym, ◌∙◌, ap, ap₂}
+use Rattle.std.proofs.Common.{◌≡◌, ℕ, false, cond, List, [], map, ℤ, Contains, refl, sym, ◌∙◌, ap, ap₂}
 use Rattle.std.specs.Option.{option_map_or}
 use Rattle.std.specs.Str.{bytes_eq}
 use Rattle.jack_types.specs.Names.{client_part}
@@ -9,7 +9,7 @@ use Rattle.jack_types.specs.declared.events.Event.{Event}
 use Rattle.jack_types.specs.declared.ports.Link.{Link}
 use Rattle.jack_types.specs.declared.ports.Mark.{Mark}
 use Rattle.jack_types.specs.declared.ports.Mark.TheVariants.{Direct, Feedback}
-use Rattle.session_model.specs.Benches.{Bench, Part, Known, Task, task_of, audio_part_of, midi_part_of, marked_part, fixed_audio, fixed_midi, node_at, place_in, outputs_of}
+use Rattle.session_model.specs.Benches.{Bench, Known, task_of, audio_part_of, midi_part_of, marked_part, fixed_audio, fixed_midi, node_at, place_in, outputs_of}
 use Rattle.session_model.specs.Courses.{Course}
 use Rattle.session_model.specs.Cycles.{Signals, Settled, edges_into, audio_inputs, midi_inputs, audio_outputs, midi_outputs, at_port, captured_at}
 use Rattle.session_model.specs.Kinds.{Memory}

@@ -2,17 +2,17 @@
 --     graph-last, number-last      the graph and the number of the cycle before
 --     adopted-now      the changes that the cycle adopts
 --     row-now, moment-now      its row, and what it shows
-use Rattle.std.proofs.Common.{◌≡◌, ℕ, zero, suc, ◌+◌, ◌-◌, ◌<◌, List, [], ◌∷◌, ◌++◌, length, take, drop, slice_get, slice_index, slice_index_or, get_or, Some, refl, sym, ◌∙◌, ap, ap₂, subst, arith}
+use Rattle.std.proofs.Common.{◌≡◌, ℕ, zero, suc, ◌+◌, ◌-◌, List, [], ◌∷◌, length, take, drop, slice_get, slice_index, slice_index_or, get_or, Some, refl, sym, ◌∙◌, ap, ap₂, arith}
 use Rattle.std.proofs.Math.Seq.{take-nil}
 use Rattle.std.proofs.lemmas.List.{get_or-take}
 use Rattle.jack_types.specs.declared.commands.Change.{Change}
-use Rattle.session_model.specs.Courses.{Course, turn, period, graph, number, adopted}
+use Rattle.session_model.specs.Courses.{Course, period, graph, number, adopted}
 use Rattle.session_model.specs.Scripts.{Script}
 use Rattle.session_model.specs.State.{State}
 use Rattle.session_model.specs.Transport.{Row, row, moment, next_row, shown, slow_numbers, timeout_of, active_master}
 use Rattle.graph_word.specs.declared.view.TakenRow.{TakenRow}
 use Rattle.driver_laws.specs.Drivers.{Driver, run, turn_of, graph_of, last_content, content_now, graph_now}
-use Rattle.driver_laws.specs.Keeping.{Fits, Keeps}
+use Rattle.driver_laws.specs.Keeping.{Fits}
 use Rattle.driver_laws.specs.Cycling.{StepsOnce}
 use Rattle.driver_laws.specs.Playing.{last_number, adopted_now, moment_now}
 use Rattle.driver_laws.proofs.StepLemmas.{rows_before, content-taken, row_there, graph-of_row, graph-now, script-same}

@@ -7,7 +7,7 @@
 --     CyclesOnce, CyclesMany      one cycle, and many
 --     FailsAtRead, FailsAtWrite      a cycle that failed
 --     HasMetOthers driver after      its lent ends met others
-use Rattle.std.specs.Prelude.{◌≡◌, ℕ, zero, suc, ◌+◌, ◌*◌, ◌≤◌, ◌<◌, Bool, true, false, List, [], ◌∷◌, ◌++◌, length, drop, slice_get, All, ℤ, IfSome, Option, Some, None, option_map}
+use Rattle.std.specs.Prelude.{◌≡◌, ℕ, zero, suc, ◌+◌, ◌*◌, ◌≤◌, ◌<◌, Bool, true, false, List, [], ◌∷◌, ◌++◌, length, drop, slice_get, All, ℤ, Some, None, option_map}
 use Rattle.jack_types.specs.declared.ports.Link.{Link}
 use Rattle.jack_types.specs.declared.replies.Overrun.{Overrun}
 use Rattle.jack_types.specs.declared.replies.Underrun.{Underrun}
@@ -25,8 +25,9 @@ use Rattle.record_ring.specs.Rings.{Sending, Getting, Puts, IsFull, Gets}
 use Rattle.record_ring.specs.declared.consumer.Got.TheVariants.{Block, Empty, Ended}
 use Rattle.wave_write.specs.Tapes.{Tape, SameFile}
 use Rattle.driver_laws.specs.Drivers.{Driver, run, turn_of, frames_read, graph_now, has_tape, has_disk, overruns_on, underruns_on, bench_at, memory_in, block_in, HasOwnRows, HasOwnRings, HasPlayback}
-use Rattle.driver_laws.specs.Keeping.{Fits, Keeps, KeepsRings, HasTape, HasTapeFront, played_so_far}
+use Rattle.driver_laws.specs.Keeping.{Fits, Keeps, HasTape, HasTapeFront, played_so_far}
 
+-- the next cycle is there and of this kind, its period is set, a playback is attached, nothing failed, and rows and rings are as the driver's own cycles left them, without an end
 pub record MayCycle (driver : Driver) (freewheel : Bool) : Type 0 where
   pub playback : HasPlayback driver
   pub sound : driver.failed ≡ false
@@ -120,7 +121,7 @@ CyclesMany (suc n) driver after = (between : Driver) × CyclesMany n driver betw
 
 -- all but the playback is what the course gives, and the playback has a front of it
 pub record KeepsBut (driver : Driver) (course : Course) : Type 0 where
-  pub rings : KeepsRings driver course
+  pub rest : Keeps (record driver { playback = None }) course
   pub front : HasTapeFront driver.playback (played_so_far course (run driver))
 
 -- a cycle that failed at the capture took its row, and put, got and wrote nothing
@@ -145,6 +146,7 @@ pub record RingStays (before after : Sending) : Type 0 where
   pub capacity : after.capacity ≡ before.capacity
   pub least : before.least ≤ after.least
 
+-- a disk's ring whose ends met: the same blocks, and its end found or not
 pub record DiskStays (before after : Getting) : Type 0 where
   pub got : after.got ≡ before.got
   pub done : after.done ≡ before.done

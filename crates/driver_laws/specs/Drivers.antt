@@ -80,24 +80,27 @@ last_content [] = []
 last_content (taken ∷ []) = taken.changes
 last_content (taken ∷ next ∷ rows) = last_content (next ∷ rows)
 
--- the changes of the last cycle, and the graph that they make
+-- all changes that the last cycle had
 abbrev pub content_now : Driver → List Change
 content_now driver = last_content driver.reading.rows
 
+-- the graph of the last cycle
 abbrev pub graph_now : Driver → State
 graph_now driver = graph_of driver.script (content_now driver)
 
--- whether an active client records on the recorder, or plays the disk's file
+-- whether an active client records on the recorder
 abbrev pub has_tape : State → ℕ → Bool
 has_tape state recorder = is_some (find (λ client. is_tape recorder client.kind) (players state))
 
+-- whether an active client plays the disk's file
 abbrev pub has_disk : State → ℕ → Bool
 has_disk state disk = list_any (λ client. is_disk disk client.kind) (players state)
 
--- the overruns of one recorder, and the underruns of one disk
+-- the overruns of one recorder
 abbrev pub overruns_on : List Overrun → ℕ → List Overrun
 overruns_on overruns recorder = filter (λ (overrun : Overrun). overrun.recorder == recorder) overruns
 
+-- the underruns of one disk
 abbrev pub underruns_on : List Underrun → ℕ → List Underrun
 underruns_on underruns disk = filter (λ (underrun : Underrun). underrun.disk == disk) underruns
 
@@ -109,10 +112,11 @@ bench_at driver n = slice_index_or driver.benches n no_bench
 abbrev pub memory_in : Driver → ℕ → Option Memory
 memory_in driver birth = option_map (λ (kept : Remembered). kept.memory) (find (λ (kept : Remembered). kept.birth == birth) driver.memories)
 
--- its peak, and its log
+-- its peak, 0 where it was never active
 abbrev pub peak_in : Driver → ℕ → ℕ
 peak_in driver birth = option_map_or (λ memory. memory.peak) (memory_in driver birth) 0
 
+-- its log, empty where it was never active
 abbrev pub log_in : Driver → ℕ → List Logged
 log_in driver birth = option_map_or (λ memory. memory.log) (memory_in driver birth) []
 

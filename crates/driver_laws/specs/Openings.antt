@@ -1,6 +1,6 @@
 -- A driver before its first cycle.
 --     IsNew script scores driver      nothing was taken, put, got or played
-use Rattle.std.specs.Prelude.{◌≡◌, ℕ, false, List, [], length, map, All, None, Option}
+use Rattle.std.specs.Prelude.{◌≡◌, ℕ, false, List, [], length, map, All, None}
 use Rattle.jack_types.specs.declared.kinds.Score.{Score}
 use Rattle.session_model.specs.Scripts.{Script}
 use Rattle.session_model.specs.Transport.{first_row}

@@ -2,7 +2,7 @@
 --     settled_now driver after left      what is settled before the cycle's clients play
 --     played_now driver after left      what the playback gets
 --     PlaysOwn driver after left      the cycle played so
-use Rattle.std.specs.Prelude.{◌≡◌, ℕ, ◌+◌, ◌*◌, ◌<◌, ◌==◌, Bool, true, false, List, [], ◌∷◌, ◌++◌, length, map, drop, slice_get, slice_index, slice_index_or, ℤ, Option, Some, None, unwrap_or, Contains, if◌then◌else◌}
+use Rattle.std.specs.Prelude.{◌≡◌, ℕ, ◌+◌, ◌*◌, ◌<◌, ◌==◌, Bool, List, [], ◌∷◌, ◌++◌, length, map, drop, slice_get, slice_index, slice_index_or, ℤ, Option, Some, None, unwrap_or, if◌then◌else◌}
 use Rattle.std.specs.List.{list_any}
 use Rattle.std.specs.Option.{option_map_or}
 use Rattle.jack_types.specs.declared.commands.Change.{Change}
@@ -13,18 +13,17 @@ use Rattle.jack_types.specs.declared.ports.Link.{Link}
 use Rattle.jack_types.specs.declared.replies.Underrun.{Underrun}
 use Rattle.session_model.specs.Activation.{sequential}
 use Rattle.session_model.specs.Benches.{Bench, bench_after, bench_gives, node_at, outputs_of, IsPlan, IsReady}
-use Rattle.session_model.specs.Courses.{Course, players}
+use Rattle.session_model.specs.Courses.{Course}
 use Rattle.session_model.specs.Cycles.{Signals, Settled, edges_into, no_signals, player_born}
 use Rattle.session_model.specs.Driving.{kept_from}
 use Rattle.session_model.specs.Kinds.{Memory, first}
-use Rattle.session_model.specs.Recorders.{is_tape}
 use Rattle.session_model.specs.Rings.{RingBlock}
 use Rattle.session_model.specs.Samples.{below, interleaved, mix, sample, silence}
-use Rattle.session_model.specs.State.{State, OpenClient, Connection, playback_port}
+use Rattle.session_model.specs.State.{Connection, playback_port}
 use Rattle.session_model.specs.Transport.{next_row, shown, slow_numbers, timeout_of, active_master}
 use Rattle.record_ring.specs.Rings.{Getting}
 use Rattle.client_kinds.specs.Buffers.{channels_of}
-use Rattle.driver_laws.specs.Drivers.{Driver, run, turn_of, content_now, graph_now, has_disk, underruns_on, bench_at, memory_in}
+use Rattle.driver_laws.specs.Drivers.{Driver, run, turn_of, content_now, graph_now, underruns_on, bench_at, memory_in}
 
 -- a course of the driver's script and scores, for what reads nothing else of a course
 abbrev pub own_course : Driver → Course
@@ -68,6 +67,7 @@ abbrev pub samples_got : Option Getting → Option Getting → List ℤ
 samples_got (Some before) (Some after) = option_map_or (λ (one : RingBlock). one.samples) (slice_get after.got (length before.got)) []
 samples_got _ _ = []
 
+-- whether the cycle was an underrun of the disk
 abbrev pub is_missed : Driver → Driver → ℕ → Bool
 is_missed driver after disk = list_any (λ (underrun : Underrun). underrun.cycle == run driver + 1) (underruns_on after.underruns disk)
 
@@ -77,6 +77,7 @@ fed_now driver after disk =
     if is_missed driver after disk then []
     else channels_of (slice_index_or driver.script.header.disks disk 0) driver.set (samples_got (slice_get driver.disks disk) (slice_get after.disks disk))
 
+-- a disk's player is given its block, and no other client is
 abbrev pub with_fed : (ℕ → List (List ℤ)) → Kind → Memory → Memory
 with_fed fed (Disk disk) memory = record memory { fed = fed disk }
 with_fed fed _ memory = memory
@@ -101,10 +102,10 @@ mixed_now driver after left port =
 abbrev pub played_now : Driver → Driver → List ℤ → List ℤ
 played_now driver after left = interleaved driver.set (map (mixed_now driver after left) (map (λ i. (playback_port i).name) (below driver.script.header.playback)))
 
--- a cycle over so many samples left: the period set is the cycle's, and a disk's player has the script's first one; one step of the transport; the benches of a plan of this graph, each ready before, and then what the machine's recursion makes of it, with the memories of all that played
+-- a cycle over so many samples left: the period set is the cycle's, and where there is a disk the script's first one; one step of the transport; the benches of a plan of this graph, each ready before, and then what the machine's recursion makes of it, with the memories of all that played
 pub record PlaysOwn (driver after : Driver) (left : List ℤ) : Type 0 where
   pub period : (turn_of driver.script (run driver + 1)).period ≡ driver.set
-  pub full : (disk : ℕ) → has_disk (graph_now after) disk ≡ true → driver.set ≡ driver.script.header.period
+  pub full : (disk : ℕ) → disk < length driver.disks → driver.set ≡ driver.script.header.period
   pub transport : after.transport ≡ next_row driver.transport (adopted_now driver after) (slow_numbers (graph_now after)) (timeout_of (graph_now after) driver.script.header.rate driver.set) driver.set
   pub moments : after.moments ≡ driver.moments ++ moment_now driver after ∷ []
   pub links : List Link

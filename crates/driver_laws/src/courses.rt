@@ -1,11 +1,12 @@
 //! Laws of the courses that a driver fits and keeps, from its opening on.
 
-ghost use Rattle.std.specs.Prelude.{◌≡◌, ℕ, List, Some};
+ghost use Rattle.std.specs.Prelude.{◌≡◌, ◌+◌, ◌<◌, ℕ, List, Some, length};
 ghost use Rattle.jack_types.specs.declared.kinds.Score.{Score as ScoreValue};
 ghost use Rattle.session_model.specs.Courses.{Course};
-ghost use Rattle.session_model.specs.Scripts.{Script};
-ghost use Rattle.driver_laws.specs.Cycling.{CyclesMany, HasMetOthers, StepsOnce};
-ghost use Rattle.driver_laws.specs.Drivers.{Driver};
+ghost use Rattle.session_model.specs.Grammar.{IsScript};
+ghost use Rattle.session_model.specs.Scripts.{Script, turns};
+ghost use Rattle.driver_laws.specs.Cycling.{CyclesMany, FailsAtRead, HasMetOthers, StepsOnce};
+ghost use Rattle.driver_laws.specs.Drivers.{Driver, turn_of};
 ghost use Rattle.driver_laws.specs.Keeping.{Fits, Keeps};
 ghost use Rattle.driver_laws.specs.Openings.{IsNew};
 
@@ -15,9 +16,10 @@ pub fn a_new_driver_keeps()
         → (course : Course) → course.script ≡ script → driver.left ≡ Some course.capture → Keeps driver course }
 {}
 
-/// A course that fits behind a cycle fits before it.
+/// A course that fits behind a cycle fits before it, also where the cycle failed at the capture.
 pub fn what_fits_behind_fits_before()
-    ensures { (driver after : Driver) (course : Course) → StepsOnce driver after → Fits after course → Fits driver course }
+    ensures whole { (driver after : Driver) (course : Course) → StepsOnce driver after → Fits after course → Fits driver course }
+    ensures failed { (driver after : Driver) (course : Course) → FailsAtRead driver after → Fits after course → Fits driver course }
 {}
 
 /// What is kept before the first of many cycles is kept behind the last.
@@ -29,4 +31,9 @@ pub fn many_cycles_keep()
 pub fn a_meeting_changes_nothing()
     ensures fits { (driver after : Driver) (course : Course) → HasMetOthers driver after → Fits after course → Fits driver course }
     ensures keeps { (driver after : Driver) (course : Course) → HasMetOthers driver after → Keeps driver course → Keeps after course }
+{}
+
+/// Every cycle of a script with disks has the script's first period, so a block that was got is of the cycle's period.
+pub fn a_script_with_disks_keeps_its_period()
+    ensures { (script : Script) → IsScript script → 0 < length script.header.disks → (k : ℕ) → k < length (turns script) → (turn_of script (k + 1)).period ≡ script.header.period }
 {}

@@ -4,12 +4,15 @@
 --     delays-short, ports-few      the numbers are small
 --     told-at, told-none      the range at the place of a name
 --     reply-told, reply-no_port, after-told      a question for a latency
-use Rattle.std.proofs.Common.{◌≡◌, ℕ, ◌<◌, ◌≤◌, Bool, true, false, cond, ◌==◌, List, [], ◌∷◌, length, map, find, position, get_or, slice_get, take, All, Option, Some, None, is_none, Contains, refl, sym, ◌∙◌, ap, ap₂, subst, arith, true≢false, eq-eqb, eqb-true}
+use Rattle.std.proofs.Common.{◌≡◌, ℕ, ◌<◌, ◌≤◌, Bool, true, false, cond, ◌==◌, List, [], ◌∷◌, length, map, find, position, get_or, slice_get, take, All, Option, Some, None, is_none, Contains, refl, sym, ◌∙◌, ap, ap₂, subst, arith, true≢false, eq-eqb, eqb-true, ne_eqb, eqb, ◌⊎◌, inl, inr}
 use Rattle.std.specs.Option.{option_map, option_map_or}
+use Rattle.std.specs.List.{AllByRecursion, IsDistinct, list_any}
 use Rattle.std.specs.Str.{bytes_eq}
+use Rattle.std.proofs.lemmas.Map.Steps.{length-le_from_distinct_below}
 use Rattle.std.proofs.lemmas.List.{get_or-map, get_or-take}
 use Rattle.std.proofs.lemmas.List.Elements.{All-cons, All-head, All-tail}
 use Rattle.std.proofs.lemmas.Option.{get_or_from_slice_get, slice_get_within}
+use lib.ListN.{length-map}
 use lib.Pointwise.{bytes_decides}
 use Rattle.jack_types.specs.Names.{client_part}
 use Rattle.jack_types.specs.declared.commands.Command.TheVariants.{Latency}
@@ -29,16 +32,16 @@ use Rattle.session_model.specs.Commands.{after, refusal}
 use Rattle.session_model.specs.Ids.{delay_at, open_port, same_id_node, way_of}
 use Rattle.session_model.specs.Latencies.{delay_in, delay_of_kind, latency, no_range}
 use Rattle.session_model.specs.Replies.{reply, reply_by}
+use Rattle.session_model.specs.Soundness.{Apart}
 use Rattle.session_model.specs.State.{OpenClient, OpenPort, State, is_system, port_named}
 use Rattle.session_laws.proofs.CycleLemmas.{bytes_same}
-use Rattle.session_laws.proofs.ListLemmas.{Each, Each-from_contains}
+use Rattle.session_laws.proofs.LoopLemmas.{Contains-first, Contains-later, or_cases}
 use Rattle.session_laws.proofs.PlanLemmas.{find-one}
 use Rattle.session_laws.proofs.SoundLemmas.{Apart-same}
 use Rattle.port_registry.proofs.FilterLemmas.{find-map_after}
 use Rattle.port_registry.proofs.PlaceLemmas.{position-at, position-at-some, position-find, position-find_none}
 use Rattle.port_registry.specs.Registered.{IsPlaced, IsRegistered, Registered, has_name, is_named, node_for, open_client, system_node}
 use Rattle.latency_ranges.specs.Graphs.{IsGraph, IsStateOf, is_device, latencies_in}
-use Rattle.latency_ranges.proofs.PortLemmas.{length-below}
 use Rattle.cycle_plan.specs.Graphs.{IsNetwork, Network, state_of}
 use Rattle.cycle_plan.proofs.NetworkLemmas.{client_named-is, same_node-placed}
 use Rattle.graph_replies.specs.Told.{delay_of, latency_told}
@@ -47,6 +50,28 @@ node-device : (s : Bool) (w : Way) (node : Node) → is_device node ≡ false �
 node-device true In node h = refl
 node-device true Out node h = refl
 node-device false w node h = h
+
+-- ---- ids of ports
+
+abbrev id_of : Port → ℕ
+id_of port = port.id.0
+
+distinct-ids : (ports : List Port) → Apart id_of ports → IsDistinct eqb (map id_of ports)
+unfolding IsDistinct
+distinct-ids [] h = tt
+distinct-ids (port ∷ ports) h = (others ports (λ other m. h.0 other m), distinct-ids ports h.1)
+  where
+    others : (ps : List Port) → ((other : Port) → Contains ps other → port.id.0 ≡ other.id.0 → ⊥) → AllByRecursion (λ n. eqb port.id.0 n ≡ false) (map id_of ps)
+    others [] f = tt
+    others (p ∷ ps) f = (ne_eqb port.id.0 p.id.0 (f p (Contains-first p ps)), others ps (λ other m. f other (Contains-later p other ps m)))
+
+ids-below : (ports : List Port) → ((port : Port) → Contains ports port → port.id.0 < 2064) → (q : ℕ) → list_any (eqb q) (map id_of ports) ≡ true → q < 2064
+ids-below [] f q e = absurd (true≢false (sym e))
+ids-below (port ∷ ports) f q e = go (or_cases (eqb q port.id.0) (list_any (eqb q) (map id_of ports)) e) (λ t. ids-below ports (λ other m. f other (Contains-later port other ports m)) q t)
+  where
+    go : (eqb q port.id.0 ≡ true) ⊎ (list_any (eqb q) (map id_of ports) ≡ true) → (list_any (eqb q) (map id_of ports) ≡ true → q < 2064) → q < 2064
+    go (inl t) rest = subst (λ n. n < 2064) (sym (eqb-true q port.id.0 t)) (f port (Contains-first port ports))
+    go (inr t) rest = rest t
 
 module _ (network : Network) (is : IsNetwork network) where
   devices : (port : Port) → Contains network.held.ports port → is_device port.node ≡ is_system (client_part port.name)
@@ -113,7 +138,10 @@ module _ (network : Network) (is : IsNetwork network) where
   IsStateOf-network ports edges delays p q e = subst (λ ps. IsStateOf (state_of network) ps edges delays) (sym p) (subst (λ es. IsStateOf (state_of network) network.held.ports es delays) (sym q) (state-here delays e))
 
   pub ports-few : length network.held.ports ≤ 2064
-  ports-few = length-below (λ (port : Port). port.id.0) 2064 network.held.ports is.registered.port_ids (Each-from_contains (λ (port : Port). port.id.0 < 2064) network.held.ports (λ port m. is.registered.port_ids_below port m))
+  ports-few =
+      let size : length (map id_of network.held.ports) ≡ length network.held.ports = length-map network.held.ports id_of in
+      let few : length (map id_of network.held.ports) ≤ 2064 = length-le_from_distinct_below (map id_of network.held.ports) 2064 (distinct-ids network.held.ports is.registered.port_ids) (ids-below network.held.ports is.registered.port_ids_below) in
+      omega (arith, size, few)
 
 -- the range at a port's place
 pub told-at : (network : Network) (mode : Mode) (name : List ℕ) (place : ℕ) (table : List Range) (d : Range) → position (is_named name) network.held.ports ≡ Some place

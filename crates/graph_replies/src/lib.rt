@@ -3,8 +3,6 @@
 
 mod latencies;
 mod replies;
-#[cfg(test)]
-mod tests;
 
 pub use latencies::Latencies;
 pub use replies::answer;

@@ -13,12 +13,7 @@ use jack_types::{Command, Refusal, Reply};
 
 /// Answers a command: a change is applied under this number or refused, and a question for a latency is answered by the
 /// graph as it is. It takes no memory.
-pub fn answer(
-    graph: &mut Graph,
-    latencies: &mut Latencies,
-    number: u32,
-    command: &Command,
-) -> Reply
+pub fn answer(graph: &mut Graph, latencies: &mut Latencies, number: u32, command: &Command) -> Reply
     requires tempo { HasTempo command.now }
     requires delays { HasShortDelays (state_of graph.old) }
     ensures reply { result ≡ reply (state_of graph.old) number command.now }

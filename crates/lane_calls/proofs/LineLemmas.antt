@@ -3,7 +3,7 @@
 --     take-next, lane-push      one line more
 --     kept-own, kept-other, kept-none      what is kept of a line's call
 --     room-at, few-at      the numbers at a line are small
-use Rattle.std.proofs.Common.{◌≡◌, ℕ, zero, suc, ◌+◌, ◌*◌, ◌<◌, ◌≤◌, Bool, true, false, cond, ◌==◌, fold, sum_by, count_by, List, [], ◌∷◌, ◌++◌, length, map, filter, take, slice_get, Option, Some, None, refl, sym, ◌∙◌, ap, subst, arith, append_assoc, append-nil, eqb-true, eq-eqb, ne_eqb}
+use Rattle.std.proofs.Common.{◌≡◌, ℕ, zero, suc, ◌+◌, ◌*◌, ◌≤◌, Bool, true, false, cond, ◌==◌, fold, sum_by, count_by, List, [], ◌∷◌, ◌++◌, length, map, filter, take, slice_get, Option, Some, None, refl, sym, ◌∙◌, ap, subst, arith, append_assoc, append-nil, eqb-true, eq-eqb, ne_eqb}
 use Rattle.std.specs.Option.{option_map}
 use Rattle.std.proofs.lemmas.List.Elements.{filter-append}
 use Rattle.std.proofs.lemmas.List.Sums.{fold_push, sum_by-cons, sum_by-take-le}
@@ -11,8 +11,8 @@ use Rattle.jack_types.specs.declared.commands.Command.{Command}
 use Rattle.jack_types.specs.declared.scripts.Body.{Body}
 use Rattle.jack_types.specs.declared.scripts.Body.TheVariants.{Do, Run, Freewheel, Lane, Period}
 use Rattle.jack_types.specs.declared.scripts.Header.{Header}
-use Rattle.session_model.specs.Grammar.{IsScript, IsBody, all_cycles, is_call, is_segment, open_segment, segment_after}
-use Rattle.session_model.specs.Scripts.{Script, Phase, LaneCall, Planned, Uncounted, phases_of, planned, planned_of, uncounted, counted, lane_calls, with_do}
+use Rattle.session_model.specs.Grammar.{IsScript, IsBody, is_call, is_segment, open_segment, segment_after}
+use Rattle.session_model.specs.Scripts.{Script, Phase, LaneCall, Planned, Uncounted, phases_of, planned_of, uncounted, counted, lane_calls, with_do}
 use Rattle.session_laws.proofs.GrammarLimits.{all_cycles-append, cycles_in}
 use Rattle.session_laws.proofs.SerialLawfulLemmas.{AreBodies, AreBodies-rest}
 use Rattle.lane_calls.specs.declared.calls.PlannedCall.{PlannedCall}

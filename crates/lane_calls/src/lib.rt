@@ -3,7 +3,5 @@
 
 mod calls;
 mod progress;
-#[cfg(test)]
-mod tests;
 
 pub use calls::{LaneCalls, PlannedCall};

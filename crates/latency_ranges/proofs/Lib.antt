@@ -1,6 +1,6 @@
 mod DepthLemmas
 mod JoinLemmas
-pub mod PortLemmas
+mod PortLemmas
 mod RowLemmas
 mod SweepLemmas
 mod WiringLemmas

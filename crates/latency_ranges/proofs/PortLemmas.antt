@@ -104,7 +104,7 @@ module _ {X : Type 0} (key : X → ℕ) where
           apart y m false f = refl
       go false e rest = omega (arith, rest)
 
-  pub length-below : (n : ℕ) (xs : List X) → Apart key xs → Each (λ x. key x < n) xs → length xs ≤ n
+  length-below : (n : ℕ) (xs : List X) → Apart key xs → Each (λ x. key x < n) xs → length xs ≤ n
   unfolding others
   length-below n [] h below = omega arith
   length-below zero (x ∷ xs) h below = absurd (none below.0)

@@ -1,7 +1,7 @@
 use Rattle.std.proofs.Common.{rules, arith, ◌≡◌, ◌≢◌, ◌<◌, ◌+◌, ◌%◌, ◌^◌, ℕ, Bool, List, true, false, All, replicate, ap, ◌∙◌, sym, subst}
 use Rattle.std.specs.Prelude.{slice_index_or}
 use Rattle.std.proofs.lemmas.List.{get_or-replicate}
-use Rattle.session_model.specs.Activation.{link_at, place_among}
+use Rattle.session_model.specs.Activation.{link_at}
 use Rattle.activation.specs.declared.tests.Counter.{Counter}
 use Rattle.activation.specs.Rule.{has}
 use Rattle.activation.specs.Takens.{IsUnplayed, IsPlayed, with_released}

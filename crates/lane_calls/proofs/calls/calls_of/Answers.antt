@@ -50,7 +50,7 @@ loop-line-preserved c =
     let longer : take i lines ++ line ∷ [] ≡ take (i + 1) lines = take-next lines i line at ∙ ap (λ n. take n lines) (sym (add-one i)) in
     let size : c.len.result ≡ length plans = omega (arith, length-map c.loop-line.calls.items plan_of, c.len.ensures, c.loop-line.calls.ok.0) in
     let here : map plan_of c.match-call.calls.items ≡ kept c.args.lane plans (option_map plan_of c.call_on-call.result) = elim c.match-call.branch [
-        in-Some+then-planned-lane+in_ok-push_item w ↦ kept-own c.args.lane w.in-Some.planned c.loop-line.calls.items c.match-call.calls.items c.call_on-call.result w.in-Some.is w.if-planned-lane.true (ap (λ v. v.items) w.calls-is ∙ w.in_ok-push_item.ensures)
+      | in-Some+then-planned-lane+in_ok-push_item w ↦ kept-own c.args.lane w.in-Some.planned c.loop-line.calls.items c.match-call.calls.items c.call_on-call.result w.in-Some.is w.if-planned-lane.true (ap (λ v. v.items) w.calls-is ∙ w.in_ok-push_item.ensures)
       | in-Some+else-planned-lane w ↦ kept-other c.args.lane w.in-Some.planned c.loop-line.calls.items c.match-call.calls.items c.call_on-call.result w.in-Some.is w.if-planned-lane.false (ap (λ v. v.items) w.calls-is)
       | in_default w ↦ kept-none c.args.lane c.loop-line.calls.items c.match-call.calls.items c.call_on-call.result w.in_default.is (ap (λ v. v.items) w.calls-is)
     ] in

@@ -8,8 +8,8 @@ use Rattle.activation.proofs.Acting.{release_from}
 use Rattle.activation.proofs.Slots.{full_value}
 use Rattle.activation.proofs.crews.Crew.pass_on.Goals as goal
 
-pub fetch_sub-found-requires : goal.fetch_sub-found-requires
-fetch_sub-found-requires g c =
+pub fetch_sub-counter-requires : goal.fetch_sub-counter-requires
+fetch_sub-counter-requires g c =
     let sits = c.requires.seat in
     let link = c.requires.link in
     let v = c.args.seat.now.token.me.0 in

@@ -2,7 +2,7 @@ use Rattle.std.proofs.Common.{arith, ◌≡◌, ◌<◌, List, length, map, sym,
 use mathlib.Core.Option.{some}
 use Rattle.table_lemmas.proofs.Readings.{inside}
 use Rattle.jack_types.specs.declared.ports.Link.{Link}
-use Rattle.session_model.specs.Activation.{AreLinks, incoming, place_among}
+use Rattle.session_model.specs.Activation.{AreLinks, incoming, outgoing, place_among}
 use Rattle.session_model.specs.Samples.{below}
 use Rattle.activation.specs.declared.takens.Seat.{Seat}
 use Rattle.activation.specs.Contents.{benches_in}
@@ -16,20 +16,28 @@ use Rattle.activation.proofs.crews.Crew.reset.Goals as goal
 pub invariant_of-self : goal.invariant_of-self
 invariant_of-self g c =
     let self = c.args.self.now in
-    let index = c.refill.ensures.index in
+    let same = c.refill.ensures.links in
     let room = c.refill.ensures.room in
     let many : length self.into.items ≡ self.nodes = length-mapped (λ into. into.items) self.into.items (incoming self.links.items) self.nodes self.shape.into_are in record {
       shape = record {
         slots = self.shape.slots;
         words = self.shape.words;
-        are = subst (AreLinks self.nodes) (sym index.0) c.requires.links.0;
+        are = subst (AreLinks self.nodes) (sym same) c.requires.links.0;
         few_nodes = self.shape.few_nodes;
-        few_links = omega (arith, ap length index.0, c.requires.links.1);
-        into_are = index.1 ∙ (λ i. map (incoming (sym index.0 i)) (below (many i)));
-        places_are = index.2 ∙ (λ i. map (place_among (sym index.0 i)) (below (length (sym index.0 i))));
+        few_links = omega (arith, ap length same, c.requires.links.1);
+        into_are = c.refill.ensures.into ∙ (λ i. map (incoming (sym same i)) (below (many i)));
+        places_are = c.refill.ensures.places ∙ (λ i. map (place_among (sym same i)) (below (length (sym same i))));
       };
-      roomy = record { some_seat = self.roomy.some_seat; few_seats = self.roomy.few_seats; for_links = room.0; for_into = room.1; for_places = room.2 };
+      outward = (c.refill.ensures.out ∙ (λ i. map (outgoing (sym same i)) (below (many i))), room.2);
+      roomy = record { some_seat = self.roomy.some_seat; few_seats = self.roomy.few_seats; for_links = room.0; for_into = room.1; for_places = room.3 };
     }
+
+pub refill-requires-clause-links : goal.refill-requires-clause-links
+refill-requires-clause-links g c =
+    let self = c.args.self.now in
+    let many : length self.into.items ≡ self.nodes = length-mapped (λ into. into.items) self.into.items (incoming self.links.items) self.nodes self.shape.into_are in
+    let many_out : length self.out.items ≡ self.nodes = length-mapped (λ out. out.items) self.out.items (outgoing self.links.items) self.nodes self.outward.0 in
+    (subst (λ n. AreLinks n c.args.links.now) (sym many) c.requires.links.0, c.requires.links.1, many_out ∙ sym many)
 
 pub deal-requires-clause-token : goal.deal-requires-clause-token
 deal-requires-clause-token g c κs within = (
@@ -43,7 +51,7 @@ returns-clause-seats g c =
     let self = c.args.self.now in
     let from = laid_from self.nodes c.recover-token.result.me.0.shelf.items c.recover-token.ensures.benches in
     let duty = c.restart.ensures.duty in
-    subst (λ ls. AreSeats self.board.shared.table_id ls self.nodes self.seats c.deal.new.seats) (ap (λ d. d.links) duty ∙ c.refill.ensures.index.0)
+    subst (λ ls. AreSeats self.board.shared.table_id ls self.nodes self.seats c.deal.new.seats) (ap (λ d. d.links) duty ∙ c.refill.ensures.links)
     (seats_dealt self.board.shared.table_id c.restart.new.token.me.0.duty.links c.restart.new.token.me.0.duty.before self.nodes self.seats c.deal.new.seats c.deal.ensures.numbers (ap (λ d. length d.before) duty ∙ from.0) c.deal.ensures.each).0
 
 pub returns-clause-fresh : goal.returns-clause-fresh
@@ -55,7 +63,7 @@ returns-clause-fresh g c =
     let duty = c.restart.ensures.duty in (
       benches,
       from.0,
-      subst (λ (z : List Link × List g.row.B.Denot). AreFresh z.0 z.1 self.seats c.deal.new.seats) (λ i. ((ap (λ d. d.links) duty ∙ c.refill.ensures.index.0) i, ap (λ d. d.before) duty i))
+      subst (λ (z : List Link × List g.row.B.Denot). AreFresh z.0 z.1 self.seats c.deal.new.seats) (λ i. ((ap (λ d. d.links) duty ∙ c.refill.ensures.links) i, ap (λ d. d.before) duty i))
           (seats_dealt self.board.shared.table_id c.restart.new.token.me.0.duty.links c.restart.new.token.me.0.duty.before self.nodes self.seats c.deal.new.seats c.deal.ensures.numbers (ap (λ d. length d.before) duty ∙ from.0) c.deal.ensures.each).1,
       (λ before know all n bench e.
           let it = from.1 n bench e in

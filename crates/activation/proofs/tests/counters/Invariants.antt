@@ -1,0 +1,5 @@
+use Rattle.std.proofs.Common.{◌≡◌, ◌≤◌, true, length, replicate, All, vec_capacity}
+use Rattle.activation.proofs.tests.counters.Given as goal
+
+abbrev pub invariant-loop : goal.invariant-loop
+invariant-loop l = (length l.all.items ≡ l.counter) × (4 ≤ vec_capacity l.all) × All (λ b. b.room ≡ replicate 64 true) l.all.items

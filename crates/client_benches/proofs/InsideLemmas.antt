@@ -1,0 +1,106 @@
+-- What stays true of a bench's fields.
+--     sound-lent      behind a guest that is lent
+--     room-carried, sound-carried      with one more route
+--     room-stays, shape-played, sound-played      behind a play
+use Rattle.std.proofs.Common.{◌≡◌, ℕ, zero, suc, ◌<◌, ◌≤◌, ◌*◌, List, [], ◌∷◌, ◌++◌, length, get_or, All, ℤ, IsSome, Option, Some, None, refl, sym, ◌∙◌, ap, subst, arith, true≢false}
+use Rattle.std.specs.Option.{ForSome}
+use Rattle.std.specs.Prelude.{is_some, vec_capacity}
+use Rattle.jack_types.specs.declared.kinds.Kind.{Kind}
+use Rattle.jack_types.specs.declared.kinds.Kind.TheVariants.{Pass, Gain, Mix as MixKind, Delay, Tone, Click, Meter, Tape, Guest, Midiplay, Midithru, Midilog, Disk}
+use Rattle.jack_types.specs.declared.kinds.Score.{Score}
+use Rattle.std.specs.Global.{Vec}
+use Rattle.port_mixer.specs.Sums.{Mix}
+use Rattle.session_model.specs.Benches.{Signal}
+use Rattle.session_model.specs.Kinds.{Memory, first, play}
+use Rattle.client_kinds.specs.Standings.{Standing, HasGuest, HasScore, IsGuest}
+use Rattle.client_benches.specs.declared.benches.Turn.{Turn}
+use Rattle.client_benches.specs.declared.values.Route.{Route}
+use Rattle.client_benches.specs.declared.wires.Wire.{Wire}
+use Rattle.client_benches.specs.Insides.{HasAllRoom, IsPlayedShape, IsSound}
+use Rattle.client_benches.specs.Routes.{HasOutput}
+use Rattle.client_benches.specs.Seen.{MayPlay, own_scores}
+use Rattle.client_benches.proofs.KeptLemmas.{HasScore-own, first-log, play-fed, play-log}
+use Rattle.client_benches.proofs.RouteLemmas.{All-more, length-more}
+
+not-lent : (kind : Kind) (score : Option Score) → IsGuest kind → score ≡ None → HasGuest kind score → ⊥
+not-lent Pass score is e there = is
+not-lent (Gain factor shift) score is e there = is
+not-lent MixKind score is e there = is
+not-lent (Delay frames) score is e there = is
+not-lent (Tone half level) score is e there = is
+not-lent (Click level) score is e there = is
+not-lent Meter score is e there = is
+not-lent (Tape recorder) score is e there = is
+not-lent (Midiplay list) score is e there = is
+not-lent Midithru score is e there = is
+not-lent Midilog score is e there = is
+not-lent (Disk disk) score is e there = is
+not-lent (Guest guest) None is e there = true≢false (sym there)
+not-lent (Guest guest) (Some score) is e there = true≢false (ap (λ o. is_some o) e)
+
+pub sound-lent : (standing new : Standing) (turn : Option Turn) (routes : List Route) → IsGuest standing.kind → standing.score ≡ None
+    → ((scores : List Score) → HasScore new scores → new.memory ≡ first scores new.kind) → IsSound standing turn routes → IsSound new turn routes
+sound-lent standing new turn routes kind none fresh s = record {
+  task = λ now e. absurd (not-lent standing.kind standing.score kind none (s.task now e).guest);
+  outputs = s.outputs;
+  log = ap (λ memory. memory.log) (fresh (own_scores new) (HasScore-own new)) ∙ first-log (own_scores new) new.kind;
+}
+
+pub sound-carried : (standing : Standing) (turn : Option Turn) (routes : List Route) (route : Route) → ForSome turn (λ now. route.output < now.ports.outputs) → IsSound standing turn routes → IsSound standing turn (routes ++ route ∷ [])
+sound-carried standing turn routes route there s = record {
+  task = s.task;
+  outputs = λ now e. All-more (HasOutput now.ports.outputs) routes route (s.outputs now e) (there now e);
+  log = s.log;
+}
+
+-- room stays where no length and no period changes
+pub room-stays : (standing new : Standing) (memory : Memory) (mixer mixer_now : Mix) (padded padded_now input input_now output output_now : List ℤ) (wires : Vec Wire) (routes : Vec Route) (rooms rooms_now : List (Option (List Signal)))
+    → new ≡ record standing { memory = memory } → mixer_now.room ≡ mixer.room → length padded_now ≡ length padded → length input_now ≡ length input → length output_now ≡ length output → length rooms_now ≡ length rooms
+    → HasAllRoom standing.period mixer padded input output wires routes rooms → HasAllRoom new.period mixer_now padded_now input_now output_now wires routes rooms_now
+room-stays standing new memory mixer mixer_now padded padded_now input input_now output output_now wires routes rooms rooms_now is sums silence heard sounded places r = record {
+  most = omega (arith, r.most, same);
+  sums = omega (arith, r.sums, same, sums);
+  silence = silence ∙ r.silence ∙ sym same;
+  heard = heard ∙ r.heard ∙ ap (λ n. 16 * n) (sym same);
+  sounded = sounded ∙ r.sounded ∙ ap (λ n. 16 * n) (sym same);
+  few_wires = r.few_wires;
+  few_routes = r.few_routes;
+  places = places ∙ r.places;
+}
+  where
+    same : new.period ≡ standing.period
+    same = ap (λ (s : Standing). s.period) is
+
+pub shape-played : (standing new : Standing) (memory : Memory) (turn : Turn) → new ≡ record standing { memory = memory } → MayPlay standing turn → IsPlayedShape new.period turn.ports
+shape-played standing new memory turn is may = record { inputs = may.inputs; outputs = may.outputs; within = omega (arith, may.period, ap (λ (s : Standing). s.period) is) }
+
+pub sound-played : (standing new : Standing) (turn : Option Turn) (now : Turn) (routes : List Route) (inputs : List (List ℤ)) → turn ≡ Some now
+    → new ≡ record standing { memory = (play (own_scores standing) standing.kind standing.memory now.ports.outputs now.moment now.ports.period inputs).memory }
+    → IsSound standing turn routes → IsSound new turn routes
+sound-played standing new turn now routes inputs busy is s = subst (λ (z : Standing). IsSound z turn routes) (sym is) (record {
+  task = λ at e. (let old : MayPlay standing at = s.task at e in record {
+    guest = old.guest;
+    rate = old.rate;
+    frames = old.frames;
+    period = old.period;
+    fed = λ some. old.fed (play-fed (own_scores standing) standing.kind standing.memory now.ports.outputs now.moment now.ports.period inputs some);
+    inputs = old.inputs;
+    outputs = old.outputs;
+  });
+  outputs = s.outputs;
+  log = play-log (own_scores standing) standing.kind standing.memory now.ports.outputs now.moment now.ports.period inputs ∙ s.log;
+})
+
+pub room-carried : (period : ℕ) (mixer : Mix) (padded input output : List ℤ) (wires : Vec Wire) (routes routes_now : Vec Route) (rooms : List (Option (List Signal))) (route : Route)
+    → routes_now.items ≡ routes.items ++ route ∷ [] → vec_capacity routes_now ≡ vec_capacity routes → length routes.items < 512
+    → HasAllRoom period mixer padded input output wires routes rooms → HasAllRoom period mixer padded input output wires routes_now rooms
+room-carried period mixer padded input output wires routes routes_now rooms route is capacity few r = record {
+  most = r.most;
+  sums = r.sums;
+  silence = r.silence;
+  heard = r.heard;
+  sounded = r.sounded;
+  few_wires = r.few_wires;
+  few_routes = (omega (arith, few, ap length is, length-more routes.items route), omega (arith, capacity, r.few_routes.1));
+  places = r.places;
+}

@@ -1,0 +1,81 @@
+-- The parts of an input, and their mix.
+--     parts-more, parts-other      one more wire, into this input or into another
+--     sums-padded      a part counts as far as there are frames
+use Rattle.std.proofs.Common.{◌≡◌, ◌≢◌, ℕ, zero, suc, ◌+◌, ◌<◌, ◌≤◌, ◌==◌, Bool, true, false, List, [], ◌∷◌, ◌++◌, length, map, filter, take, get_or, ℤ, pos, refl, sym, ◌∙◌, ap, ap₂, subst, arith, add-one}
+use Rattle.std.specs.Prelude.{if◌then◌else◌}
+use Rattle.std.proofs.Math.Seq.{take-suc}
+use Rattle.session_model.specs.Benches.{Part, Signal, audio_part}
+use Rattle.session_model.specs.Samples.{below, clamp, mix, sample, total}
+use Rattle.session_laws.proofs.ActivationLemmas.{length-map_below}
+use Rattle.client_benches.specs.declared.wires.Wire.{Wire}
+use Rattle.client_benches.specs.Wires.{part_of, parts_into}
+use Rattle.client_benches.proofs.SliceLemmas.{map_below-same, map_more}
+use Rattle.port_mixer.specs.Sums.{sums_of}
+
+pub take-next : {X : Type 0} (xs : List X) (i : ℕ) (d : X) → i < length xs → take (i + 1) xs ≡ take i xs ++ get_or xs i d ∷ []
+take-next xs i d low = ap (λ n. take n xs) (add-one i) ∙ take-suc xs i d low
+
+-- a list that is filtered with one more at its end
+pub filter-more : {X : Type 0} (test : X → Bool) (xs : List X) (x : X) → test x ≡ true → filter test (xs ++ x ∷ []) ≡ filter test xs ++ x ∷ []
+filter-more test [] x h = ap (λ b. if b then x ∷ [] else []) h
+filter-more test (y ∷ ys) x h = go (test y) (filter-more test ys x h)
+  where
+    go : (b : Bool) → filter test (ys ++ x ∷ []) ≡ filter test ys ++ x ∷ [] → (if b then y ∷ filter test (ys ++ x ∷ []) else filter test (ys ++ x ∷ [])) ≡ (if b then y ∷ filter test ys else filter test ys) ++ x ∷ []
+    go true same = ap (λ l. y ∷ l) same
+    go false same = same
+
+pub filter-same : {X : Type 0} (test : X → Bool) (xs : List X) (x : X) → test x ≡ false → filter test (xs ++ x ∷ []) ≡ filter test xs
+filter-same test [] x h = ap (λ b. if b then x ∷ [] else []) h
+filter-same test (y ∷ ys) x h = go (test y) (filter-same test ys x h)
+  where
+    go : (b : Bool) → filter test (ys ++ x ∷ []) ≡ filter test ys → (if b then y ∷ filter test (ys ++ x ∷ []) else filter test (ys ++ x ∷ [])) ≡ (if b then y ∷ filter test ys else filter test ys)
+    go true same = ap (λ l. y ∷ l) same
+    go false same = same
+
+pub parts-more : (wires : List Wire) (wire : Wire) (input : ℕ) → (wire.input == input) ≡ true → parts_into (wires ++ wire ∷ []) input ≡ parts_into wires input ++ part_of wire ∷ []
+parts-more wires wire input h =
+    ap (map part_of) (filter-more (λ (w : Wire). w.input == input) wires wire h) ∙ map_more part_of (filter (λ (w : Wire). w.input == input) wires) wire
+
+pub parts-other : (wires : List Wire) (wire : Wire) (input : ℕ) → (wire.input == input) ≡ false → parts_into (wires ++ wire ∷ []) input ≡ parts_into wires input
+parts-other wires wire input h = ap (map part_of) (filter-same (λ (w : Wire). w.input == input) wires wire h)
+
+-- parts with the same samples within these frames have the same sums
+pub sums-padded : (frames : ℕ) (parts : List (List ℤ)) (part other : List ℤ) → ((k : ℕ) → k < frames → sample part k ≡ sample other k) → sums_of frames (parts ++ part ∷ []) ≡ sums_of frames (parts ++ other ∷ [])
+sums-padded frames parts part other same = map_below-same
+    (λ i. total (map (λ part. sample part i) (parts ++ part ∷ [])))
+    (λ i. total (map (λ part. sample part i) (parts ++ other ∷ [])))
+    frames
+    (λ i h. ap total (map_more (λ part. sample part i) parts part ∙ ap (λ x. map (λ part. sample part i) parts ++ x ∷ []) (same i h) ∙ sym (map_more (λ part. sample part i) parts other)))
+
+-- a part is added as what fills all frames
+pub added-padded : (frames : ℕ) (sums new padded part : List ℤ) → length padded ≡ frames → ((k : ℕ) → k < frames → sample padded k ≡ sample part k)
+    → ((parts : List (List ℤ)) → sums ≡ sums_of (length padded) parts → new ≡ sums_of (length padded) (parts ++ padded ∷ []))
+    → (parts : List (List ℤ)) → sums ≡ sums_of frames parts → new ≡ sums_of frames (parts ++ part ∷ [])
+added-padded frames sums new padded part long same adds parts before =
+    subst (λ n. sums ≡ sums_of n parts → new ≡ sums_of n (parts ++ padded ∷ [])) long (adds parts) before
+    ∙ sums-padded frames parts padded part same
+
+pub length_sums : (frames : ℕ) (sums : List ℤ) (parts : List (List ℤ)) → sums ≡ sums_of frames parts → length sums ≡ frames
+length_sums frames sums parts is = ap length is ∙ length-map_below (λ i. total (map (λ part. sample part i) parts)) frames
+
+-- a wire into this input is a part more, any other is none
+module _ (given : List (List Signal)) (wires : List Wire) (i : ℕ) (d : Wire) (input : ℕ) (low : i < length wires) where
+  pub sums-more : (frames : ℕ) (sums new part : List ℤ) → ((get_or wires i d).input == input) ≡ true → part ≡ audio_part given (part_of (get_or wires i d))
+      → ((parts : List (List ℤ)) → sums ≡ sums_of frames parts → new ≡ sums_of frames (parts ++ part ∷ []))
+      → sums ≡ sums_of frames (map (audio_part given) (parts_into (take i wires) input)) → new ≡ sums_of frames (map (audio_part given) (parts_into (take (i + 1) wires) input))
+  sums-more frames sums new part on is adds before =
+      adds (map (audio_part given) (parts_into (take i wires) input)) before
+      ∙ ap (λ (x : List ℤ). sums_of frames (map (audio_part given) (parts_into (take i wires) input) ++ x ∷ [])) is
+      ∙ ap (sums_of frames) (sym (map_more (audio_part given) (parts_into (take i wires) input) (part_of (get_or wires i d))))
+      ∙ ap (λ (ps : List (Part (List ℤ))). sums_of frames (map (audio_part given) ps)) (sym (parts-more (take i wires) (get_or wires i d) input on))
+      ∙ ap (λ (ws : List Wire). sums_of frames (map (audio_part given) (parts_into ws input))) (sym (take-next wires i d low))
+
+  pub sums-other : (frames : ℕ) (sums : List ℤ) → ((get_or wires i d).input == input) ≡ false
+      → sums ≡ sums_of frames (map (audio_part given) (parts_into (take i wires) input)) → sums ≡ sums_of frames (map (audio_part given) (parts_into (take (i + 1) wires) input))
+  sums-other frames sums other before =
+      before
+      ∙ ap (λ (ps : List (Part (List ℤ))). sums_of frames (map (audio_part given) ps)) (sym (parts-other (take i wires) (get_or wires i d) input other))
+      ∙ ap (λ (ws : List Wire). sums_of frames (map (audio_part given) (parts_into ws input))) (sym (take-next wires i d low))
+
+pub length-mix : (frames : ℕ) (parts : List (List ℤ)) → length (mix frames parts) ≡ frames
+length-mix frames parts = length-map_below (λ i. clamp (total (map (λ part. sample part i) parts))) frames

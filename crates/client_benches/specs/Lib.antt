@@ -1,0 +1,5 @@
+pub mod Rooms
+pub mod Routes
+pub mod Wires
+pub mod Seen
+pub mod Insides

@@ -1,0 +1,63 @@
+//! What a driver reads from a client's bench.
+
+ghost use Rattle.std.specs.Prelude.{◌≡◌, ◌*◌, ◌≤◌, [], length, slice_index_or};
+ghost use Rattle.client_kinds.specs.Buffers.{buffers_of};
+
+use crate::benches::ClientBench;
+use client_kinds::Guest;
+
+/// The buffer at a place among so many planar ones, nothing past the last one.
+#[tactic(auto, using(crate::proofs::SliceLemmas::buffer_there, crate::proofs::SliceLemmas::buffer_none, crate::proofs::SliceLemmas::buffer_fits))]
+fn buffer(samples: &[i32], count: u16, period: u32, place: usize) -> &[i32]
+    requires { count * period ≤ length samples.now }
+    ensures { result.now ≡ slice_index_or (buffers_of count period samples.now) place [] }
+{
+    if place < usize::from(count) {
+        let first = place * period as usize;
+        &samples[first..first + period as usize]
+    } else {
+        &[]
+    }
+}
+
+impl<G: Guest> ClientBench<G> {
+    ghost use Rattle.std.specs.Prelude.{◌≡◌, [], is_none, slice_index_or};
+
+    /// Whether it has no task.
+    pub fn is_idle(&self) -> bool
+        ensures { result ≡ is_none self.now.kept.turn }
+    {
+        self.turn.is_none()
+    }
+
+    /// A meter's peak, the greatest magnitude of its inputs so far.
+    pub fn peak(&self) -> u32
+        ensures { result ≡ self.now.kept.standing.memory.peak }
+    {
+        self.bench.peak()
+    }
+
+    /// What an input got when it was last played, nothing where there was no such input.
+    pub fn sound(&self, input: usize) -> &[i32]
+        ensures { result.now ≡ slice_index_or self.now.kept.sounds input [] }
+    {
+        buffer(
+            self.input.as_slice(),
+            self.played.inputs,
+            self.played.period,
+            input,
+        )
+    }
+
+    /// What an output gave when it was last played, nothing where there was no such output.
+    pub fn output(&self, output: usize) -> &[i32]
+        ensures { result.now ≡ slice_index_or self.now.kept.audio output [] }
+    {
+        buffer(
+            self.output.as_slice(),
+            self.played.outputs,
+            self.played.period,
+            output,
+        )
+    }
+}

@@ -1,0 +1,168 @@
+//! How a driver sets a client's bench.
+
+ghost use Rattle.std.specs.Prelude.{◌≡◌, ◌+◌, ◌≤◌, [], None, count_by, is_some, length, replicate, vec_capacity};
+ghost use Rattle.client_benches.specs.Wires.{kept_count};
+
+use crate::benches::{ClientBench, Turn};
+use crate::known::Room;
+use crate::values::{Rooms, Route};
+use crate::wires::{Source, Wire};
+use client_kinds::{Guest, Shape};
+use jack_types::Moment;
+
+/// Takes all wires, and gives their rooms to those that are spare.
+fn unwire(wires: &mut Vec<Wire>, spare: &mut Vec<Room>)
+    requires { length spare.old.items + kept_count wires.old.items ≤ vec_capacity spare.old }
+    ensures wires { (wires.new.items ≡ []) × (vec_capacity wires.new ≡ vec_capacity wires.old) }
+    ensures spare { (length spare.new.items ≡ length spare.old.items + kept_count wires.old.items) × (vec_capacity spare.new ≡ vec_capacity spare.old) }
+{
+    while let Some(wire) = wires.pop() {
+        if let Source::Kept(room) = wire.source {
+            spare.push_reserved(room);
+        }
+    }
+}
+
+/// Takes the rooms of all links, and gives them to those that are spare.
+fn empty_places(rooms: &mut [Option<Rooms>], spare: &mut Vec<Rooms>)
+    requires { length spare.old.items + count_by is_some rooms.old ≤ vec_capacity spare.old }
+    ensures rooms { rooms.new ≡ replicate (length rooms.old) None }
+    ensures spare { (length spare.new.items ≡ length spare.old.items + count_by is_some rooms.old) × (vec_capacity spare.new ≡ vec_capacity spare.old) }
+{
+    for place in 0..rooms.len() {
+        if let Some(room) = rooms[place].take() {
+            spare.push_reserved(room);
+        }
+    }
+}
+
+impl<G: Guest> ClientBench<G> {
+    ghost use Rattle.std.specs.Prelude.{◌≡◌, ◌+◌, ◌*◌, ◌<◌, ◌≤◌, ◌++◌, ◌∷◌, [], false, true, ℕ, IfNone, IfSome, IsSome, List, Some, None, length, option_map, slice_get, slice_set, vec_capacity};
+    ghost use Rattle.std.specs.Option.{ForSome};
+    ghost use Rattle.jack_types.specs.declared.kinds.Score.{Score};
+    ghost use Rattle.session_model.specs.Kinds.{first};
+    ghost use Rattle.client_kinds.specs.Buffers.{channels_of};
+    ghost use Rattle.client_kinds.specs.Standings.{HasScore, IsDisk, IsGuest};
+    ghost use Rattle.client_benches.specs.Seen.{MayPlay, cleared, moved_to, room_count};
+    ghost use Rattle.client_benches.specs.Wires.{IsKept, kept_count, wire_at, with_samples};
+    ghost use Rattle.client_benches.specs.declared.benches.Turn.{Turn as TurnValue};
+    ghost use Rattle.client_benches.specs.declared.wires.Source.TheVariants.{Kept, Carried};
+
+    /// Lends a guest, which is reset.
+    pub fn lend(&mut self, guest: G)
+        requires kind { IsGuest self.old.kept.standing.kind }
+        requires none { self.old.kept.standing.score ≡ None }
+        ensures kind { self.new.kept.standing.kind ≡ self.old.kept.standing.kind }
+        ensures period { self.new.kept.standing.period ≡ self.old.kept.standing.period }
+        ensures score { self.new.kept.standing.score ≡ Some (G.score guest) }
+        ensures memory { (scores : List Score) → HasScore self.new.kept.standing scores → self.new.kept.standing.memory ≡ first scores self.new.kept.standing.kind }
+        ensures others { self.new ≡ record self.old { kept = record self.old.kept { standing = self.new.kept.standing } } }
+    {
+        self.bench.lend(guest);
+    }
+
+    /// The guest that was lent, if there is one. It leaves. The bench is idle.
+    pub fn give_back(&mut self) -> Option<G>
+        requires { self.old.kept.turn ≡ None }
+        ensures none { IfNone result (self.old.kept.standing.score ≡ None) }
+        ensures guest { IfSome result (λ guest. self.old.kept.standing.score ≡ Some (G.score guest)) }
+        ensures after { self.new ≡ record self.old { kept = record self.old.kept { standing = record self.old.kept.standing { score = None; memory = record self.old.kept.standing.memory { numbers = []; is_dead = false } } } } }
+    {
+        self.bench.give_back()
+    }
+
+    /// Feeds a disk player the interleaved block that its next cycle plays and uses up. That cycle is of
+    /// the greatest period.
+    pub fn feed(&mut self, samples: &[i32], channels: u16)
+        requires kind { IsDisk self.old.kept.standing.kind }
+        requires least { 1 ≤ channels }
+        requires most { channels ≤ 8 }
+        requires samples { length samples.now ≡ channels * self.old.kept.standing.period }
+        requires turn { (turn : TurnValue) → self.old.kept.turn ≡ Some turn → turn.ports.period ≡ self.old.kept.standing.period }
+        ensures { self.new ≡ record self.old { kept = record self.old.kept { standing = record self.old.kept.standing { memory = record self.old.kept.standing.memory { fed = channels_of channels self.old.kept.standing.period samples.now } } } } }
+    {
+        self.bench.feed(samples, channels);
+    }
+
+    /// Makes it idle: takes its task, its wires and its routes, and gives its rooms to those that are
+    /// spare. What it played last stays.
+    pub fn clear(&mut self, spare: &mut Vec<Room>, spare_links: &mut Vec<Rooms>)
+        requires spare { length spare.old.items + kept_count self.old.kept.wires ≤ vec_capacity spare.old }
+        requires spare_links { length spare_links.old.items + room_count self.old ≤ vec_capacity spare_links.old }
+        ensures bench { self.new ≡ cleared self.old }
+        ensures spare { (length spare.new.items ≡ length spare.old.items + kept_count self.old.kept.wires) × (vec_capacity spare.new ≡ vec_capacity spare.old) }
+        ensures spare_links { (length spare_links.new.items ≡ length spare_links.old.items + room_count self.old) × (vec_capacity spare_links.new ≡ vec_capacity spare_links.old) }
+    {
+        self.turn = None;
+        self.routes.clear();
+        unwire(&mut self.wires, spare);
+        empty_places(&mut self.rooms, spare_links);
+    }
+
+    /// Sets what the client does in the next cycle. There are as many links out of its node.
+    pub fn begin(&mut self, moment: &Moment, ports: Shape, links: u32)
+        requires routes { self.old.kept.routes ≡ [] }
+        requires turn { MayPlay self.old.kept.standing (record { moment = moment.now; ports = ports; links = links }) }
+        ensures { self.new ≡ record self.old { kept = record self.old.kept { turn = Some (record { moment = moment.now; ports = ports; links = links }) } } }
+    {
+        self.turn = Some(Turn {
+            moment: *moment,
+            ports,
+            links,
+        });
+    }
+
+    /// Adds a connection into an input, from a source that does not play in the cycle, with the room for
+    /// what it brings.
+    pub fn hear_kept(&mut self, input: u16, room: Room)
+        requires { length self.old.kept.wires < 512 }
+        ensures { self.new ≡ record self.old { kept = record self.old.kept { wires = self.old.kept.wires ++ record { input = input; source = Kept room } ∷ [] } } }
+    {
+        self.wires.push_reserved(Wire {
+            input,
+            source: Source::Kept(room),
+        });
+    }
+
+    /// Adds a connection into an input: the connection of this place, over the incoming link of this
+    /// place.
+    pub fn hear_carried(&mut self, input: u16, link: u32, connection: u32)
+        requires { length self.old.kept.wires < 512 }
+        ensures { self.new ≡ record self.old { kept = record self.old.kept { wires = self.old.kept.wires ++ record { input = input; source = Carried link connection } ∷ [] } } }
+    {
+        self.wires.push_reserved(Wire {
+            input,
+            source: Source::Carried { link, connection },
+        });
+    }
+
+    /// Adds a connection that carries an output over the outgoing link of this place.
+    pub fn carry(&mut self, link: u32, output: u16)
+        requires few { length self.old.kept.routes < 512 }
+        requires output { ForSome self.old.kept.turn (λ turn. output < turn.ports.outputs) }
+        ensures { self.new ≡ record self.old { kept = record self.old.kept { routes = self.old.kept.routes ++ record { link = link; output = output } ∷ [] } } }
+    {
+        self.routes.push_reserved(Route { link, output });
+    }
+
+    /// Sets the moment and the period of the next cycle.
+    pub fn set_moment(&mut self, moment: &Moment, period: u32)
+        requires { ForSome self.old.kept.turn (λ turn. MayPlay self.old.kept.standing (moved_to moment.now period turn)) }
+        ensures { self.new ≡ record self.old { kept = record self.old.kept { turn = option_map (moved_to moment.now period) self.old.kept.turn } } }
+    {
+        if let Some(turn) = self.turn.as_mut() {
+            turn.moment = *moment;
+            turn.ports.period = period;
+        }
+    }
+
+    /// Puts samples into the room of the wire of this place among all wires.
+    pub fn fill(&mut self, place: usize, samples: &[i32])
+        requires wire { IsKept (wire_at self.old.kept.wires place) }
+        requires place { place < length self.old.kept.wires }
+        requires samples { length samples.now ≤ 4096 }
+        ensures { self.new ≡ record self.old { kept = record self.old.kept { wires = with_samples self.old.kept.wires place samples.now } } }
+    {
+        self.wires[place].fill(samples);
+    }
+}

@@ -1,0 +1,112 @@
+//! What goes along a link.
+
+ghost use Rattle.std.specs.Prelude.{◌≡◌, ◌*◌, ◌<◌, ◌≤◌, All, IfOk, [], length, map, slice_index_or};
+ghost use Rattle.session_model.specs.Benches.{no_signal};
+ghost use Rattle.client_kinds.specs.Buffers.{buffers_of};
+ghost use Rattle.client_benches.specs.Routes.{carried_by, HasOutput};
+
+use crate::filling::copy_routes;
+use crate::{MOST_CONNECTIONS, MOST_FRAMES, MOST_PORTS};
+use client_kinds::Shape;
+use jack_types::Memory;
+use std::alloc::{AllocError, Global};
+use std::marker::Model;
+
+/// A connection over an outgoing link, which carries one of its client's outputs. Outputs and links are
+/// counted from 0.
+#[derive(Clone, Copy, PartialEq, Eq, Debug, Drop)]
+pub struct Route {
+    pub link: u32,
+    pub output: u16,
+}
+
+/// What goes along a link: for each of its connections, in the order of making, a period of one of its
+/// source's outputs.
+///
+/// There is room for sixteen outputs of 4,096 frames and for 512 connections, so that any rooms do for
+/// any link. An output that several connections carry lies there once. Contracts see a signal per
+/// connection.
+#[derive(Drop)]
+pub struct Rooms {
+    outputs: Vec<i32>,
+    frames: usize,
+    carried: Vec<u16>,
+}
+
+impl Model for Rooms {
+    ghost use Rattle.std.specs.Prelude.{List};
+    ghost use Rattle.session_model.specs.Benches.{Signal};
+
+    ghost Value = { List Signal };
+
+    ghost use Rattle.client_benches.specs.Rooms.{signals_in, AreRooms};
+
+    ghost view = { signals_in };
+
+    ghost invariant = { AreRooms };
+}
+
+/// The room of a link.
+fn make_rooms(alloc: Global) -> Result<Rooms, AllocError>
+    ensures { IfOk result (λ rooms. rooms ≡ []) }
+{
+    let outputs = vec![in alloc; 0; MOST_PORTS * MOST_FRAMES]?;
+    let carried = Vec::with_capacity(alloc, MOST_CONNECTIONS)?;
+    Ok(Rooms {
+        outputs,
+        frames: 0,
+        carried,
+    })
+}
+
+impl Rooms {
+    /// Room for a link, with no connection.
+    pub fn new(alloc: Global) -> Result<Rooms, Memory>
+        ensures { IfOk result (λ rooms. rooms ≡ []) }
+    {
+        match make_rooms(alloc) {
+            Ok(rooms) => Ok(rooms),
+            Err(_) => Err(Memory),
+        }
+    }
+
+    /// The samples that a connection carries, none where there is no such connection.
+    pub fn audio(&self, connection: usize) -> &[i32]
+        ensures { result.now ≡ (slice_index_or self.now connection no_signal).audio }
+    {
+        match self.carried.get(connection) {
+            Some(output) => {
+                let first = usize::from(*output) * self.frames;
+                &self.outputs[first..first + self.frames]
+            }
+            None => &[],
+        }
+    }
+
+    /// Copies what the connections of a link carry, from the planar outputs of its source.
+    pub(crate) fn fill(&mut self, routes: &[Route], link: u32, ports: Shape, outputs: &[i32])
+        requires few { length routes.now ≤ 512 }
+        requires routes { All (HasOutput ports.outputs) routes.now }
+        requires ports { ports.outputs ≤ 16 }
+        requires frames { ports.period ≤ 4096 }
+        requires outputs { ports.outputs * ports.period ≤ length outputs.now }
+        ensures { self.new ≡ carried_by ports.period (buffers_of ports.outputs ports.period outputs.now) link routes.now }
+    {
+        self.frames = ports.period as usize;
+        copy_routes(
+            &mut self.carried,
+            &mut self.outputs,
+            routes,
+            link,
+            ports,
+            outputs,
+        );
+    }
+
+    /// Takes all connections off.
+    pub(crate) fn clear(&mut self)
+        ensures { self.new ≡ [] }
+    {
+        self.carried.clear();
+    }
+}

@@ -1,0 +1,69 @@
+//! What the inputs of a client are mixed from.
+
+ghost use Rattle.std.specs.Prelude.{◌≡◌, ◌≤◌, All, IsSome, length};
+ghost use Rattle.activation.specs.Values.{values_of};
+ghost use Rattle.session_model.specs.Benches.{audio_part, signal_at};
+ghost use Rattle.client_benches.specs.Wires.{part_of, IsKept};
+
+use crate::known::Room;
+use crate::values::Rooms;
+
+/// Where a connection's samples come from: from a room of the bench's own, or from the incoming link of
+/// this place among all that come in, there from the connection of this place. Both count from 0.
+#[derive(Drop)]
+pub enum Source {
+    Kept(Room),
+    Carried { link: u32, connection: u32 },
+}
+
+/// A connection into an input. Inputs are counted from 0.
+#[derive(Drop)]
+pub struct Wire {
+    pub input: u16,
+    pub source: Source,
+}
+
+impl Wire {
+    ghost use Rattle.client_benches.specs.declared.wires.Source.TheVariants.{Kept};
+
+    /// What it brings, where the incoming links give these values.
+    pub(crate) fn part<'a>(&'a self, given: &'a [Option<Rooms>]) -> &'a [i32]
+        requires { All IsSome given.now }
+        ensures { result.now ≡ audio_part (values_of given.now) (part_of self.now) }
+    {
+        match &self.source {
+            Source::Kept(room) => room.samples(),
+            Source::Carried { link, connection } => {
+                carried(given, *link as usize, *connection as usize)
+            }
+        }
+    }
+
+    /// Puts these samples into its room.
+    pub(crate) fn fill(&mut self, samples: &[i32])
+        requires kept { IsKept self.old }
+        requires few { length samples.now ≤ 4096 }
+        ensures { self.new ≡ record self.old { source = Kept samples.now } }
+    {
+        match &mut self.source {
+            Source::Kept(room) => room.fill(samples),
+            Source::Carried { .. } => unreachable!(),
+        }
+    }
+}
+
+/// What a connection of an incoming link carries, nothing where there is none.
+#[tactic(auto, using(crate::proofs::ValueLemmas::value_there, crate::proofs::ValueLemmas::value_past))]
+fn carried(given: &[Option<Rooms>], link: usize, connection: usize) -> &[i32]
+    requires { All IsSome given.now }
+    ensures { result.now ≡ (signal_at (values_of given.now) link connection).audio }
+{
+    if link < given.len() {
+        match &given[link] {
+            Some(rooms) => rooms.audio(connection),
+            None => unreachable!(),
+        }
+    } else {
+        &[]
+    }
+}

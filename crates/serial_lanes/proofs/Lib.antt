@@ -1,0 +1,11 @@
+mod ItemLemmas
+mod CallFronts
+mod RoundLemmas
+mod GroupLemmas
+mod TurnLemmas
+mod NumberLemmas
+mod MadeLemmas
+mod StepLemmas
+mod PhaseLemmas
+mod SerialLemmas
+mod HistoryLemmas

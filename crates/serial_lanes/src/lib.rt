@@ -1,0 +1,9 @@
+//! The lanes of serial mode: a desk's calls between the cycles, made by one thread in the stated order.
+#![tactic(auto)]
+
+mod lanes;
+pub mod laws;
+#[cfg(test)]
+mod tests;
+
+pub use lanes::{begin_phase, round};
