@@ -1,4 +1,5 @@
 ghost use Rattle.std.specs.Prelude.{◌≡◌, ◌≤◌, ◌<◌, [], All, IfOk, IsSome, None, Some, false, length};
+ghost use Rattle.jack_types.specs.declared.kinds.Kind.TheVariants.{Tone};
 ghost use Rattle.client_benches.specs.Seen.{has_room_at};
 ghost use Rattle.client_kinds.specs.Standings.{HasGuest, IsPlayable};
 
@@ -6,7 +7,7 @@ use super::*;
 use activation::Work;
 use client_kinds::{Guest, Shape};
 use jack_types::{Kind, Memory, Moment, TransportState};
-use std::alloc::Global;
+use std::alloc::{AllocError, Global};
 use std::test::Fail;
 
 const MOMENT: Moment = Moment {
@@ -88,23 +89,21 @@ fn played(
     Ok(bench.hand(0))
 }
 
-/// A wave of two frames a half at level 1000, played for four frames: 1000 1000 −1000 −1000. Behind a
-/// gain of 3 / 2: 1500 1500 −1500 −1500. A meter of these shows 1500.
-#[test]
-fn a_tone_behind_a_gain_is_metered(rt: HostRuntime) -> Result<(), Fail> {
-    let alloc = rt.alloc();
-    let mut tone = begun(
-        alloc,
-        Kind::Tone {
-            half: 2,
-            level: 1000,
-        },
-        ports(0, 1),
-        1,
-    )?;
+/// A wave whose one output goes over one link.
+fn sounding(alloc: Global, level: i32) -> Result<ClientBench<Nobody>, Memory>
+    requires { IsPlayable (Tone 2 level) }
+    ensures wires { IfOk result (λ bench. bench.kept.wires ≡ []) }
+    ensures room { IfOk result (λ bench. has_room_at bench 0 ≡ false) }
+{
+    let mut tone = begun(alloc, Kind::Tone { half: 2, level }, ports(0, 1), 1)?;
     tone.carry(0, 0);
-    let waves = [Some(played(alloc, &mut tone, &[])?)];
-    assert_eq!(rt; tone.output(0), [1000, 1000, -1000, -1000].as_slice());
+    Ok(tone)
+}
+
+/// A gain of 3 / 2 from the first incoming link to one outgoing link.
+fn gaining(alloc: Global) -> Result<ClientBench<Nobody>, Memory>
+    ensures room { IfOk result (λ bench. has_room_at bench 0 ≡ false) }
+{
     let mut gain = begun(
         alloc,
         Kind::Gain {
@@ -116,13 +115,32 @@ fn a_tone_behind_a_gain_is_metered(rt: HostRuntime) -> Result<(), Fail> {
     )?;
     gain.hear_carried(0, 0, 0);
     gain.carry(0, 0);
+    Ok(gain)
+}
+
+/// The peak of a meter at the first incoming link.
+fn metered(alloc: Global, given: &[Option<Rooms>]) -> Result<u32, Memory>
+    requires { All IsSome given.now }
+{
+    let mut meter = begun(alloc, Kind::Meter, ports(1, 0), 0)?;
+    meter.hear_carried(0, 0, 0);
+    meter.play(given);
+    Ok(meter.peak())
+}
+
+/// A wave of two frames a half at level 1000, played for four frames: 1000 1000 −1000 −1000. Behind a
+/// gain of 3 / 2: 1500 1500 −1500 −1500. A meter of these shows 1500.
+#[test]
+fn a_tone_behind_a_gain_is_metered(rt: HostRuntime) -> Result<(), Fail> {
+    let alloc = rt.alloc();
+    let mut tone = sounding(alloc, 1000)?;
+    let waves = [Some(played(alloc, &mut tone, &[])?)];
+    assert_eq!(rt; tone.output(0), [1000, 1000, -1000, -1000].as_slice());
+    let mut gain = gaining(alloc)?;
     let louder = [Some(played(alloc, &mut gain, &waves)?)];
     assert_eq!(rt; gain.sound(0), [1000, 1000, -1000, -1000].as_slice());
     assert_eq!(rt; gain.output(0), [1500, 1500, -1500, -1500].as_slice());
-    let mut meter = begun(alloc, Kind::Meter, ports(1, 0), 0)?;
-    meter.hear_carried(0, 0, 0);
-    meter.play(&louder);
-    assert_eq!(rt; meter.peak(), 1500);
+    assert_eq!(rt; metered(alloc, &louder)?, 1500);
     Ok(())
 }
 
@@ -203,20 +221,29 @@ fn links_carry_their_connections(rt: HostRuntime) -> Result<(), Fail> {
     Ok(())
 }
 
-/// A bench whose work was taken gives nothing, and still shows what it played.
-#[test]
+/// Plays a wave over its link, and takes its work.
 #[tactic(auto, using(crate::proofs::CountLemmas::room_count_most))]
-fn an_idle_bench_gives_nothing(rt: HostRuntime) -> Result<(), Fail> {
-    let alloc = rt.alloc();
-    let mut tone = begun(alloc, Kind::Tone { half: 2, level: 7 }, ports(0, 1), 1)?;
-    tone.carry(0, 0);
-    tone.back(0, Rooms::new(alloc)?);
-    tone.play(&[]);
+fn silenced(alloc: Global) -> Result<ClientBench<Nobody>, AllocError>
+    ensures { IfOk result (λ bench. has_room_at bench 0 ≡ false) }
+{
     let mut spare = Vec::new(alloc);
     let mut spare_links = Vec::with_capacity(alloc, 64)?;
-    tone.clear(&mut spare, &mut spare_links);
+    match sounding(alloc, 7) {
+        Ok(mut tone) => {
+            tone.play(&[]);
+            tone.clear(&mut spare, &mut spare_links);
+            Ok(tone)
+        }
+        Err(_) => Err(AllocError),
+    }
+}
+
+/// A bench whose work was taken gives nothing, and still shows what it played.
+#[test]
+fn an_idle_bench_gives_nothing(rt: HostRuntime) -> Result<(), Fail> {
+    let alloc = rt.alloc();
+    let mut tone = silenced(alloc)?;
     assert!(rt; tone.is_idle());
-    assert_eq!(rt; spare_links.len(), 1);
     let rooms = played(alloc, &mut tone, &[])?;
     assert_eq!(rt; rooms.audio(0), [].as_slice());
     assert_eq!(rt; tone.output(0), [7, 7, -7, -7].as_slice());
