@@ -1,5 +1,5 @@
 -- The `do` calls of a phase: lane 0's, of an even stage, waiting for nothing.
-use Rattle.std.proofs.Common.{◌≡◌, ℕ, zero, suc, ◌+◌, ◌*◌, ◌/◌, ◌%◌, ◌<◌, ◌≤◌, Bool, true, false, cond, ◌==◌, List, [], ◌∷◌, ◌++◌, map, filter, Contains, refl, sym, ◌∙◌, ap, arith, eq-eqb, eqb-true}
+use Rattle.std.proofs.Common.{◌≡◌, ℕ, ◌+◌, ◌*◌, ◌/◌, ◌%◌, Bool, true, false, cond, ◌==◌, List, [], ◌∷◌, ◌++◌, Contains, refl, ◌∙◌, ap, arith, eq-eqb, eqb-true}
 use Rattle.jack_types.specs.declared.commands.Command.{Command}
 use Rattle.session_model.specs.Grammar.{IsScript}
 use Rattle.session_model.specs.Scripts.{Script, Phase, LaneCall, Planned, Uncounted, phases, planned, planned_of, uncounted}

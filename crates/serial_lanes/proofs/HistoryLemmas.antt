@@ -7,11 +7,10 @@ use Rattle.session_model.specs.Histories.{accepted}
 use Rattle.session_model.specs.Samples.{below}
 use Rattle.session_model.specs.Scripts.{Script, Phase, Planned, phases}
 use Rattle.session_model.specs.Serial.{do_calls, lanes_at, history_with, serial_calls, serial_history}
-use Rattle.control_desk.specs.Desks.{Desk, IsDone, cycles_before}
+use Rattle.control_desk.specs.Desks.{IsDone, cycles_before}
 use Rattle.serial_lanes.specs.Lanes.{BehindPhases, SerialDesk, calls_behind, calls_until}
 use Rattle.serial_lanes.specs.Laws.{BehindWhereMet, DoneWhereMet, HistoryFront, PublishedNumber, SerialWhereMet}
 use Rattle.serial_lanes.proofs.CallFronts.{calls-next_phase}
-
 use Rattle.serial_lanes.proofs.NumberLemmas.{history_append, history_front, serial_number_is}
 use Rattle.serial_lanes.proofs.RoundLemmas.{calls_split, rounds_split}
 

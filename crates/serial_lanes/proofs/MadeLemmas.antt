@@ -1,14 +1,13 @@
 -- How many calls a lane made, and which is its next.
-use Rattle.std.proofs.Common.{◌≡◌, ℕ, zero, suc, ◌+◌, ◌*◌, ◌<◌, ◌≤◌, Bool, true, false, cond, nat_le, ◌==◌, List, [], ◌∷◌, ◌++◌, length, length-append, map, filter, slice_get, Option, Some, None, refl, sym, ◌∙◌, ap, arith}
+use Rattle.std.proofs.Common.{◌≡◌, ℕ, suc, ◌+◌, ◌*◌, ◌<◌, ◌≤◌, Bool, true, false, cond, nat_le, ◌==◌, List, [], ◌∷◌, ◌++◌, length, length-append, map, filter, Option, Some, None, refl, sym, ◌∙◌, ap, arith}
 use Rattle.std.proofs.lemmas.Bool.Decides.{nat_tests}
-use Rattle.std.proofs.lemmas.List.{length-map}
 use Rattle.std.proofs.lemmas.List.Elements.{filter-append}
 use Rattle.std.proofs.lemmas.List.Sums.{length-filter}
 use Rattle.jack_types.specs.declared.commands.Call.{Call}
 use Rattle.jack_types.specs.declared.replies.Entry.{Entry}
 use Rattle.session_model.specs.Histories.{calls_of}
 use Rattle.session_model.specs.Scripts.{Script, Planned}
-use Rattle.session_model.specs.Serial.{answered, history_with}
+use Rattle.session_model.specs.Serial.{history_with}
 use Rattle.session_laws.proofs.SerialLemmas.{calls_of-history_with}
 use Rattle.control_desk.specs.Desks.{made, within}
 use Rattle.serial_lanes.proofs.RoundLemmas.{on_lane}

@@ -6,17 +6,15 @@ use Rattle.std.proofs.lemmas.Bool.Decides.{nat_tests}
 use Rattle.std.proofs.lemmas.List.Elements.{filter-append}
 use Rattle.std.proofs.lemmas.Option.{slice_get_within}
 use Rattle.jack_types.specs.declared.commands.Call.{Call}
-use Rattle.jack_types.specs.declared.commands.Command.{Command}
 use Rattle.jack_types.specs.declared.replies.Entry.{Entry}
 use Rattle.session_model.specs.Courses.{no_turn}
 use Rattle.session_model.specs.Histories.{accepted, calls_of}
 use Rattle.session_model.specs.Samples.{below}
-use Rattle.session_model.specs.Scripts.{Script, Phase, LaneCall, Planned, Turn, Uncounted, phases, planned, turns, uncounted}
+use Rattle.session_model.specs.Scripts.{Script, Phase, Planned, Turn, phases, planned, turns}
 use Rattle.session_model.specs.Serial.{answered, due, lanes_at, do_calls, calls_from, serial_calls, serial_history, serial_number, numbers_from, history_with, is_before}
 use Rattle.session_laws.proofs.CycleLemmas.{filter-passes}
-use Rattle.session_laws.proofs.ListLemmas.{Each, Each-all, Each-append, Each-contains, Each-from_contains, Each-map, Each-unmap, Each-weaker, Each-flat_map, filter-all, filter-none}
+use Rattle.session_laws.proofs.ListLemmas.{Each, Each-append, Each-contains, Each-from_contains, Each-map, Each-unmap, Each-weaker, Each-flat_map, filter-all, filter-none}
 use Rattle.session_laws.proofs.LoopLemmas.{Contains-first, Contains-later}
-use Rattle.session_laws.proofs.SerialCallsLemmas.{dos_of, calls_at, Each-counted}
 use Rattle.session_laws.proofs.SerialLawfulLemmas.{KeepsLanes-phases}
 use Rattle.session_laws.proofs.SerialLemmas.{plan_of-planned, planned_from_serial, calls_of-history_with}
 use Rattle.control_desk.specs.Desks.{cycles_before}

@@ -1,23 +1,20 @@
 -- The end of a phase, and a lane's calls there.
 --     group_left      what lane 0 has left before a phase
 --     behind_none, behind-last, behind-all      a desk between the phases
-use Rattle.std.proofs.Common.{◌≡◌, ℕ, zero, suc, ◌+◌, ◌*◌, ◌<◌, ◌≤◌, Bool, false, cond, ◌==◌, List, [], ◌∷◌, ◌++◌, length, take, drop, filter, slice_get, Contains, Option, Some, None, refl, sym, ◌∙◌, ap, subst, arith, append_assoc, append-nil, eq-eqb, eqb-true, ne_eqb, true≢false}
+use Rattle.std.proofs.Common.{◌≡◌, ℕ, suc, ◌+◌, ◌*◌, ◌≤◌, Bool, false, ◌==◌, List, [], ◌∷◌, ◌++◌, length, drop, slice_get, Contains, Some, None, refl, sym, ◌∙◌, ap, subst, arith, append_assoc, append-nil, ne_eqb}
 use Rattle.std.specs.Prelude.{flat_map}
 use Rattle.std.proofs.lemmas.List.Elements.{filter-append}
 use Rattle.std.proofs.lemmas.Option.{slice_get_within}
 use Rattle.std.proofs.Math.Seq.{drop-append_seam}
-use Rattle.jack_types.specs.declared.commands.Command.{Command}
-use Rattle.jack_types.specs.declared.scripts.Body.{Body}
-use Rattle.jack_types.specs.declared.scripts.Body.TheVariants.{Do, Run, Freewheel, Lane, Period}
 use Rattle.session_model.specs.Grammar.{IsScript}
 use Rattle.session_model.specs.Samples.{below}
-use Rattle.session_model.specs.Scripts.{Script, Phase, Planned, phases, phases_of, planned, planned_of, with_do}
-use Rattle.session_model.specs.Serial.{calls_from, do_calls, due, lanes_at, serial_calls, history_with}
-use Rattle.session_laws.proofs.ListLemmas.{Each, Each-contains, Each-from_contains, Each-flat_map, Each-below, filter-all, filter-none, Contains-filtered}
+use Rattle.session_model.specs.Scripts.{Script, Phase, Planned, phases, planned_of}
+use Rattle.session_model.specs.Serial.{do_calls, due, lanes_at, history_with}
+use Rattle.session_laws.proofs.ListLemmas.{Each, Each-contains, Each-from_contains, Each-flat_map, Each-below, filter-none, Contains-filtered}
 use Rattle.session_laws.proofs.SerialCallsLemmas.{lane_of_serial_calls}
 use Rattle.session_laws.proofs.SerialLawfulLemmas.{KeepsLanes-phases}
-use Rattle.control_desk.specs.Desks.{Desk, IsDone, cycles_before, made, next_call, within}
-use Rattle.serial_lanes.specs.Lanes.{BehindPhases, SerialDesk, calls_behind, calls_until}
+use Rattle.control_desk.specs.Desks.{Desk, IsDone, cycles_before, made, within}
+use Rattle.serial_lanes.specs.Lanes.{BehindPhases, calls_behind}
 use Rattle.serial_lanes.specs.Laws.{BehindAll, BehindLastRound, BehindNone}
 use Rattle.serial_lanes.proofs.CallFronts.{calls-next_phase, calls-whole}
 use Rattle.serial_lanes.proofs.GroupLemmas.{dos_own}
@@ -45,8 +42,7 @@ lane_left : (script : Script) (done lane : ℕ) → IsScript script → done ≤
     → (later : List Planned) × (planned_of script lane ≡ on_lane lane (calls_behind script done) ++ later) × ((plan : Planned) → Contains later plan → 2 * done ≤ plan.stage)
 lane_left script done lane is_script there low =
     let test : Planned → Bool = λ plan. plan.call.lane == lane in
-    let behind = calls_split script (phases script) 0 0 done there in
-    (
+    let behind = calls_split script (phases script) 0 0 done there in (
       on_lane lane behind.0,
       sym (lane_of_serial_calls script (KeepsLanes-phases script is_script) lane low) ∙ ap (on_lane lane) behind.1 ∙ filter-append test (calls_behind script done) behind.0,
       λ plan c. let late = Each-contains (λ (p : Planned). 2 * (0 + done) ≤ p.stage) behind.0 plan behind.2 (Contains-filtered test behind.0 plan c) in omega (arith, late),
@@ -66,12 +62,11 @@ group_left script done n phase is_script here count =
     ∙ ap (λ xs. on_lane 0 (calls_behind script done ++ do_calls script done) ++ xs) (rounds_other script done base (phase.cycles + 1))
     ∙ append-nil (on_lane 0 (calls_behind script done ++ do_calls script done))
     ∙ filter-append test (calls_behind script done) (do_calls script done)
-    ∙ ap (λ xs. on_lane 0 (calls_behind script done) ++ xs) (dos_own script done is_script) in
-    (
+    ∙ ap (λ xs. on_lane 0 (calls_behind script done) ++ xs) (dos_own script done is_script) in (
       left.0,
       ap (λ m. drop m (planned_of script 0)) count
-      ∙ ap (drop (length (on_lane 0 (calls_behind script done)))) (left.1 ∙ ap (λ xs. xs ++ left.0) own ∙ append_assoc (on_lane 0 (calls_behind script done)) (do_calls script done) left.0)
-      ∙ drop-append_seam (on_lane 0 (calls_behind script done)) (do_calls script done ++ left.0),
+          ∙ ap (drop (length (on_lane 0 (calls_behind script done)))) (left.1 ∙ ap (λ xs. xs ++ left.0) own ∙ append_assoc (on_lane 0 (calls_behind script done)) (do_calls script done) left.0)
+          ∙ drop-append_seam (on_lane 0 (calls_behind script done)) (do_calls script done ++ left.0),
       left.2,
     )
 
@@ -120,19 +115,3 @@ behind-last desk done phase is_script here serial =
 
 pub behind-all : BehindAll
 behind-all desk behind = behind.history ∙ ap (history_with desk.script []) (calls-whole desk.script)
-
--- a script has a phase
-pub phases_some : (script : Script) → 0 < length (phases script)
-phases_some script = some script.header.period script.lines
-  where
-    longer : (command : Command) (phs : List Phase) → length (with_do command phs) ≡ length phs
-    longer command [] = refl
-    longer command (phase ∷ phs) = refl
-
-    some : (period : ℕ) (lines : List Body) → 0 < length (phases_of period lines)
-    some period [] = omega arith
-    some period (Do command ∷ lines) = let same = longer command (phases_of period lines) in let rest = some period lines in omega (arith, same, rest)
-    some period (Run cycles ∷ lines) = omega arith
-    some period (Freewheel cycles ∷ lines) = omega arith
-    some period (Lane _ _ _ ∷ lines) = some period lines
-    some period (Period next ∷ lines) = some next lines

@@ -14,7 +14,6 @@ use Rattle.session_laws.proofs.SerialLawfulLemmas.{KeepsLanes-phases}
 use Rattle.control_desk.specs.Desks.{cycles_before}
 use Rattle.serial_lanes.specs.Lanes.{calls_behind, calls_until}
 use Rattle.serial_lanes.proofs.CallFronts.{lanes-next, calls-next_phase, calls-next_round}
-
 use Rattle.session_model.specs.Grammar.{IsScript}
 
 three : (a b c : Bool) → (a && b && c) ≡ true → (a ≡ true) × (b ≡ true) × (c ≡ true)

@@ -1,19 +1,17 @@
 -- What the lanes of a desk make in serial mode.
 --     steps-make      a lane that saw no later cycle makes just what is due
 --     group-makes, round-makes      lane 0 at a phase's beginning, and a round
-use Rattle.std.proofs.Common.{◌≡◌, ◌≢◌, ◌⊎◌, inl, inr, ℕ, zero, suc, ◌+◌, ◌*◌, ◌<◌, ◌≤◌, cond, ◌==◌, eq-eqb, List, [], ◌∷◌, ◌++◌, length, drop, slice_get, All, Contains, Some, None, refl, sym, ◌∙◌, ap, ap₂, subst, arith, append_assoc, append-nil}
-use Rattle.std.proofs.lemmas.List.Elements.{All-contains, Contains-append_left, Contains-append_right, filter-append}
-use Rattle.jack_types.specs.declared.replies.Entry.{Entry}
-use Rattle.graph_word.specs.Publications.{Publishing, Looks}
+use Rattle.std.proofs.Common.{◌≡◌, ◌≢◌, inl, inr, ℕ, zero, suc, ◌+◌, ◌*◌, ◌<◌, ◌≤◌, cond, ◌==◌, eq-eqb, List, [], ◌∷◌, ◌++◌, length, drop, slice_get, Contains, Some, refl, sym, ◌∙◌, ap, ap₂, subst, arith, append_assoc, append-nil}
+use Rattle.std.proofs.lemmas.List.Elements.{All-contains, Contains-append_right, filter-append}
+use Rattle.graph_word.specs.Publications.{Publishing}
 use Rattle.session_model.specs.Grammar.{IsScript}
 use Rattle.session_model.specs.Publication.{SeenPair}
-use Rattle.session_model.specs.Scripts.{Script, Phase, Planned, phases, planned, planned_of}
+use Rattle.session_model.specs.Scripts.{Script, Phase, Planned, phases, planned_of}
 use Rattle.session_model.specs.Serial.{answered, do_calls, due, lanes_at, history_with}
-use Rattle.session_laws.proofs.ListLemmas.{Each, Each-contains, Each-from_contains, Contains-filtered}
+use Rattle.session_laws.proofs.ListLemmas.{Each, Each-from_contains}
 use Rattle.session_laws.proofs.LoopLemmas.{Contains-first}
-use Rattle.session_laws.proofs.CycleLemmas.{filter-passes}
-use Rattle.control_desk.specs.Desks.{Desk, IsDone, LooksBy, Makes, Waits, cycles_before, made, next_call, within}
-use Rattle.serial_lanes.specs.Lanes.{BehindPhases, IsRound, LaneRuns, LaneSteps, LanesRun, SawUpTo, SerialDesk, Stops, calls_behind, calls_until, cycles_begun}
+use Rattle.control_desk.specs.Desks.{Desk, IsDone, LooksBy, Makes, Waits, made, next_call}
+use Rattle.serial_lanes.specs.Lanes.{BehindPhases, IsRound, LaneRuns, LaneSteps, SawUpTo, SerialDesk, Stops, calls_behind, calls_until, cycles_begun}
 use Rattle.serial_lanes.specs.Laws.{RoundOfLanes}
 use Rattle.control_desk.proofs.LaneLemmas.{within-some}
 use Rattle.serial_lanes.proofs.CallFronts.{calls-next_round}

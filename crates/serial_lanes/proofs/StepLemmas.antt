@@ -1,15 +1,15 @@
 -- What steps of a lane keep.
 --     On before after      the same desk, later in its phase
 --     lane-on, lanes-on      behind a lane's run, and behind a round
-use Rattle.std.proofs.Common.{◌≡◌, ◌⊎◌, inl, inr, ℕ, zero, suc, ◌+◌, ◌-◌, ◌*◌, ◌<◌, ◌≤◌, Bool, true, false, cond, ◌==◌, eq-eqb, ne_eqb, List, [], ◌∷◌, ◌++◌, length, take, slice_get, All, Some, refl, sym, ◌∙◌, ap, subst, arith, append_assoc, append-nil, take_at}
+use Rattle.std.proofs.Common.{◌≡◌, inl, inr, ℕ, zero, suc, ◌+◌, ◌-◌, ◌*◌, ◌<◌, ◌≤◌, cond, ◌==◌, eq-eqb, ne_eqb, List, [], ◌∷◌, ◌++◌, length, take, slice_get, All, Some, refl, sym, ◌∙◌, ap, subst, arith, append_assoc, append-nil, take_at}
 use Rattle.std.proofs.lemmas.Option.{slice_get_within}
 use Rattle.jack_types.specs.declared.replies.Entry.{Entry}
-use Rattle.graph_word.specs.Publications.{Publishing, Looks}
+use Rattle.graph_word.specs.Publications.{Publishing}
 use Rattle.session_model.specs.Histories.{accepted}
 use Rattle.session_model.specs.Publication.{SeenPair}
-use Rattle.session_model.specs.Scripts.{Script, Planned, planned_of}
+use Rattle.session_model.specs.Scripts.{planned_of}
 use Rattle.session_model.specs.Serial.{answered}
-use Rattle.control_desk.specs.Desks.{Desk, GoesOn, IsDone, LooksBy, Makes, MayStep, Waits, made, next_call, within}
+use Rattle.control_desk.specs.Desks.{Desk, IsDone, LooksBy, Makes, MayStep, Waits, made, within}
 use Rattle.control_desk.proofs.LaneLemmas.{of_lane, within-some}
 use Rattle.serial_lanes.specs.Lanes.{LaneRuns, LaneSteps, LanesRun, RanOn, SawUpTo, Stops}
 use Rattle.serial_lanes.proofs.ItemLemmas.{all-front, contained}

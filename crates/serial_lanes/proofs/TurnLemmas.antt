@@ -1,9 +1,8 @@
 -- The cycles of phases, and the turns.
-use Rattle.std.proofs.Common.{◌≡◌, ◌≢◌, ℕ, zero, suc, ◌+◌, ◌-◌, ◌<◌, ◌≤◌, ◌==◌, List, [], ◌∷◌, ◌++◌, length, length-append, take, slice_index_or, replicate, sum_by, refl, sym, ◌∙◌, ap, subst, arith, eq-eqb, ne_eqb}
+use Rattle.std.proofs.Common.{◌≡◌, ℕ, zero, suc, ◌+◌, ◌-◌, ◌<◌, ◌≤◌, List, [], ◌∷◌, ◌++◌, length, length-append, take, slice_index_or, replicate, sum_by, refl, ◌∙◌, ap, arith}
 use Rattle.std.proofs.lemmas.List.Sums.{sum_by_from}
 use Rattle.session_model.specs.Courses.{turn, no_turn}
-use Rattle.session_model.specs.Scripts.{Phase, Turn, phases, turns, turns_from}
-use Rattle.control_desk.specs.Desks.{cycles_before}
+use Rattle.session_model.specs.Scripts.{Phase, Turn, phases, turns_from}
 use Rattle.serial_lanes.proofs.ItemLemmas.{take-whole}
 use Rattle.serial_lanes.specs.Laws.{CyclesTotal}
 

@@ -3,7 +3,5 @@
 
 mod lanes;
 pub mod laws;
-#[cfg(test)]
-mod tests;
 
 pub use lanes::{begin_phase, round};

@@ -1,4 +1,4 @@
-use Rattle.std.proofs.Common.{◌≡◌, suc, ap, subst, sym, ◌∙◌}
+use Rattle.std.proofs.Common.{ap, subst, sym, ◌∙◌}
 use Rattle.session_model.specs.Grammar.{IsScript}
 use Rattle.session_model.specs.Histories.{accepted}
 use Rattle.session_model.specs.Scripts.{phases}
