@@ -140,7 +140,7 @@ impl Desk {
     }
 
     /// The lane's next call, if it has one in the phases begun.
-    pub(crate) fn next(&self, lane: usize) -> Option<PlannedCall>
+    fn next(&self, lane: usize) -> Option<PlannedCall>
         requires { lane ≤ 4 }
         ensures next { option_map plan_of result ≡ next_call self.now lane }
         ensures desk { IsDesk self.now }

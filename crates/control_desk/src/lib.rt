@@ -5,8 +5,6 @@ mod desk;
 mod history;
 pub mod laws;
 mod steps;
-#[cfg(test)]
-mod tests;
 
 pub use desk::Desk;
 pub use steps::Stepped;
