@@ -1,6 +1,6 @@
 -- An edge of a plan by its ends is what the definitions see of it.
 --     carried-named, joint-named      what links carry, and where connections bring their audio
-use Rattle.std.proofs.Common.{◌≡◌, ◌≢◌, ℕ, ◌+◌, ◌<◌, Bool, true, false, cond, not, ◌&&◌, ◌==◌, ◌↔◌, ◌⊎◌, inl, inr, All, List, [], ◌∷◌, length, map, filter, filter_map, get_or, position, take, count_by, Contains, IsPermutation, Option, Some, None, refl, sym, ◌∙◌, ap, ap₂, subst, arith, true≢false, eq-eqb, eqb-true}
+use Rattle.std.proofs.Common.{◌≡◌, ◌≢◌, ℕ, ◌+◌, ◌<◌, ◌≤◌, Bool, true, false, cond, not, ◌&&◌, ◌==◌, ◌↔◌, ◌⊎◌, inl, inr, All, List, [], ◌∷◌, length, map, filter, filter_map, get_or, position, take, count_by, Contains, IsPermutation, Option, Some, None, refl, sym, ◌∙◌, ap, ap₂, subst, arith, true≢false, eq-eqb, eqb-true}
 use Rattle.std.specs.List.{cons_option, position_or_len}
 use Rattle.std.specs.Option.{option_map, option_map_or}
 use Rattle.std.specs.Str.{bytes_eq}

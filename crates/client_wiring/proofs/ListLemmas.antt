@@ -86,14 +86,20 @@ pub place-map : {X Y : Type 0} (p : Y → Bool) (f : X → Y) (xs : List X) → 
 place-map p f [] = refl
 place-map p f (x ∷ xs) = ap (λ n. cond (not (p (f x))) (1 + n) 0) (place-map p f xs)
 
+-- a list that is taken whole
+pub take-whole : {X : Type 0} (xs : List X) → take (length xs) xs ≡ xs
+take-whole [] = refl
+take-whole (x ∷ xs) = ap (λ ys. x ∷ ys) (take-whole xs)
+
+pub taken-whole : {X : Type 0} (ys xs : List X) (i : ℕ) → ys ≡ xs → length ys ≤ i → i ≤ length ys → take i xs ≡ xs
+taken-whole ys xs i are least most =
+    let same : i ≡ length ys = omega (arith, least, most) in
+    ap (λ n. take n xs) (same ∙ ap length are) ∙ take-whole xs
+
 -- the elements at all places
 pub from_places : {X : Type 0} (xs : List X) (d : X) → map (λ k. get_or xs k d) (below (length xs)) ≡ xs
 from_places xs d = front (length xs) (omega arith) ∙ take-whole xs
   where
-    take-whole : {X : Type 0} (ys : List X) → take (length ys) ys ≡ ys
-    take-whole [] = refl
-    take-whole (y ∷ ys) = ap (λ zs. y ∷ zs) (take-whole ys)
-
     front : (n : ℕ) → n ≤ length xs → map (λ k. get_or xs k d) (below n) ≡ take n xs
     front zero h = refl
     front (suc n) h =

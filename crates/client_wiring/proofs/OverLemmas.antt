@@ -36,12 +36,12 @@ use Rattle.client_wiring.specs.Wirings.{carried_by, output_of}
 use Rattle.client_wiring.proofs.ListLemmas.{Contains-front, stands, take-made}
 use lib.Pointwise.{bytes_decides}
 
-same_link-is : (a b : Link) → same_link a b ≡ true → a ≡ b
+pub same_link-is : (a b : Link) → same_link a b ≡ true → a ≡ b
 same_link-is a b h =
     let both = and_parts (a.from == b.from) (a.to == b.to) h in
     ap₂ link_numbered (eqb-true a.from b.from both.0) (eqb-true a.to b.to both.1)
 
-same_link-self : (a : Link) → same_link a a ≡ true
+pub same_link-self : (a : Link) → same_link a a ≡ true
 same_link-self a = and_true (a.from == a.from) (a.to == a.to) (eq-eqb a.from a.from refl) (eq-eqb a.to a.to refl)
 
 -- links at one place are one

@@ -40,7 +40,7 @@ use Rattle.client_wiring.specs.declared.joints.Output.TheVariants.{Audio as Audi
 use Rattle.client_wiring.specs.declared.joints.Widths.{Widths}
 use Rattle.client_wiring.specs.Tables.{is_over, link_numbered}
 use Rattle.client_wiring.specs.Wirings.{SetsTasks, carried_by, joint_into, joint_of, link_over, origin_from, origin_of, output_name, output_of, part_from, port_index, route_by, source_place, widths_of, wired, wired_of}
-use Rattle.client_wiring.proofs.ListLemmas.{from_places}
+use Rattle.client_wiring.proofs.ListLemmas.{from_places, take-whole}
 use Rattle.client_wiring.proofs.NameLemmas.{bytes-turned}
 use Rattle.client_wiring.proofs.OverLemmas.{between-is, carries, is_between, name-of_place, same_link-is, same_link-self}
 use lib.Pointwise.{bytes_decides}
@@ -350,10 +350,6 @@ SetsTasks-wired plan p = record {
 
     inside : FeedbackInside (state_of_plan plan).edges
     inside = FeedbackInside-replay (opening_of plan.base) plan.changes (FeedbackInside-opening plan.base.capture plan.base.playback)
-
-    take-whole : {X : Type 0} (ys : List X) → take (length ys) ys ≡ ys
-    take-whole [] = refl
-    take-whole (y ∷ ys) = ap (λ zs. y ∷ zs) (take-whole ys)
 
     sound : IsSound (state_of_plan plan) (length plan.changes)
     sound = subst (λ cs. IsSound (replay (opening_of plan.base) cs) (length plan.changes)) (take-whole plan.changes)

@@ -1,14 +1,15 @@
-use Rattle.std.proofs.Common.{◌≡◌, ◌+◌, ◌<◌, ◌≤◌, ◌++◌, ◌∙◌, [], ap₂, arith, List, filter_map, get_or, length, subst, sym, take}
+use Rattle.std.proofs.Common.{◌≡◌, ◌+◌, ◌<◌, ◌≤◌, ◌++◌, ◌∙◌, [], ap, ap₂, arith, List, filter_map, get_or, length, subst, sym, take}
 use Rattle.std.specs.List.{cons_option}
 use Rattle.std.specs.Vec.{vec_capacity}
 use Rattle.jack_types.specs.declared.ports.Edge.{Edge}
 use Rattle.session_model.specs.Ids.{connection, connections}
+use Rattle.session_model.specs.State.{State}
 use Rattle.connection_set.specs.Connections.{no_edge}
 use Rattle.port_registry.specs.Registered.{open_clients}
 use Rattle.cycle_plan.specs.Graphs.{state_of}
 use Rattle.client_wiring.specs.Wirings.{carried_by, joint_of}
 use Rattle.client_wiring.proofs.EndLemmas.{carried-step, destination-listed, ids-low, joint-step, source-listed}
-use Rattle.client_wiring.proofs.ListLemmas.{made_more}
+use Rattle.client_wiring.proofs.ListLemmas.{made_more, taken-whole}
 use Rattle.client_wiring.proofs.joining.join_edges.Goals as goal
 
 pub end_at-source-requires-clause-ids : goal.end_at-source-requires-clause-ids
@@ -52,7 +53,15 @@ loop-edge-preserved c =
     }
 
 pub returns-clause-joints : goal.returns-clause-joints
-returns-clause-joints c = ?
+returns-clause-joints c =
+    c.loop-edge.invariant.joints
+    ∙ ap (λ (es : List Edge). filter_map (joint_of (state_of c.args.plan.now.network) (open_clients c.args.plan.now.nodes) c.args.plan.now.links) (connections c.args.plan.now.network.held.ports es))
+    (taken-whole c.edges-edge-items.result.now c.args.plan.now.network.set.edges c.loop-edge.edge-index c.edges-edge-items.ensures.value c.loop-edge-test.false c.loop-edge.auto.edge-index-end)
+    ∙ ap (λ (state : State). filter_map (joint_of state (open_clients c.args.plan.now.nodes) c.args.plan.now.links) state.edges) c.ports-ports.ensures.planned.state
 
 pub returns-clause-carried : goal.returns-clause-carried
-returns-clause-carried c = ?
+returns-clause-carried c =
+    c.loop-edge.invariant.carried
+    ∙ ap (λ (es : List Edge). filter_map (carried_by (state_of c.args.plan.now.network) (open_clients c.args.plan.now.nodes) c.args.plan.now.links) (connections c.args.plan.now.network.held.ports es))
+    (taken-whole c.edges-edge-items.result.now c.args.plan.now.network.set.edges c.loop-edge.edge-index c.edges-edge-items.ensures.value c.loop-edge-test.false c.loop-edge.auto.edge-index-end)
+    ∙ ap (λ (state : State). filter_map (carried_by state (open_clients c.args.plan.now.nodes) c.args.plan.now.links) state.edges) c.ports-ports.ensures.planned.state

@@ -5,7 +5,7 @@ use Rattle.client_wiring.proofs.TaskLemmas.{SetsTasks-wired}
 use Rattle.client_wiring.proofs.wiring.Wiring.fill.Goals as goal
 
 pub count_ports-requires : goal.count_ports-requires
-count_ports-requires c = nodes-low c.args.plan.now c.ports-ports.ensures.planned c.ports-ports.result.now c.ports-ports.ensures.value
+count_ports-requires c = record { nodes = nodes-low c.args.plan.now c.ports-ports.ensures.planned c.ports-ports.result.now c.ports-ports.ensures.value }
 
 pub tables_of-requires-clause-ids : goal.tables_of-requires-clause-ids
 tables_of-requires-clause-ids c = ids-low c.args.plan.now c.ports-ports.ensures.planned c.ports-ports.result.now c.ports-ports.ensures.value
