@@ -49,8 +49,8 @@ use Rattle.client_wiring.specs.declared.joints.Origin.TheVariants.{Handed, Kept,
 use Rattle.client_wiring.specs.declared.joints.Output.{Output}
 use Rattle.client_wiring.specs.declared.joints.Output.TheVariants.{Audio as AudioOutput, Midi as MidiOutput}
 use Rattle.client_wiring.specs.Ends.{IsEndAt, carried_from, joint_from, joint_with, origin_by, origin_with, output_at, output_by}
-use Rattle.client_wiring.specs.Tables.{AreCounts, class_place, in_class, is_over, link_from, link_numbered, node_place, number_in_class, widths_by}
-use Rattle.client_wiring.specs.Wirings.{carried_by, joint_into, joint_of, link_over, origin_from, origin_of, output_of, port_index, source_place, widths_of}
+use Rattle.client_wiring.specs.Tables.{AreCounts, class_place, in_class, is_over, joined, link_numbered, node_place, number_in_class, widths_by}
+use Rattle.client_wiring.specs.Wirings.{carried_by, carried_on, joint_into, joint_of, origin_from, origin_of, output_of, port_index, source_place, widths_of}
 use Rattle.client_wiring.proofs.NameLemmas.{Owns, Tells, audio_inputs-tell, audio_outputs-tell, bytes-turned, found-named, midi_outputs-tell, named-one, node-one, own-ports, place-named, place-none}
 use Rattle.client_wiring.proofs.ListLemmas.{position-called, stands}
 use Rattle.client_wiring.proofs.OverLemmas.{connection-counted}
@@ -194,10 +194,10 @@ module _ (plan : Planned) (p : IsPlanned plan) where
     pub carried-named : carried_from plan.links edge.mark source destination ≡ carried_by (state_of plan.network) (open_clients plan.nodes) plan.links (connection plan.network.held.ports edge)
     carried-named =
         ap₂ with_output (output-is edge.source source s (way-is edge.source source s Out (p.network.ends.sources edge m)))
-        (ap₂ (link_from plan.links edge.mark) (node-is edge.source source s) (node-is edge.destination destination d))
+        (ap₂ (joined edge.mark) (node-is edge.source source s) (node-is edge.destination destination d))
       where
-        with_output : Output → Option ℕ → Option Carried
-        with_output output over = option_map (λ l. record { link = l; output = output }) over
+        with_output : Output → Option Link → Option Carried
+        with_output output link = option_map (carried_on plan.links output) link
 
     wired : AreWired (state_of plan.network)
     wired = subst AreWired (sym p.state) (AreWired-replay (opening_of plan.base) plan.changes (AreWired-opening plan.base.capture plan.base.playback))

@@ -1,3 +1,4 @@
+mod AcceptedLemmas
 mod EndLemmas
 mod LinkLemmas
 mod ListLemmas

@@ -96,24 +96,17 @@ taken-whole ys xs i are least most =
     let same : i ≡ length ys = omega (arith, least, most) in
     ap (λ n. take n xs) (same ∙ ap length are) ∙ take-whole xs
 
--- the elements at all places
-pub from_places : {X : Type 0} (xs : List X) (d : X) → map (λ k. get_or xs k d) (below (length xs)) ≡ xs
-from_places xs d = front (length xs) (omega arith) ∙ take-whole xs
-  where
-    front : (n : ℕ) → n ≤ length xs → map (λ k. get_or xs k d) (below n) ≡ take n xs
-    front zero h = refl
-    front (suc n) h =
-        map-append (λ k. get_or xs k d) (below n) (n ∷ [])
-        ∙ ap (λ ys. ys ++ get_or xs n d ∷ []) (front n (omega (arith, h)))
-        ∙ sym (take_more xs n d (omega (arith, h)))
-        ∙ ap (λ k. take k xs) (let next : n + 1 ≡ suc n = omega arith in next)
+-- the elements at the first places, and at all
+pub places_front : {X : Type 0} (xs : List X) (d : X) (n : ℕ) → n ≤ length xs → map (λ k. get_or xs k d) (below n) ≡ take n xs
+places_front xs d zero h = refl
+places_front xs d (suc n) h =
+    map-append (λ k. get_or xs k d) (below n) (n ∷ [])
+    ∙ ap (λ ys. ys ++ get_or xs n d ∷ []) (places_front xs d n (omega (arith, h)))
+    ∙ sym (take_more xs n d (omega (arith, h)))
+    ∙ ap (λ k. take k xs) (let next : n + 1 ≡ suc n = omega arith in next)
 
--- a table of zeros
-pub zeros_few : (n class i : ℕ) → class < n → get_or (replicate {A = ℕ} n 0) class 0 ≤ i
-zeros_few n class i h =
-    let zeros : List ℕ = replicate n 0 in
-    let none : get_or zeros class 0 ≡ 0 = get_or-replicate n class 0 0 h in
-    omega (arith, none)
+pub from_places : {X : Type 0} (xs : List X) (d : X) → map (λ k. get_or xs k d) (below (length xs)) ≡ xs
+from_places xs d = places_front xs d (length xs) (omega arith) ∙ take-whole xs
 
 -- the first elements of what others are made into
 pub take-made : {X Y : Type 0} (f : X → Y) (n : ℕ) (xs : List X) → map f (take n xs) ≡ take n (map f xs)
@@ -145,3 +138,10 @@ made_more f g xs i d h =
     ap (λ ys. filter_map f (map g ys)) (take_more xs i d h)
     ∙ ap (filter_map f) (map-append g (take i xs) (get_or xs i d ∷ []))
     ∙ filter_map-append f (map g (take i xs)) (g (get_or xs i d) ∷ [])
+
+-- a table of zeros
+pub zeros_few : (n class i : ℕ) → class < n → get_or (replicate {A = ℕ} n 0) class 0 ≤ i
+zeros_few n class i h =
+    let zeros : List ℕ = replicate n 0 in
+    let none : get_or zeros class 0 ≡ 0 = get_or-replicate n class 0 0 h in
+    omega (arith, none)

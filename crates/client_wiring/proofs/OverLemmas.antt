@@ -32,7 +32,7 @@ use Rattle.cycle_plan.specs.Plans.{IsPlanned, Planned, link_in, opening_of}
 use Rattle.cycle_plan.proofs.NetworkLemmas.{bool-same, fails}
 use Rattle.client_wiring.specs.declared.joints.Carried.{Carried}
 use Rattle.client_wiring.specs.Tables.{is_over, link_numbered}
-use Rattle.client_wiring.specs.Wirings.{carried_by, output_of}
+use Rattle.client_wiring.specs.Wirings.{carried_by, carried_on, output_of}
 use Rattle.client_wiring.proofs.ListLemmas.{Contains-front, stands, take-made}
 use lib.Pointwise.{bytes_decides}
 
@@ -146,13 +146,13 @@ module _ (state : State) (nodes : List OpenClient) (links : List Link) (plan : I
       P : ℕ
       P = position_or_len (same_link (link_numbered a n)) links
 
-      output : Option ℕ → Option Carried
-      output over = option_map (λ l. record { link = l; output = output_of state edge.source }) over
+      made : Option Link → Option Carried
+      made link = option_map (carried_on links (output_of state edge.source)) link
 
       go : (o : Option Link) → link_in nodes edge ≡ o → is_between nodes a n edge ≡ carries (position_or_len (same_link (link_numbered a n)) links) (carried_by state nodes links edge)
       go None e =
           fails (is_between nodes a n edge) (λ t. apart (link_numbered a n) (sym e ∙ link-of_between a n edge low less t))
-          ∙ sym (ap (λ o. carries P (output (option_map (λ link. position_or_len (same_link link) links) o))) e)
+          ∙ sym (ap (λ o. carries P (made o)) e)
       go (Some l) e =
           bool-same (is_between nodes a n edge) (position_or_len (same_link l) links == P)
           (λ t. let same : l ≡ link_numbered a n = one l (link_numbered a n) (sym e ∙ link-of_between a n edge low less t) in
@@ -161,7 +161,7 @@ module _ (state : State) (nodes : List OpenClient) (links : List Link) (plan : I
           let listed : Contains links l = plan.joined edge l.from l.to m ends.1 ends.2 ends.3 in
           let same : l ≡ link_numbered a n = one-link links l (link_numbered a n) listed there (eqb-true (position_or_len (same_link l) links) P t) in
           (between-of_link a n edge (e ∙ ap Some same)).0)
-          ∙ sym (ap (λ o. carries P (output (option_map (λ link. position_or_len (same_link link) links) o))) e)
+          ∙ sym (ap (λ o. carries P (made o)) e)
 
 -- the place of an edge among those between its nodes
 pub connection-counted : (plan : Planned) → IsPlanned plan → (edge : Edge) (index : ℕ) → index < length plan.network.set.edges → get_or plan.network.set.edges index edge ≡ edge

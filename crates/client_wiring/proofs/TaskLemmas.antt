@@ -1,17 +1,17 @@
 -- A plan's wiring says the parts and the routes of its clients' work.
 --     SetsTasks-wired      so does the wiring of every plan
-use Rattle.std.proofs.Common.{◌≡◌, ◌≢◌, ℕ, zero, suc, ◌+◌, ◌<◌, ◌≤◌, ◌^◌, Bool, true, false, cond, not, ◌&&◌, ◌==◌, ◌⊎◌, inl, inr, List, [], ◌∷◌, ◌++◌, length, map, filter, filter_map, get_or, position, take, Contains, Option, Some, None, nat_lt, ℤ, refl, sym, ◌∙◌, ap, ap₂, subst, arith, true≢false, eq-eqb, eqb-true}
+use Rattle.std.proofs.Common.{◌≡◌, ◌≢◌, ℕ, zero, suc, ◌+◌, ◌<◌, ◌≤◌, ◌^◌, Bool, true, false, cond, not, ◌&&◌, ◌==◌, ◌⊎◌, inl, inr, List, [], ◌∷◌, ◌++◌, length, map-id, map, filter, filter_map, get_or, position, take, count_by, Contains, Option, Some, None, nat_lt, ℤ, refl, sym, ◌∙◌, ap, ap₂, subst, arith, true≢false, eq-eqb, eqb-true}
 use Rattle.std.specs.List.{cons_option, position_or_len}
 use Rattle.std.specs.Option.{option_map, option_map_or}
 use Rattle.std.specs.Str.{bytes_eq}
 use Rattle.std.proofs.lemmas.List.{get_or-map, get_or_default, length-map, map-append}
 use Rattle.std.proofs.lemmas.List.Quantifiers.{position-Some}
-use Rattle.std.proofs.lemmas.List.Sums.{position_or_len_is}
+use Rattle.std.proofs.lemmas.List.Sums.{length-filter, position_or_len_is}
 use Rattle.jack_types.specs.Names.{client_part}
 use Rattle.jack_types.specs.declared.ports.Link.{Link}
 use Rattle.jack_types.specs.declared.ports.Mark.{Mark}
 use Rattle.jack_types.specs.declared.ports.Mark.TheVariants.{Direct, Feedback}
-use Rattle.session_model.specs.Activation.{AreLinks, link_at, no_link, outgoing}
+use Rattle.session_model.specs.Activation.{AreLinks, link_at, no_link, outgoing, place_among}
 use Rattle.session_model.specs.Benches.{IsPlan, Part, Known, Handed as HandedPart, Route, audio_part_of, direct_part, edge_place, edges_between, fixed_audio, link_place, marked_part, node_at, place_in, port_place, route_of}
 use Rattle.session_model.specs.Commands.{is_audio, is_input, ports_of, replay}
 use Rattle.session_model.specs.Courses.{players}
@@ -24,13 +24,14 @@ use Rattle.session_laws.proofs.FeedbackLemmas.{FeedbackInside, FeedbackInside-op
 use Rattle.session_laws.proofs.GraphLemmas.{route-audio, route-midi}
 use Rattle.session_laws.proofs.LoopLemmas.{Contains-first, Contains-later, and_parts, and_true}
 use Rattle.session_laws.proofs.PlaceLemmas.{filter-contains, filter-keeps, position-found, position-passes}
-use Rattle.session_laws.proofs.PlanLemmas.{Distinct-from_Apart, IsSound-opening}
-use Rattle.session_laws.proofs.SequentialLemmas.{Contains-below}
+use Rattle.session_laws.proofs.PlanLemmas.{Apart-below, Distinct-from_Apart, IsSound-opening}
+use Rattle.session_laws.proofs.SequentialLemmas.{Contains-below, outgoing_at}
 use Rattle.session_laws.proofs.SoundLemmas.{Apart-filter, Apart-same, IsSound-replay}
 use Rattle.session_laws.proofs.WiredLemmas.{AreWired, AreWired-opening, AreWired-replay}
+use Rattle.port_registry.proofs.FilterLemmas.{map-filter_after}
 use Rattle.port_registry.specs.Registered.{open_client, open_clients}
 use Rattle.cycle_plan.specs.Layouts.{same_link}
-use Rattle.cycle_plan.specs.Plans.{IsPlanned, Planned, opening_of, state_of_plan}
+use Rattle.cycle_plan.specs.Plans.{IsPlanned, Planned, link_in, opening_of, state_of_plan}
 use Rattle.cycle_plan.proofs.NetworkLemmas.{bool-same, fails}
 use Rattle.client_wiring.specs.declared.joints.Carried.{Carried}
 use Rattle.client_wiring.specs.declared.joints.Joint.{Joint}
@@ -39,10 +40,10 @@ use Rattle.client_wiring.specs.declared.joints.Output.{Output}
 use Rattle.client_wiring.specs.declared.joints.Output.TheVariants.{Audio as AudioOutput, Midi as MidiOutput}
 use Rattle.client_wiring.specs.declared.joints.Widths.{Widths}
 use Rattle.client_wiring.specs.Tables.{is_over, link_numbered}
-use Rattle.client_wiring.specs.Wirings.{SetsTasks, carried_by, joint_into, joint_of, link_over, origin_from, origin_of, output_name, output_of, part_from, port_index, route_by, source_place, widths_of, wired, wired_of}
-use Rattle.client_wiring.proofs.ListLemmas.{from_places, take-whole}
+use Rattle.client_wiring.specs.Wirings.{SetsTasks, carried_by, carried_on, is_from, joint_into, joint_of, link_index, place_out_of, origin_from, origin_of, output_name, output_of, part_from, port_index, route_by, source_place, widths_of, wired, wired_of}
+use Rattle.client_wiring.proofs.ListLemmas.{from_places, places_front, take-whole}
 use Rattle.client_wiring.proofs.NameLemmas.{bytes-turned}
-use Rattle.client_wiring.proofs.OverLemmas.{between-is, carries, is_between, name-of_place, same_link-is, same_link-self}
+use Rattle.client_wiring.proofs.OverLemmas.{between-is, between-of_link, carries, is_between, name-of_place, same_link-is, same_link-self}
 use lib.Pointwise.{bytes_decides}
 
 -- ---- lists
@@ -98,6 +99,9 @@ place-index test xs i e = go (nat_lt (position_or_len test xs) (length xs)) refl
     go true f = one (position_or_len test xs) i (sym (ap (λ b. cond b (Some (position_or_len test xs)) None) f) ∙ e)
     go false f = absurd (apart i (sym (ap (λ b. cond b (Some (position_or_len test xs)) None) f) ∙ e))
 
+below-apart : (n : ℕ) → Apart (λ (k : ℕ). k) (below n)
+below-apart n = subst (Apart (λ (k : ℕ). k)) (map-id (below n)) (Apart-below (λ (k : ℕ). k) (λ k. k) n (λ i j p q e. e))
+
 -- ---- a state with its plan
 
 module _ (state : State) (nodes : List OpenClient) (links : List Link) (plan : IsPlan state nodes links) (number : ℕ) (sound : IsSound state number) (wired_so : AreWired state) (inside : FeedbackInside state.edges) where
@@ -124,11 +128,30 @@ module _ (state : State) (nodes : List OpenClient) (links : List Link) (plan : I
   -- ---- routes
 
   carried-output : (edge : Connection) (x : Carried) → carried_by state nodes links edge ≡ Some x → x.output ≡ output_of state edge.source
-  carried-output edge x e = go (link_over nodes links edge) e
+  carried-output edge x e = go (link_in nodes edge) e
     where
-      go : (o : Option ℕ) → option_map (λ l. (let made : Carried = record { link = l; output = output_of state edge.source } in made)) o ≡ Some x → x.output ≡ output_of state edge.source
+      go : (o : Option Link) → option_map (carried_on links (output_of state edge.source)) o ≡ Some x → x.output ≡ output_of state edge.source
       go None f = absurd (apart f)
-      go (Some l) f = sym (ap (λ (c : Carried). c.output) (some-one (record { link = l; output = output_of state edge.source }) x f))
+      go (Some link) f = sym (ap (λ (c : Carried). c.output) (some-one (carried_on links (output_of state edge.source) link) x f))
+
+  -- a link of the plan stands at its place, and goes out at its place
+  link-there : (link : Link) → Contains links link → (link_index links link < length links) × (link_at links (link_index links link) ≡ link)
+  link-there link m =
+      let w = position-passes (same_link link) links link no_link m (same_link-self link) in
+      (w.0, sym (same_link-is link (link_at links (link_index links link)) w.1))
+
+  place-out : (link : Link) → Contains links link → place_out_of links link ≡ place_among links (link_index links link)
+  place-out link m =
+      sym (length-filter (is_from link.from) (take (link_index links link) links))
+      ∙ ap (λ ls. length (filter (is_from link.from) ls)) (sym (places_front links no_link (link_index links link) (omega (arith, (link-there link m).0))))
+      ∙ ap length (sym (map-filter_after (link_at links) (is_from link.from) (below (link_index links link))))
+      ∙ length-map (filter (λ k. is_from link.from (link_at links k)) (below (link_index links link))) (link_at links)
+      ∙ length-filter (λ k. is_from link.from (link_at links k)) (below (link_index links link))
+      ∙ ap (λ (l : Link). count_by (λ k. (link_at links k).from == l.from) (below (link_index links link))) (sym (link-there link m).1)
+
+  -- the link of an edge is one of the plan's
+  link-listed : (edge : Connection) → Contains state.edges edge → (link : Link) → link_in nodes edge ≡ Some link → Contains links link
+  link-listed edge m link e = let ends = between-of_link state nodes links plan link.from link.to edge e in plan.joined edge link.from link.to m ends.1 ends.2 ends.3
 
   route-is : (edge : Connection) → Contains state.edges edge → (name : List ℕ) → client_part edge.source ≡ name → route_of state name edge.source ≡ route_by (output_of state edge.source)
   route-is edge m name e = ap (λ n. route_of state n edge.source) (sym e) ∙ go (wired_so edge m).0 (wired_so edge m).1
@@ -151,25 +174,37 @@ module _ (state : State) (nodes : List OpenClient) (links : List Link) (plan : I
 
   pub routes-are : (n : ℕ) → n < length nodes
       → map (λ l. map (λ (edge : Connection). route_of state (node_at nodes n).name edge.source) (edges_between state (node_at nodes n).name (node_at nodes (link_at links l).to).name)) (outgoing links n)
-      ≡ map (λ l. map (λ (carried : Carried). route_by carried.output) (filter (λ (carried : Carried). carried.link == l) (filter_map (carried_by state nodes links) state.edges))) (outgoing links n)
-  routes-are n low = same-map _ _ (outgoing links n) over
+      ≡ map (λ k. map (λ (carried : Carried). route_by carried.output) (filter (λ (carried : Carried). carried.node == n && carried.place == k) (filter_map (carried_by state nodes links) state.edges))) (below (length (outgoing links n)))
+  routes-are n low =
+      same-places (λ l. map (λ (edge : Connection). route_of state (node_at nodes n).name edge.source) (edges_between state (node_at nodes n).name (node_at nodes (link_at links l).to).name))
+      (λ k. map (λ (carried : Carried). route_by carried.output) (filter (λ (carried : Carried). carried.node == n && carried.place == k) (filter_map (carried_by state nodes links) state.edges)))
+      (outgoing links n) 0 over
     where
-      over : (l : ℕ) → Contains (outgoing links n) l
-          → map (λ (edge : Connection). route_of state (node_at nodes n).name edge.source) (edges_between state (node_at nodes n).name (node_at nodes (link_at links l).to).name)
-          ≡ map (λ (carried : Carried). route_by carried.output) (filter (λ (carried : Carried). carried.link == l) (filter_map (carried_by state nodes links) state.edges))
-      over l m =
-          same-made (λ (edge : Connection). route_of state (node_at nodes n).name edge.source) (λ (carried : Carried). route_by carried.output) (is_between nodes n (link_at links l).to) (is_over l) (carried_by state nodes links) state.edges
-          (λ edge k. between-is state nodes links plan n (link_at links l).to low into listed edge k ∙ ap (λ k. carries k (carried_by state nodes links edge)) place ∙ carried-passes (carried_by state nodes links edge))
-          (λ edge x k t made. route-is edge k (node_at nodes n).name (source edge t) ∙ sym (ap route_by (carried-output edge x made)))
+      over : (k : ℕ) → k < length (outgoing links n)
+          → map (λ (edge : Connection). route_of state (node_at nodes n).name edge.source) (edges_between state (node_at nodes n).name (node_at nodes (link_at links (get_or (outgoing links n) k 0)).to).name)
+          ≡ map (λ (carried : Carried). route_by carried.output) (filter (λ (carried : Carried). carried.node == n && carried.place == k) (filter_map (carried_by state nodes links) state.edges))
+      over k inside-k =
+          same-made (λ (edge : Connection). route_of state (node_at nodes n).name edge.source) (λ (carried : Carried). route_by carried.output) (is_between nodes n (link_at links l).to) here (carried_by state nodes links) state.edges
+          (λ edge e. between-is state nodes links plan n (link_at links l).to low into listed edge e ∙ ap (λ j. carries j (carried_by state nodes links edge)) place ∙ at-place edge e)
+          (λ edge x e t made. route-is edge e (node_at nodes n).name (source edge t) ∙ sym (ap route_by (carried-output edge x made)))
         where
+          l : ℕ
+          l = get_or (outgoing links n) k 0
+
+          m : Contains (outgoing links n) l
+          m = (k, inside-k, get_or_default (outgoing links n) k l 0 inside-k)
+
+          here : Carried → Bool
+          here carried = carried.node == n && carried.place == k
+
           within : l < length links
-          within = Contains-below (length links) l (filter-contains (λ k. (link_at links k).from == n) (below (length links)) l m)
+          within = Contains-below (length links) l (filter-contains (λ j. (link_at links j).from == n) (below (length links)) l m)
 
           from : (link_at links l).from ≡ n
-          from = eqb-true (link_at links l).from n (filter-passes (λ k. (link_at links k).from == n) (below (length links)) l m)
+          from = eqb-true (link_at links l).from n (filter-passes (λ j. (link_at links j).from == n) (below (length links)) l m)
 
           it : link_at links l ≡ link_numbered n (link_at links l).to
-          it = ap (λ k. link_numbered k (link_at links l).to) from
+          it = ap (λ j. link_numbered j (link_at links l).to) from
 
           listed : Contains links (link_numbered n (link_at links l).to)
           listed = subst (Contains links) it (l, within, get_or_default links l (link_at links l) no_link within)
@@ -177,15 +212,50 @@ module _ (state : State) (nodes : List OpenClient) (links : List Link) (plan : I
           into : (link_at links l).to < length nodes
           into = plan.upward.within l no_link within
 
-          place : position_or_len (same_link (link_numbered n (link_at links l).to)) links ≡ l
+          place : link_index links (link_numbered n (link_at links l).to) ≡ l
           place = position_or_len_is (same_link (link_numbered n (link_at links l).to)) links l no_link (omega (arith, within))
-              (λ k less. fails (same_link (link_numbered n (link_at links l).to) (get_or links k no_link))
-              (λ t. plan.upward.distinct k l no_link less within (sym (same_link-is (link_numbered n (link_at links l).to) (get_or links k no_link) t) ∙ sym it)))
+              (λ j less. fails (same_link (link_numbered n (link_at links l).to) (get_or links j no_link))
+              (λ t. plan.upward.distinct j l no_link less within (sym (same_link-is (link_numbered n (link_at links l).to) (get_or links j no_link) t) ∙ sym it)))
               (λ h. ap (same_link (link_numbered n (link_at links l).to)) it ∙ same_link-self (link_numbered n (link_at links l).to))
 
-          carried-passes : (o : Option Carried) → carries l o ≡ passes (is_over l) o
-          carried-passes None = refl
-          carried-passes (Some c) = refl
+          -- the link goes out at this place
+          outgoing-place : place_among links l ≡ k
+          outgoing-place =
+              let there = outgoing_at links l 0 within in
+              Distinct-from_Apart (λ (j : ℕ). j) (outgoing links n) (Apart-filter (λ (j : ℕ). j) (λ j. (link_at links j).from == n) (below (length links)) (below-apart (length links))) (place_among links l) k 0
+              (subst (λ j. place_among links l < length (outgoing links j)) from there.0) inside-k
+              (subst (λ j. get_or (outgoing links j) (place_among links l) 0 ≡ l) from there.1)
+
+          at-place : (edge : Connection) → Contains state.edges edge → carries l (carried_by state nodes links edge) ≡ passes here (carried_by state nodes links edge)
+          at-place edge e = go (link_in nodes edge) refl
+            where
+              made : Option Link → Option Carried
+              made link = option_map (carried_on links (output_of state edge.source)) link
+
+              go : (o : Option Link) → link_in nodes edge ≡ o → carries l (made (link_in nodes edge)) ≡ passes here (made (link_in nodes edge))
+              go None f = ap (λ o. carries l (made o)) f ∙ sym (ap (λ o. passes here (made o)) f)
+              go (Some link) f =
+                  ap (λ o. carries l (made o)) f
+                  ∙ bool-same (link_index links link == l) (link.from == n && place_out_of links link == k) forward back
+                  ∙ sym (ap (λ o. passes here (made o)) f)
+                where
+                  known : Contains links link
+                  known = link-listed edge e link f
+
+                  forward : (link_index links link == l) ≡ true → (link.from == n && place_out_of links link == k) ≡ true
+                  forward t =
+                      let index : link_index links link ≡ l = eqb-true (link_index links link) l t in
+                      let same : link ≡ link_at links l = sym (link-there link known).1 ∙ ap (link_at links) index in
+                      and_true (link.from == n) (place_out_of links link == k) (eq-eqb link.from n (ap (λ (x : Link). x.from) same ∙ from))
+                      (eq-eqb (place_out_of links link) k (place-out link known ∙ ap (place_among links) index ∙ outgoing-place))
+
+                  back : (link.from == n && place_out_of links link == k) ≡ true → (link_index links link == l) ≡ true
+                  back t =
+                      let both = and_parts (link.from == n) (place_out_of links link == k) t in
+                      let its_from : (link_at links (link_index links link)).from ≡ n = ap (λ (x : Link). x.from) (link-there link known).1 ∙ eqb-true link.from n both.0 in
+                      let its_place : place_among links (link_index links link) ≡ k = sym (place-out link known) ∙ eqb-true (place_out_of links link) k both.1 in
+                      let there : get_or (outgoing links (link_at links (link_index links link)).from) (place_among links (link_index links link)) 0 ≡ link_index links link = (outgoing_at links (link_index links link) 0 (link-there link known).0).1 in
+                      eq-eqb (link_index links link) l (sym there ∙ ap₂ (λ j i. get_or (outgoing links j) i 0) its_from its_place)
 
           source : (edge : Connection) → is_between nodes n (link_at links l).to edge ≡ true → client_part edge.source ≡ (node_at nodes n).name
           source edge t =

@@ -21,7 +21,8 @@ use Rattle.client_wiring.specs.declared.joints.Origin.{Origin}
 use Rattle.client_wiring.specs.declared.joints.Origin.TheVariants.{Handed, Kept, Captured}
 use Rattle.client_wiring.specs.declared.joints.Output.{Output}
 use Rattle.client_wiring.specs.declared.joints.Output.TheVariants.{Audio as AudioOutput, Midi as MidiOutput}
-use Rattle.client_wiring.specs.Tables.{class_place, is_over, link_from, link_numbered, node_place}
+use Rattle.client_wiring.specs.Tables.{class_place, is_over, joined, link_numbered, node_place}
+use Rattle.client_wiring.specs.Wirings.{carried_on}
 
 -- the end at the port of an id: this port of the list
 pub record IsEndAt (ports : List Port) (nodes : List Client) (id : PortId) (end : End) : Type 0 where
@@ -42,7 +43,7 @@ abbrev pub output_at : End → Output
 output_at source = output_by source.kind source.place
 
 abbrev pub carried_from : List Link → Mark → End → End → Option Carried
-carried_from links mark source destination = option_map (λ l. record { link = l; output = output_at source }) (link_from links mark source.node destination.node)
+carried_from links mark source destination = option_map (carried_on links (output_at source)) (joined mark source.node destination.node)
 
 abbrev pub origin_with : List Link → ℕ → ℕ → List Carried → Mark → Option ℕ → Origin
 origin_with links place n carried Direct (Some from) = Handed (link_place links from n) (count_by (is_over (position_or_len (same_link (link_numbered from n)) links)) carried)

@@ -4,10 +4,8 @@
 --     ArePlaces ports places      at each id stands its port's place among those of its class
 --     AreCounts ports counts      at each class stands how many ports it has
 --     node_place nodes node      where a client's node stands among the plan's
---     link_from links mark from to      which link carries an edge between two nodes
+--     joined mark from to      the link that an edge between two nodes makes
 use Rattle.std.specs.Prelude.{◌≡◌, ℕ, ◌+◌, ◌*◌, ◌<◌, Bool, ◌==◌, List, filter, length, position, take, slice_index_or, Option, None, if◌then◌else◌}
-use Rattle.std.specs.List.{position_or_len}
-use Rattle.std.specs.Option.{option_map}
 use Rattle.jack_types.specs.declared.ports.Client.{Client}
 use Rattle.jack_types.specs.declared.ports.Link.{Link}
 use Rattle.jack_types.specs.declared.ports.Mark.{Mark}
@@ -21,7 +19,7 @@ use Rattle.jack_types.specs.declared.ports.Way.TheVariants.{In, Out}
 use Rattle.session_model.specs.Ids.{same_id_node, way_of}
 use Rattle.session_model.specs.State.{is_direct}
 use Rattle.feedback_edges.specs.Marking.{node_number}
-use Rattle.cycle_plan.specs.Layouts.{link_between, same_link}
+use Rattle.cycle_plan.specs.Layouts.{link_between}
 use Rattle.client_wiring.specs.declared.joints.Carried.{Carried}
 use Rattle.client_wiring.specs.declared.joints.Widths.{Widths}
 
@@ -62,9 +60,9 @@ node_place nodes node = position (λ (client : Client). same_id_node node (Clien
 abbrev pub link_numbered : ℕ → ℕ → Link
 link_numbered from to = record { from = from; to = to }
 
--- which link carries an edge between two nodes; none carries a feedback edge
-abbrev pub link_from : List Link → Mark → Option ℕ → Option ℕ → Option ℕ
-link_from links mark from to = option_map (λ link. position_or_len (same_link link) links) (if is_direct mark then link_between from to else None)
+-- the link that an edge between two nodes makes; a feedback edge makes none
+abbrev pub joined : Mark → Option ℕ → Option ℕ → Option Link
+joined mark from to = if is_direct mark then link_between from to else None
 
 -- whether a link carries a connection
 abbrev pub is_over : ℕ → Carried → Bool

@@ -2,7 +2,7 @@
 --     Wired      of each node its widths, the connections into audio inputs, and those that links carry
 --     wired state nodes links      the wiring of a plan, by names
 --     SetsTasks plan wired      what a wiring says of the work of each client
-use Rattle.std.specs.Prelude.{◌≡◌, ℕ, ◌<◌, ◌&&◌, ◌==◌, List, [], filter, filter_map, length, map, ℤ, Option, Some, None, slice_index_or}
+use Rattle.std.specs.Prelude.{◌≡◌, ℕ, ◌<◌, Bool, ◌&&◌, ◌==◌, List, count_by, filter, filter_map, length, map, take, ℤ, Option, Some, None, slice_index_or}
 use Rattle.std.specs.List.{position_or_len}
 use Rattle.std.specs.Option.{option_map, option_map_or}
 use Rattle.std.specs.Str.{bytes_eq}
@@ -43,12 +43,22 @@ port_index ports name = position_or_len (λ (port : OpenPort). bytes_eq port.nam
 abbrev pub output_of : State → List ℕ → Output
 output_of state port = option_map_or AudioOutput (port_place (audio_outputs state (client_part port)) port) (MidiOutput (port_index (midi_outputs state (client_part port)) port))
 
--- the place of the link that carries an edge: a direct one between two nodes
-abbrev pub link_over : List OpenClient → List Link → Connection → Option ℕ
-link_over nodes links edge = option_map (λ link. position_or_len (same_link link) links) (link_in nodes edge)
+-- the place of a link among the plan's, and how many links before it go out from its node
+abbrev pub link_index : List Link → Link → ℕ
+link_index links link = position_or_len (same_link link) links
+
+abbrev pub is_from : ℕ → Link → Bool
+is_from n link = link.from == n
+
+abbrev pub place_out_of : List Link → Link → ℕ
+place_out_of links link = count_by (is_from link.from) (take (link_index links link) links)
+
+-- a connection that a link carries: a direct edge between two nodes
+abbrev pub carried_on : List Link → Output → Link → Carried
+carried_on links output link = record { node = link.from; place = place_out_of links link; link = link_index links link; output = output }
 
 abbrev pub carried_by : State → List OpenClient → List Link → Connection → Option Carried
-carried_by state nodes links edge = option_map (λ l. record { link = l; output = output_of state edge.source }) (link_over nodes links edge)
+carried_by state nodes links edge = option_map (carried_on links (output_of state edge.source)) (link_in nodes edge)
 
 -- the place of an edge's source among its client's audio outputs; those of `system` are the channels of the capture
 abbrev pub source_place : State → Connection → ℕ
@@ -84,12 +94,12 @@ wired state nodes links = record {
 abbrev pub wired_of : Planned → Wired
 wired_of plan = wired (state_of_plan plan) (open_clients plan.nodes) plan.links
 
--- the connections into an input of a node, and those that a link carries
+-- the connections into an input of a node, and those that its outgoing link of this place carries
 abbrev pub joints_at : Wired → ℕ → ℕ → List Joint
 joints_at wiring n input = filter (λ (joint : Joint). joint.node == n && joint.input == input) wiring.joints
 
-abbrev pub carried_over : Wired → ℕ → List Carried
-carried_over wiring l = filter (λ (carried : Carried). carried.link == l) wiring.carried
+abbrev pub carried_at : Wired → ℕ → ℕ → List Carried
+carried_at wiring n place = filter (λ (carried : Carried). carried.node == n && carried.place == place) wiring.carried
 
 -- the name of the audio output of this place of the client at a node
 abbrev pub output_name : State → List OpenClient → ℕ → ℕ → List ℕ
@@ -114,4 +124,4 @@ pub record SetsTasks (plan : Planned) (wiring : Wired) : Type 0 where
       ≡ map (λ i. map (λ (joint : Joint). part_from at (open_clients plan.nodes) joint.origin) (joints_at wiring n i)) (below (length (audio_inputs at.graph (node_at (open_clients plan.nodes) n).name)))
   pub routes : (n : ℕ) → n < length plan.nodes
       → map (λ l. map (λ (edge : Connection). route_of (state_of_plan plan) (node_at (open_clients plan.nodes) n).name edge.source) (edges_between (state_of_plan plan) (node_at (open_clients plan.nodes) n).name (node_at (open_clients plan.nodes) (link_at plan.links l).to).name)) (outgoing plan.links n)
-      ≡ map (λ l. map (λ (carried : Carried). route_by carried.output) (carried_over wiring l)) (outgoing plan.links n)
+      ≡ map (λ k. map (λ (carried : Carried). route_by carried.output) (carried_at wiring n k)) (below (length (outgoing plan.links n)))

@@ -9,7 +9,7 @@ ghost use Rattle.client_wiring.specs.Wirings.{wired_of};
 use crate::adding::put_some;
 use crate::ends::{End, end_at};
 use crate::joints::{Carried, Joint, Origin, Output};
-use crate::links::{count_over, first_link, link_between, place_into};
+use crate::links::{count_over, first_link, place_into, place_out_of};
 use crate::tables::Tables;
 use cycle_plan::Plan;
 use jack_types::{Link, Mark, PortKind};
@@ -28,12 +28,14 @@ fn output_of(source: &End) -> Output
 fn carried_of(links: &[Link], mark: Mark, source: &End, destination: &End) -> Option<Carried>
     ensures { result ≡ carried_from links.now mark source.now destination.now }
 {
-    match link_between(links, mark, source.node, destination.node) {
-        Some(link) => Some(Carried {
-            link,
+    match (mark, source.node, destination.node) {
+        (Mark::Direct, Some(from), Some(to)) => Some(Carried {
+            node: from,
+            place: place_out_of(links, from, to),
+            link: first_link(links, from, to),
             output: output_of(source),
         }),
-        None => None,
+        _ => None,
     }
 }
 

@@ -27,9 +27,12 @@ pub struct Joint {
     pub origin: Origin,
 }
 
-/// A connection that a link carries: the link's place among the plan's links, and the output that it carries.
+/// A connection that a link carries: the node that it goes out from, the link's place among those that go out from this
+/// node, and among all links of the plan, and the output that is carried.
 #[derive(Clone, Copy, PartialEq, Eq, Debug)]
 pub struct Carried {
+    pub node: usize,
+    pub place: usize,
     pub link: usize,
     pub output: Output,
 }

@@ -4,10 +4,11 @@ ghost use Rattle.std.specs.Prelude.{◌≡◌, ◌≤◌, count_by, length};
 ghost use Rattle.std.specs.List.{position_or_len};
 ghost use Rattle.session_model.specs.Benches.{link_place};
 ghost use Rattle.cycle_plan.specs.Layouts.{same_link};
-ghost use Rattle.client_wiring.specs.Tables.{is_into, is_over, link_from, link_numbered};
+ghost use Rattle.client_wiring.specs.Tables.{is_into, is_over, link_numbered};
+ghost use Rattle.client_wiring.specs.Wirings.{is_from, place_out_of as place_among_outgoing};
 
 use crate::joints::Carried;
-use jack_types::{Link, Mark};
+use jack_types::Link;
 
 /// Whether a link joins these nodes.
 fn joins(link: &Link, from: usize, to: usize) -> bool
@@ -29,24 +30,6 @@ pub(crate) fn first_link(links: &[Link], from: usize, to: usize) -> usize
     links.len()
 }
 
-/// The place of the link that carries an edge between two nodes. No link carries a feedback edge.
-pub(crate) fn link_between(
-    links: &[Link],
-    mark: Mark,
-    from: Option<usize>,
-    to: Option<usize>,
-) -> Option<usize>
-    ensures { result ≡ link_from links.now mark from to }
-{
-    if mark == Mark::Feedback {
-        return None;
-    }
-    match (from, to) {
-        (Some(from), Some(to)) => Some(first_link(links, from, to)),
-        _ => None,
-    }
-}
-
 /// How many links come into a node.
 fn count_into(links: &[Link], to: usize) -> usize
     ensures { result ≡ count_by (is_into to) links.now }
@@ -65,6 +48,26 @@ pub(crate) fn place_into(links: &[Link], from: usize, to: usize) -> usize
     ensures { result ≡ link_place links.now from to }
 {
     count_into(&links[..first_link(links, from, to)], to)
+}
+
+/// How many links go out from a node.
+fn count_from(links: &[Link], from: usize) -> usize
+    ensures { result ≡ count_by (is_from from) links.now }
+{
+    let mut count = 0;
+    for link in links {
+        if link.from as usize == from {
+            count += 1;
+        }
+    }
+    count
+}
+
+/// The place of the link between two nodes, among those that go out from the first.
+pub(crate) fn place_out_of(links: &[Link], from: usize, to: usize) -> usize
+    ensures { result ≡ place_among_outgoing links.now (link_numbered from to) }
+{
+    count_from(&links[..first_link(links, from, to)], from)
 }
 
 /// How many of these connections a link carries.
