@@ -1,4 +1,3 @@
-mod AcceptedLemmas
 mod EndLemmas
 mod LinkLemmas
 mod ListLemmas

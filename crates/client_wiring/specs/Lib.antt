@@ -1,4 +1,3 @@
-pub mod Accepted
 pub mod Ends
 pub mod Tables
 pub mod Wirings

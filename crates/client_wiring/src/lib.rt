@@ -6,11 +6,7 @@ mod ends;
 mod joining;
 pub mod joints;
 mod links;
-#[cfg(test)]
-mod sessions;
 mod tables;
-#[cfg(test)]
-mod tests;
 pub mod wiring;
 
 pub use joints::{Carried, Joint, Origin, Output, Widths};
