@@ -1,11 +1,9 @@
 -- An edge of a plan by its ends is what the definitions see of it.
 --     carried-named, joint-named      what links carry, and where connections bring their audio
-use Rattle.std.proofs.Common.{◌≡◌, ◌≢◌, ℕ, ◌+◌, ◌<◌, ◌≤◌, Bool, true, false, cond, not, ◌&&◌, ◌==◌, ◌↔◌, ◌⊎◌, inl, inr, All, List, [], ◌∷◌, length, map, filter, filter_map, get_or, position, take, count_by, Contains, IsPermutation, Option, Some, None, refl, sym, ◌∙◌, ap, ap₂, subst, arith, true≢false, eq-eqb, eqb-true}
-use Rattle.std.specs.List.{cons_option, position_or_len}
+use Rattle.std.proofs.Common.{◌≡◌, ℕ, ◌<◌, ◌≤◌, Bool, true, false, not, ◌&&◌, ◌==◌, All, List, [], ◌∷◌, length, map, filter, filter_map, get_or, take, Contains, Option, Some, None, refl, sym, ◌∙◌, ap, ap₂, subst, arith, true≢false, eq-eqb, eqb-true}
 use Rattle.std.specs.Option.{option_map, option_map_or}
 use Rattle.std.specs.Str.{bytes_eq}
 use Rattle.std.proofs.lemmas.List.{get_or_default, length-map}
-use Rattle.std.proofs.lemmas.List.Quantifiers.{position-Some}
 use Rattle.std.proofs.lemmas.List.Sorted.{Contains-permutation, IsPermutation-sym}
 use Rattle.jack_types.specs.Names.{client_part}
 use Rattle.jack_types.specs.declared.ports.Client.{Client}
@@ -20,17 +18,16 @@ use Rattle.jack_types.specs.declared.ports.PortKind.{PortKind}
 use Rattle.jack_types.specs.declared.ports.PortKind.TheVariants.{Audio, Midi}
 use Rattle.jack_types.specs.declared.ports.Way.{Way}
 use Rattle.jack_types.specs.declared.ports.Way.TheVariants.{In, Out}
-use Rattle.session_model.specs.Benches.{IsPlan, edge_place, edges_between, link_place, node_at, place_in, port_place}
+use Rattle.session_model.specs.Benches.{link_place, place_in, port_place}
 use Rattle.session_model.specs.Commands.{is_audio, is_input}
 use Rattle.session_model.specs.Courses.{players}
 use Rattle.session_model.specs.Cycles.{audio_inputs, audio_outputs, midi_outputs}
 use Rattle.session_model.specs.Ids.{connection, connections, name_with, open_port, open_ports, same_id_node, way_of}
-use Rattle.session_model.specs.Soundness.{Apart, IsEnd, IsWired}
-use Rattle.session_model.specs.State.{Connection, OpenClient, OpenPort, State, is_direct, is_system, system_client}
+use Rattle.session_model.specs.Soundness.{Apart, IsEnd}
+use Rattle.session_model.specs.State.{Connection, OpenClient, OpenPort, State, is_system}
 use Rattle.session_laws.proofs.CycleLemmas.{bytes_same, filter-passes}
-use Rattle.session_laws.proofs.LoopLemmas.{Contains-first, Contains-later, and_parts, and_true}
-use Rattle.session_laws.proofs.PlaceLemmas.{position-passes}
-use Rattle.session_laws.proofs.PlanLemmas.{Distinct-from_Apart, find-one}
+use Rattle.session_laws.proofs.LoopLemmas.{Contains-first, Contains-later, and_parts}
+use Rattle.session_laws.proofs.PlanLemmas.{find-one}
 use Rattle.session_laws.proofs.SoundLemmas.{Apart-same, map-contains}
 use Rattle.session_laws.proofs.WiredLemmas.{AreWired, AreWired-opening, AreWired-replay}
 use Rattle.connection_set.specs.Connections.{IsIdOf, no_edge}
@@ -38,21 +35,19 @@ use Rattle.feedback_edges.specs.Marking.{AreAmong, IsEndOf, IsNode, node_number}
 use Rattle.feedback_edges.proofs.NameLemmas.{same_id_node-is, same_id_node-self}
 use Rattle.port_registry.specs.Registered.{IsRegistered, Registered, open_client, open_clients}
 use Rattle.cycle_plan.specs.Graphs.{state_of}
-use Rattle.cycle_plan.specs.Layouts.{link_between, same_link}
-use Rattle.cycle_plan.specs.Plans.{IsPlanned, Planned, link_in, opening_of, state_of_plan}
-use Rattle.cycle_plan.proofs.NetworkLemmas.{AreAmong-network, at_client, bool-same, fails}
+use Rattle.cycle_plan.specs.Plans.{IsPlanned, Planned, opening_of, state_of_plan}
+use Rattle.cycle_plan.proofs.NetworkLemmas.{AreAmong-network, at_client, fails}
 use Rattle.client_wiring.specs.declared.ends.End.{End}
 use Rattle.client_wiring.specs.declared.joints.Carried.{Carried}
-use Rattle.client_wiring.specs.declared.joints.Joint.{Joint}
 use Rattle.client_wiring.specs.declared.joints.Widths.{Widths}
-use Rattle.client_wiring.specs.declared.joints.Origin.TheVariants.{Handed, Kept, Captured}
+use Rattle.client_wiring.specs.declared.joints.Origin.TheVariants.{Handed}
 use Rattle.client_wiring.specs.declared.joints.Output.{Output}
 use Rattle.client_wiring.specs.declared.joints.Output.TheVariants.{Audio as AudioOutput, Midi as MidiOutput}
 use Rattle.client_wiring.specs.Ends.{IsEndAt, carried_from, joint_from, joint_with, origin_by, origin_with, output_at, output_by}
-use Rattle.client_wiring.specs.Tables.{AreCounts, class_place, in_class, is_over, joined, link_numbered, node_place, number_in_class, widths_by}
+use Rattle.client_wiring.specs.Tables.{AreCounts, class_place, in_class, joined, node_place, number_in_class, widths_by}
 use Rattle.client_wiring.specs.Wirings.{carried_by, carried_on, joint_into, joint_of, origin_from, origin_of, output_of, port_index, source_place, widths_of}
 use Rattle.client_wiring.proofs.NameLemmas.{Owns, Tells, audio_inputs-tell, audio_outputs-tell, bytes-turned, found-named, midi_outputs-tell, named-one, node-one, own-ports, place-named, place-none}
-use Rattle.client_wiring.proofs.ListLemmas.{position-called, stands}
+use Rattle.client_wiring.proofs.ListLemmas.{position-called}
 use Rattle.client_wiring.proofs.OverLemmas.{connection-counted}
 use lib.Pointwise.{bytes_decides}
 

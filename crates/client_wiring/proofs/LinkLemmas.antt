@@ -1,6 +1,6 @@
 -- Where a link stands among those into its node.
 --     link_place-counted      behind those before it that come into the node
-use Rattle.std.proofs.Common.{◌≡◌, ℕ, suc, ◌+◌, Bool, true, false, cond, not, ◌&&◌, ◌==◌, List, [], ◌∷◌, length, map, filter, take, count_by, refl, sym, ◌∙◌, ap, ap₂, arith, eq-eqb, eqb-true}
+use Rattle.std.proofs.Common.{◌≡◌, ℕ, suc, ◌+◌, Bool, true, false, cond, not, ◌&&◌, ◌==◌, List, [], ◌∷◌, length, filter, take, count_by, refl, sym, ◌∙◌, ap, ap₂, arith, eq-eqb, eqb-true}
 use Rattle.std.specs.List.{position_or_len}
 use Rattle.jack_types.specs.declared.ports.Link.{Link}
 use Rattle.session_model.specs.Activation.{incoming, link_at, no_link}

@@ -2,7 +2,7 @@
 --     own-ports      the ports of a kind and a way of a client, by names and by classes
 --     place-named      the place of a port among these
 --     place-none      where a test fails at a port, its name is not among those that pass
-use Rattle.std.proofs.Common.{◌≡◌, ℕ, ◌+◌, ◌*◌, ◌<◌, Bool, true, false, cond, not, ◌&&◌, ◌==◌, ◌↔◌, ◌⊎◌, inl, inr, List, [], ◌∷◌, length, map, filter, get_or, position, Contains, Option, Some, None, refl, sym, ◌∙◌, ap, ap₂, subst, arith, true≢false, eq-eqb, eqb-true}
+use Rattle.std.proofs.Common.{◌≡◌, ℕ, ◌+◌, ◌*◌, ◌<◌, Bool, true, false, cond, not, ◌&&◌, ◌↔◌, List, [], ◌∷◌, length, filter, get_or, position, Contains, Option, Some, None, refl, sym, ◌∙◌, ap, ap₂, arith, true≢false, eq-eqb, eqb-true}
 use Rattle.std.specs.List.{position_or_len}
 use Rattle.std.specs.Str.{bytes_eq}
 use Rattle.std.proofs.lemmas.List.{get_or_default}

@@ -1,6 +1,6 @@
 -- A plan's wiring says the parts and the routes of its clients' work.
 --     SetsTasks-wired      so does the wiring of every plan
-use Rattle.std.proofs.Common.{◌≡◌, ◌≢◌, ℕ, zero, suc, ◌+◌, ◌<◌, ◌≤◌, ◌^◌, Bool, true, false, cond, not, ◌&&◌, ◌==◌, ◌⊎◌, inl, inr, List, [], ◌∷◌, ◌++◌, length, map-id, map, filter, filter_map, get_or, position, take, count_by, Contains, Option, Some, None, nat_lt, ℤ, refl, sym, ◌∙◌, ap, ap₂, subst, arith, true≢false, eq-eqb, eqb-true}
+use Rattle.std.proofs.Common.{◌≡◌, ℕ, zero, suc, ◌<◌, ◌≤◌, Bool, true, false, cond, not, ◌&&◌, ◌==◌, List, [], ◌∷◌, ◌++◌, length, map-id, map, filter, filter_map, get_or, position, take, count_by, Contains, Option, Some, None, nat_lt, refl, sym, ◌∙◌, ap, ap₂, subst, arith, true≢false, eq-eqb, eqb-true}
 use Rattle.std.specs.List.{cons_option, position_or_len}
 use Rattle.std.specs.Option.{option_map, option_map_or}
 use Rattle.std.specs.Str.{bytes_eq}
@@ -11,13 +11,13 @@ use Rattle.jack_types.specs.Names.{client_part}
 use Rattle.jack_types.specs.declared.ports.Link.{Link}
 use Rattle.jack_types.specs.declared.ports.Mark.{Mark}
 use Rattle.jack_types.specs.declared.ports.Mark.TheVariants.{Direct, Feedback}
-use Rattle.session_model.specs.Activation.{AreLinks, link_at, no_link, outgoing, place_among}
-use Rattle.session_model.specs.Benches.{IsPlan, Part, Known, Handed as HandedPart, Route, audio_part_of, direct_part, edge_place, edges_between, fixed_audio, link_place, marked_part, node_at, place_in, port_place, route_of}
+use Rattle.session_model.specs.Activation.{link_at, no_link, outgoing, place_among}
+use Rattle.session_model.specs.Benches.{IsPlan, Known, Route, audio_part_of, direct_part, edges_between, fixed_audio, marked_part, node_at, place_in, port_place, route_of}
 use Rattle.session_model.specs.Commands.{is_audio, is_input, ports_of, replay}
 use Rattle.session_model.specs.Courses.{players}
 use Rattle.session_model.specs.Cycles.{Settled, audio_inputs, audio_outputs, captured_at, edges_into, midi_outputs}
 use Rattle.session_model.specs.Samples.{below, silence}
-use Rattle.session_model.specs.Soundness.{Apart, IsEnd, IsSound, IsWired}
+use Rattle.session_model.specs.Soundness.{Apart, IsEnd, IsSound}
 use Rattle.session_model.specs.State.{Connection, OpenClient, OpenPort, State, capture_port, is_direct, is_system, system_client}
 use Rattle.session_laws.proofs.CycleLemmas.{bytes_same, filter-passes}
 use Rattle.session_laws.proofs.FeedbackLemmas.{FeedbackInside, FeedbackInside-opening, FeedbackInside-replay}
@@ -35,12 +35,10 @@ use Rattle.cycle_plan.specs.Plans.{IsPlanned, Planned, link_in, opening_of, stat
 use Rattle.cycle_plan.proofs.NetworkLemmas.{bool-same, fails}
 use Rattle.client_wiring.specs.declared.joints.Carried.{Carried}
 use Rattle.client_wiring.specs.declared.joints.Joint.{Joint}
-use Rattle.client_wiring.specs.declared.joints.Origin.{Origin}
-use Rattle.client_wiring.specs.declared.joints.Output.{Output}
 use Rattle.client_wiring.specs.declared.joints.Output.TheVariants.{Audio as AudioOutput, Midi as MidiOutput}
 use Rattle.client_wiring.specs.declared.joints.Widths.{Widths}
-use Rattle.client_wiring.specs.Tables.{is_over, link_numbered}
-use Rattle.client_wiring.specs.Wirings.{SetsTasks, carried_by, carried_on, is_from, joint_into, joint_of, link_index, place_out_of, origin_from, origin_of, output_name, output_of, part_from, port_index, route_by, source_place, widths_of, wired, wired_of}
+use Rattle.client_wiring.specs.Tables.{link_numbered}
+use Rattle.client_wiring.specs.Wirings.{SetsTasks, carried_by, carried_on, is_from, joint_into, joint_of, link_index, place_out_of, origin_from, origin_of, output_name, output_of, part_from, port_index, route_by, source_place, widths_of, wired_of}
 use Rattle.client_wiring.proofs.ListLemmas.{from_places, places_front, take-whole}
 use Rattle.client_wiring.proofs.NameLemmas.{bytes-turned}
 use Rattle.client_wiring.proofs.OverLemmas.{between-is, between-of_link, carries, is_between, name-of_place, same_link-is, same_link-self}

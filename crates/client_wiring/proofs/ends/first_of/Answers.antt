@@ -1,4 +1,4 @@
-use Rattle.std.proofs.Common.{◌≡◌, ◌==◌, true, get_or, arith, eq-eqb, length, sym, subst, ◌∙◌}
+use Rattle.std.proofs.Common.{◌≡◌, ◌==◌, true, arith, eq-eqb, length, sym, subst}
 use Rattle.std.proofs.lemmas.List.Sums.{position_or_len_is}
 use Rattle.jack_types.specs.declared.ports.Client.{Client}
 use Rattle.port_registry.specs.Registered.{system_entry}

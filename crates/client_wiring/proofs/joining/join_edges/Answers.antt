@@ -1,6 +1,5 @@
-use Rattle.std.proofs.Common.{◌≡◌, ◌+◌, ◌<◌, ◌≤◌, ◌++◌, ◌∙◌, [], ap, ap₂, arith, List, filter_map, get_or, length, subst, sym, take}
+use Rattle.std.proofs.Common.{◌<◌, ◌++◌, ◌∙◌, [], ap, ap₂, arith, List, filter_map, length, subst, sym}
 use Rattle.std.specs.List.{cons_option}
-use Rattle.std.specs.Vec.{vec_capacity}
 use Rattle.jack_types.specs.declared.ports.Edge.{Edge}
 use Rattle.session_model.specs.Ids.{connection, connections}
 use Rattle.session_model.specs.State.{State}

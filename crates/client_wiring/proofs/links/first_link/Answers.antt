@@ -1,6 +1,5 @@
-use Rattle.std.proofs.Common.{◌≡◌, ◌≤◌, true, get_or, arith, length, sym, subst, ◌∙◌}
+use Rattle.std.proofs.Common.{arith, length, sym, ◌∙◌}
 use Rattle.std.proofs.lemmas.List.Sums.{position_or_len_is}
-use Rattle.jack_types.specs.declared.ports.Link.{Link}
 use Rattle.session_model.specs.Activation.{no_link}
 use Rattle.cycle_plan.specs.Layouts.{same_link}
 use Rattle.client_wiring.specs.Tables.{link_numbered}

@@ -1,4 +1,4 @@
-use Rattle.std.proofs.Common.{◌≡◌, ◌∙◌, ap, count_by, sym, take}
+use Rattle.std.proofs.Common.{◌∙◌, ap, count_by, sym, take}
 use Rattle.client_wiring.specs.Tables.{is_into}
 use Rattle.client_wiring.proofs.LinkLemmas.{link_place-counted}
 use Rattle.client_wiring.proofs.links.place_into.Goals as goal

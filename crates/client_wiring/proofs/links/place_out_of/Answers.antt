@@ -1,4 +1,4 @@
-use Rattle.std.proofs.Common.{◌≡◌, ◌∙◌, ap, count_by, take}
+use Rattle.std.proofs.Common.{◌∙◌, ap, count_by, take}
 use Rattle.client_wiring.specs.Wirings.{is_from}
 use Rattle.client_wiring.proofs.links.place_out_of.Goals as goal
 

@@ -1,4 +1,4 @@
-use Rattle.std.proofs.Common.{◌≡◌, ◌≤◌, ℕ, get_or, arith, replicate}
+use Rattle.std.proofs.Common.{ℕ}
 use Rattle.std.proofs.lemmas.List.{get_or-replicate, length-replicate}
 use Rattle.client_wiring.proofs.ListLemmas.{zeros_few}
 use Rattle.client_wiring.proofs.tables.count_ports.Goals as goal

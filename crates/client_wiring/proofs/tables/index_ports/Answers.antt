@@ -1,4 +1,4 @@
-use Rattle.std.proofs.Common.{◌≡◌, ◌<◌, ◌∙◌, ℕ, arith, length, refl, subst, sym}
+use Rattle.std.proofs.Common.{◌<◌, ◌∙◌, arith, refl, subst, sym}
 use Rattle.std.proofs.lemmas.List.{length-set}
 use Rattle.jack_types.specs.declared.ports.Port.{Port}
 use Rattle.client_wiring.proofs.ListLemmas.{table_more}

@@ -1,4 +1,4 @@
-use Rattle.std.proofs.Common.{◌≡◌, ◌+◌, ◌<◌, ◌≤◌, ◌∙◌, ℕ, ap, arith, filter, get_or, length, refl, set, subst, sym, take, replicate}
+use Rattle.std.proofs.Common.{◌≡◌, ◌+◌, ◌<◌, ◌∙◌, ℕ, ap, arith, filter, get_or, length, set, subst, sym, take}
 use Rattle.std.proofs.lemmas.List.{get_or-replicate, length-replicate, length-set}
 use Rattle.jack_types.specs.declared.ports.Port.{Port}
 use Rattle.client_wiring.specs.Tables.{class_place, in_class}

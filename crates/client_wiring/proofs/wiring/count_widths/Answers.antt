@@ -1,4 +1,4 @@
-use Rattle.std.proofs.Common.{◌≡◌, ◌≤◌, ◌∙◌, ap, arith, length, map, subst, sym, take}
+use Rattle.std.proofs.Common.{◌≤◌, ◌∙◌, ap, map, subst, sym}
 use Rattle.jack_types.specs.declared.ports.Client.{Client}
 use Rattle.client_wiring.specs.Tables.{widths_by}
 use Rattle.client_wiring.proofs.EndLemmas.{low-client, widths-named}
