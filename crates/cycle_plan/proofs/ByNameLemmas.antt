@@ -334,6 +334,10 @@ module _ (network : Network) (is : IsNetwork network) (nodes : List Client) (ord
   are_others : Each (IsOther network.held is.registered) nodes
   are_others = subst (Each (IsOther network.held is.registered)) (sym ordered_so) (order-others network.held is.registered network.set.edges is.ends)
 
+  -- each node is an open client
+  pub listed-are : (client : Client) → Contains nodes client → Contains network.held.clients client
+  listed-are client m = (Each-contains (IsOther network.held is.registered) nodes client are_others m).0
+
   pub links_of-is : distinct (filter_map (link_of network.held.ports nodes) network.set.edges) ≡ links_of (state_of network)
   links_of-is = ap distinct (links-is network.held is.registered network.set.edges is.ends nodes are_others ∙ ap (λ ns. filter_map (link_in ns) (state_of network).edges) nodes_of-is)
 

@@ -33,7 +33,7 @@ use Rattle.port_registry.specs.Registered.{open_client, open_clients}
 use Rattle.cycle_plan.specs.Graphs.{IsNetwork, Network, state_of}
 use Rattle.cycle_plan.specs.Layouts.{CanLayOut, JoinsEdges, LaidOut, distinct, is_player, laid_out, leads_to, link_between, link_of, ordered}
 use Rattle.cycle_plan.specs.Plans.{AreCounts, IsPlanned, LaysOut, Planned, leads_in, link_in, links_of, nodes_of, opening_of}
-use Rattle.cycle_plan.proofs.ByNameLemmas.{IsLoopFree-network, link_in-is, links_of-is, nodes_of-is}
+use Rattle.cycle_plan.proofs.ByNameLemmas.{IsLoopFree-network, link_in-is, listed-are, links_of-is, nodes_of-is}
 use Rattle.session_laws.proofs.ListLemmas.{Each-from_contains}
 use Rattle.session_laws.proofs.SerialLossLemmas.{All-from_each}
 use Rattle.cycle_plan.proofs.NetworkLemmas.{AreAmong-network}
@@ -101,6 +101,7 @@ module _ (base : Base) (changes : List Change) (capture : base.capture ≤ 8) (p
     network = is;
     state = state;
     nodes = its-nodes;
+    listed = listed-are network is nodes ordered_so;
     links = its-links;
     moved = permuted;
     joined = joined;

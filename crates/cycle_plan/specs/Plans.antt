@@ -58,7 +58,7 @@ link_in nodes edge = if is_direct edge.mark then link_between (place_in nodes (c
 abbrev pub links_of : State → List Link
 links_of state = distinct (filter_map (link_in (nodes_of state)) state.edges)
 
--- the changes are lawful and the graph is their replay; nodes and links are those of the state, and make a plan of it
+-- the changes are lawful and the graph is their replay; nodes and links are those of the state, and make a plan of it; the nodes are open clients, with their ids
 pub record IsPlanned (plan : Planned) : Type 0 where
   pub few_capture : plan.base.capture ≤ 8
   pub few_playback : plan.base.playback ≤ 8
@@ -67,6 +67,7 @@ pub record IsPlanned (plan : Planned) : Type 0 where
   pub network : IsNetwork plan.network
   pub state : state_of plan.network ≡ state_of_plan plan
   pub nodes : open_clients plan.nodes ≡ nodes_of (state_of_plan plan)
+  pub listed : (client : Client) → Contains plan.nodes client → Contains plan.network.held.clients client
   pub links : plan.links ≡ links_of (state_of_plan plan)
   pub moved : IsPermutation (players (state_of_plan plan)) (open_clients plan.nodes)
   pub joined : (link : Link) → Contains plan.links link ↔ ((edge : Connection) × Contains (state_of_plan plan).edges edge × (link_in (open_clients plan.nodes) edge ≡ Some link))

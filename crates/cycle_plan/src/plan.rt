@@ -159,9 +159,10 @@ impl Plan {
         self.graph.ports().as_slice()
     }
 
-    /// The connections, in order of making.
+    /// The connections, in order of making: at most 512.
     pub fn edges(&self) -> &[Edge]
         ensures value { result.now ≡ self.now.network.set.edges }
+        ensures few { length result.now ≤ 512 }
         ensures planned { IsPlanned self.now }
     {
         self.graph.edges()

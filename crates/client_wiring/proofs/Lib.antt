@@ -1,0 +1,6 @@
+mod EndLemmas
+mod LinkLemmas
+mod ListLemmas
+mod NameLemmas
+mod OverLemmas
+pub mod TaskLemmas

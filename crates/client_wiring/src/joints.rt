@@ -1,0 +1,45 @@
+//! Connections as a cycle sees them: by places, without names and ids.
+
+/// An output of a client: its place among the client's audio outputs, or among its MIDI outputs, in order of birth.
+#[derive(Clone, Copy, PartialEq, Eq, Debug)]
+pub enum Output {
+    Audio(usize),
+    Midi(usize),
+}
+
+/// Where a connection has its audio from.
+#[derive(Clone, Copy, PartialEq, Eq, Debug)]
+pub enum Origin {
+    /// A direct edge from a node: handed over the link of this place among those that come into the node, there the
+    /// connection of this place.
+    Handed { link: usize, connection: usize },
+    /// A feedback edge: what the audio output of this place of the client at this node gave in the last cycle.
+    Kept { node: usize, output: usize },
+    /// What is captured on this channel, counted from 0.
+    Captured { channel: usize },
+}
+
+/// A connection into an audio input of a node: the input's place among the client's audio inputs, in order of birth.
+#[derive(Clone, Copy, PartialEq, Eq, Debug)]
+pub struct Joint {
+    pub node: usize,
+    pub input: usize,
+    pub origin: Origin,
+}
+
+/// A connection that a link carries: the node that it goes out from, the link's place among those that go out from this
+/// node, and among all links of the plan, and the output that is carried.
+#[derive(Clone, Copy, PartialEq, Eq, Debug)]
+pub struct Carried {
+    pub node: usize,
+    pub place: usize,
+    pub link: usize,
+    pub output: Output,
+}
+
+/// How many audio inputs and audio outputs a client has.
+#[derive(Clone, Copy, PartialEq, Eq, Debug)]
+pub struct Widths {
+    pub inputs: usize,
+    pub outputs: usize,
+}
