@@ -13,8 +13,6 @@ mod mixing;
 mod playing;
 mod reading;
 mod setting;
-#[cfg(test)]
-mod tests;
 mod values;
 mod wires;
 
