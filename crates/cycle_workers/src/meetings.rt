@@ -32,7 +32,7 @@ impl Gate for Meeting {
 
     fn before_client(&self, _worker: u32, _node: u32) {
         self.arrived.fetch_add(1, Ordering::SeqCst);
-        for _ in 0..10_000_000 {
+        for _ in 0..4_000_000_000_u64 {
             if self.arrived.load(Ordering::SeqCst) == 2 {
                 self.met.fetch_add(1, Ordering::SeqCst);
                 return;
