@@ -74,6 +74,7 @@ module _ (table : TableId) where
     script = script_of;
     scores = [];
     reading = opening;
+    content = [];
     left = Some samples;
     numbers = [];
     moments = [];
@@ -102,6 +103,7 @@ module _ (table : TableId) where
   abbrev pub after : Driver
   after = record before {
     reading = record taken_of { rows = record { cycle = 1; changes = content } ∷ [] };
+    content = content;
     left = Some (pos 5000 ∷ []);
     numbers = 1 ∷ [];
     moments = record { cycle = 1; state = Stopped; frame = 0; rate = 48000; bbt = None } ∷ [];
@@ -127,8 +129,8 @@ module _ (table : TableId) where
     more_underruns = refl;
     underruns_now = λ k d h. absurd (none_below h);
     left = refl;
-    own_rows = record { cycles = refl; numbers = refl };
-    own_rings = record { recorders = refl; disks = refl; puts = refl; gets = refl };
+    own_rows = record { cycles = refl; numbers = refl; last = refl; place = refl; base = refl };
+    own_rings = record { recorders = refl; disks = refl; puts = refl; gets = refl; own = λ recorder ring here. absurd (none-some ring here) };
     script = refl;
     scores = refl;
     set = refl;
@@ -229,6 +231,7 @@ module _ (table : TableId) where
     underruns = refl;
     as_many = refl;
     rings = λ k d h. absurd (none_below h);
+    own_rings = λ recorder ring here. absurd (none-some ring here);
     sent = refl;
     as_many_disks = refl;
     disks = λ k d h. absurd (none_below h);
@@ -238,6 +241,7 @@ module _ (table : TableId) where
     failed = refl;
     nodes = refl;
     memories = refl;
+    content = refl;
   }
 
   kept_before : Keeps before course_of

@@ -144,6 +144,8 @@ pub record FailsAtWrite (driver after : Driver) : Type 0 where
 pub record RingStays (before after : Sending) : Type 0 where
   pub put : after.put ≡ before.put
   pub capacity : after.capacity ≡ before.capacity
+  pub samples : after.samples ≡ before.samples
+  pub most : after.most ≡ before.most
   pub least : before.least ≤ after.least
 
 -- a disk's ring whose ends met: the same blocks, and its end found or not

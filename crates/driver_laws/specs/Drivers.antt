@@ -3,8 +3,9 @@
 --     run driver      how many cycles were run
 --     graph_now driver, bench_at driver n, memory_in driver birth      the last cycle's graph, a node's bench, and a client's memory
 --     block_in driver recorder      what a recorder heard in the last cycle
+--     greatest_period script      the longest of its cycles' periods
 --     HasOwnRows, HasOwnRings, HasPlayback      what a driver that may go on has
-use Rattle.std.specs.Prelude.{◌≡◌, ℕ, ◌+◌, ◌==◌, Bool, false, List, [], ◌∷◌, length, map, filter, find, position, slice_index_or, ℤ, Option, Some, is_some, option_map, if◌then◌else◌}
+use Rattle.std.specs.Prelude.{◌≡◌, ℕ, ◌+◌, ◌*◌, ◌≤◌, ◌==◌, Bool, false, List, [], ◌∷◌, fold, length, map, filter, find, position, slice_get, slice_index_or, sum_by, take, ℤ, Option, Some, is_some, max, option_map, if◌then◌else◌}
 use Rattle.std.specs.Option.{option_map_or}
 use Rattle.std.specs.List.{list_any}
 use Rattle.jack_types.specs.Recorders.{no_format}
@@ -20,12 +21,12 @@ use Rattle.session_model.specs.Courses.{no_turn, players, is_disk}
 use Rattle.session_model.specs.Kinds.{Memory, input_at}
 use Rattle.session_model.specs.Recorders.{is_tape}
 use Rattle.session_model.specs.Samples.{below, interleaved}
-use Rattle.session_model.specs.Scripts.{Script, Turn, turns}
+use Rattle.session_model.specs.Scripts.{Phase, Script, Turn, phases, turns}
 use Rattle.session_model.specs.State.{State, OpenClient, opening}
 use Rattle.session_model.specs.Transport.{Row}
 use Rattle.graph_word.specs.declared.view.TakenRow.{TakenRow}
-use Rattle.graph_word.specs.Publications.{Reading}
-use Rattle.record_ring.specs.Rings.{Sending, Getting}
+use Rattle.graph_word.specs.Publications.{IsFront, Reading}
+use Rattle.record_ring.specs.Rings.{Sending, Getting, items_of}
 use Rattle.wave_write.specs.Tapes.{Tape}
 
 -- a client's memory, by its birth
@@ -33,7 +34,7 @@ pub record Remembered : Type 0 where
   pub birth : ℕ
   pub memory : Memory
 
--- `left` is what the capture has left, where it tells; `numbers` has one number per cycle run, `moments` what the transport showed
+-- `content` is what the last cycle took; `left` is what the capture has left, where it tells; `numbers` has one number per cycle run, `moments` what the transport showed
 -- in each, and `transport` is its last row; `sent` is how many blocks the cycles put into each recorder's ring, and `played` how
 -- many they got from each disk's; `playback` is the file that is written, where one is attached; `set` is the period that is set;
 -- `nodes` and `benches` are those of the last cycle, and `memories` those of all clients that were ever active
@@ -41,6 +42,7 @@ pub record Driver : Type 0 where
   pub script : Script
   pub scores : List Score
   pub reading : Reading
+  pub content : List Change
   pub left : Option (List ℤ)
   pub numbers : List ℕ
   pub moments : List Moment
@@ -129,10 +131,29 @@ block_at driver recorder n =
 abbrev pub block_in : Driver → ℕ → List ℤ
 block_in driver recorder = option_map_or (block_at driver recorder) (position (λ (client : OpenClient). is_tape recorder client.kind) driver.nodes) []
 
--- the reader's rows are those that the driver began: one for each cycle, of the number that it took
+-- the reader's rows are those that the driver began: one for each cycle, of the number that it took, the last one of the content that it took; what its place holds goes on from that; it is for the script's channels
 pub record HasOwnRows (driver : Driver) : Type 0 where
   pub cycles : map (λ (row : TakenRow). row.cycle) driver.reading.rows ≡ map (λ i. i + 1) (below (run driver))
   pub numbers : map (λ (row : TakenRow). length row.changes) driver.reading.rows ≡ driver.numbers
+  pub last : content_now driver ≡ driver.content
+  pub place : IsFront driver.content driver.reading.held
+  pub base : driver.reading.base ≡ record { capture = driver.script.header.capture; playback = driver.script.header.playback }
+
+-- the greatest period of a script, and the frames of the cycles run
+abbrev pub greatest_period : Script → ℕ
+greatest_period script = fold max script.header.period (map (λ (phase : Phase). phase.period) (phases script))
+
+abbrev pub frames_run : Driver → ℕ
+frames_run driver = sum_by (λ (turn : Turn). turn.period) (take (run driver) (turns driver.script))
+
+abbrev pub channels_on : Script → ℕ → ℕ
+channels_on script recorder = (slice_index_or script.header.recorders recorder no_format).channels
+
+-- a recorder's ring takes blocks of the greatest period, 500,000,000 samples together, and has no more of them than the cycles' frames
+pub record IsOwnRing (driver : Driver) (recorder : ℕ) (ring : Sending) : Type 0 where
+  pub samples : ring.samples ≡ greatest_period driver.script * channels_on driver.script recorder
+  pub most : ring.most ≡ 500000000
+  pub items : items_of ring.put ≤ frames_run driver * channels_on driver.script recorder
 
 -- there is a ring for each recorder and each disk, and what was put into them, and got from them, are its cycles' blocks
 pub record HasOwnRings (driver : Driver) : Type 0 where
@@ -140,6 +161,7 @@ pub record HasOwnRings (driver : Driver) : Type 0 where
   pub disks : length driver.disks ≡ length driver.script.header.disks
   pub puts : map (λ (ring : Sending). length ring.put) driver.rings ≡ driver.sent
   pub gets : map (λ (got : Getting). length got.got) driver.disks ≡ driver.played
+  pub own : (recorder : ℕ) (ring : Sending) → slice_get driver.rings recorder ≡ Some ring → IsOwnRing driver recorder ring
 
 -- a playback is attached, and no put to it failed
 pub record HasPlayback (driver : Driver) : Type 0 where

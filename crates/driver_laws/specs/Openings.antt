@@ -1,11 +1,11 @@
 -- A driver before its first cycle.
 --     IsNew script scores driver      nothing was taken, put, got or played
-use Rattle.std.specs.Prelude.{◌≡◌, ℕ, false, List, [], length, map, All, None}
+use Rattle.std.specs.Prelude.{◌≡◌, ℕ, false, List, [], length, map, slice_get, All, None, Some}
 use Rattle.jack_types.specs.declared.kinds.Score.{Score}
 use Rattle.session_model.specs.Scripts.{Script}
 use Rattle.session_model.specs.Transport.{first_row}
 use Rattle.record_ring.specs.Rings.{Sending, Getting}
-use Rattle.driver_laws.specs.Drivers.{Driver}
+use Rattle.driver_laws.specs.Drivers.{Driver, IsOwnRing}
 
 -- a recorder's ring that nothing was put into, of the script's capacity
 pub record IsEmptyRing (capacity : ℕ) (ring : Sending) : Type 0 where
@@ -24,6 +24,7 @@ pub record IsNew (script : Script) (scores : List Score) (driver : Driver) : Typ
   pub script_is : driver.script ≡ script
   pub scores_are : driver.scores ≡ scores
   pub rows : driver.reading.rows ≡ []
+  pub content : driver.content ≡ []
   pub numbers : driver.numbers ≡ []
   pub moments : driver.moments ≡ []
   pub transport : driver.transport ≡ first_row
@@ -31,6 +32,7 @@ pub record IsNew (script : Script) (scores : List Score) (driver : Driver) : Typ
   pub underruns : driver.underruns ≡ []
   pub as_many : length driver.rings ≡ length script.header.recorders
   pub rings : All (IsEmptyRing script.header.ring) driver.rings
+  pub own_rings : (recorder : ℕ) (ring : Sending) → slice_get driver.rings recorder ≡ Some ring → IsOwnRing driver recorder ring
   pub sent : driver.sent ≡ map (λ _. 0) script.header.recorders
   pub as_many_disks : length driver.disks ≡ length script.header.disks
   pub disks : All IsEmptyDisk driver.disks
