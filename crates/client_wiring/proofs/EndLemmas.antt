@@ -1,9 +1,11 @@
 -- An edge of a plan by its ends is what the definitions see of it.
---     carried-named, joint-named      what links carry, and where connections bring their audio
+--     carried-named, joint-named, heard-named      what links carry, where connections bring their audio, and what is played back
+--     given-named      which audio output of a node a port is
 use Rattle.std.proofs.Common.{◌≡◌, ℕ, ◌<◌, ◌≤◌, Bool, true, false, not, ◌&&◌, ◌==◌, All, List, [], ◌∷◌, length, map, filter, filter_map, get_or, take, Contains, Option, Some, None, refl, sym, ◌∙◌, ap, ap₂, subst, arith, true≢false, eq-eqb, eqb-true}
 use Rattle.std.specs.Option.{option_map, option_map_or}
 use Rattle.std.specs.Str.{bytes_eq}
 use Rattle.std.proofs.lemmas.List.{get_or_default, length-map}
+use Rattle.std.proofs.lemmas.List.Quantifiers.{position-Some}
 use Rattle.std.proofs.lemmas.List.Sorted.{Contains-permutation, IsPermutation-sym}
 use Rattle.jack_types.specs.Names.{client_part}
 use Rattle.jack_types.specs.declared.ports.Client.{Client}
@@ -18,17 +20,18 @@ use Rattle.jack_types.specs.declared.ports.PortKind.{PortKind}
 use Rattle.jack_types.specs.declared.ports.PortKind.TheVariants.{Audio, Midi}
 use Rattle.jack_types.specs.declared.ports.Way.{Way}
 use Rattle.jack_types.specs.declared.ports.Way.TheVariants.{In, Out}
-use Rattle.session_model.specs.Benches.{link_place, place_in, port_place}
-use Rattle.session_model.specs.Commands.{is_audio, is_input}
+use Rattle.session_model.specs.Benches.{IsPlan, link_place, place_in, port_place}
+use Rattle.session_model.specs.Commands.{is_audio, is_input, ports_of}
 use Rattle.session_model.specs.Courses.{players}
 use Rattle.session_model.specs.Cycles.{audio_inputs, audio_outputs, midi_outputs}
 use Rattle.session_model.specs.Ids.{connection, connections, name_with, open_port, open_ports, same_id_node, way_of}
 use Rattle.session_model.specs.Soundness.{Apart, IsEnd}
-use Rattle.session_model.specs.State.{Connection, OpenClient, OpenPort, State, is_system}
+use Rattle.session_model.specs.State.{Connection, OpenClient, OpenPort, State, is_system, port_named, system_client, system_name}
 use Rattle.session_laws.proofs.CycleLemmas.{bytes_same, filter-passes}
 use Rattle.session_laws.proofs.LoopLemmas.{Contains-first, Contains-later, and_parts}
 use Rattle.session_laws.proofs.PlanLemmas.{find-one}
-use Rattle.session_laws.proofs.SoundLemmas.{Apart-same, map-contains}
+use Rattle.session_laws.proofs.SoundLemmas.{Apart-same, contains-map, map-contains}
+use Rattle.session_laws.proofs.PlaceLemmas.{filter-contains}
 use Rattle.session_laws.proofs.WiredLemmas.{AreWired, AreWired-opening, AreWired-replay}
 use Rattle.connection_set.specs.Connections.{IsIdOf, no_edge}
 use Rattle.feedback_edges.specs.Marking.{AreAmong, IsEndOf, IsNode, node_number}
@@ -39,16 +42,17 @@ use Rattle.cycle_plan.specs.Plans.{IsPlanned, Planned, opening_of, state_of_plan
 use Rattle.cycle_plan.proofs.NetworkLemmas.{AreAmong-network, at_client, fails}
 use Rattle.client_wiring.specs.declared.ends.End.{End}
 use Rattle.client_wiring.specs.declared.joints.Carried.{Carried}
+use Rattle.client_wiring.specs.declared.joints.Heard.{Heard}
 use Rattle.client_wiring.specs.declared.joints.Widths.{Widths}
 use Rattle.client_wiring.specs.declared.joints.Origin.TheVariants.{Handed}
 use Rattle.client_wiring.specs.declared.joints.Output.{Output}
 use Rattle.client_wiring.specs.declared.joints.Output.TheVariants.{Audio as AudioOutput, Midi as MidiOutput}
-use Rattle.client_wiring.specs.Ends.{IsEndAt, carried_from, joint_from, joint_with, origin_by, origin_with, output_at, output_by}
-use Rattle.client_wiring.specs.Tables.{AreCounts, class_place, in_class, joined, node_place, number_in_class, widths_by}
-use Rattle.client_wiring.specs.Wirings.{carried_by, carried_on, joint_into, joint_of, origin_from, origin_of, output_of, port_index, source_place, widths_of}
-use Rattle.client_wiring.proofs.NameLemmas.{Owns, Tells, audio_inputs-tell, audio_outputs-tell, bytes-turned, found-named, midi_outputs-tell, named-one, node-one, own-ports, place-named, place-none}
-use Rattle.client_wiring.proofs.ListLemmas.{position-called}
-use Rattle.client_wiring.proofs.OverLemmas.{connection-counted}
+use Rattle.client_wiring.specs.Ends.{IsEndAt, carried_from, given_from, given_with, heard_from, heard_with, joint_from, joint_with, origin_by, origin_with, output_at, output_by, sound_at}
+use Rattle.client_wiring.specs.Tables.{AreCounts, ArePlaces, class_place, in_class, joined, node_place, number_in_class, widths_by}
+use Rattle.client_wiring.specs.Wirings.{carried_by, carried_on, given_by, given_of, heard_of, heard_on, joint_into, joint_of, origin_from, origin_of, output_of, port_index, sound_by, sound_of, source_birth, source_place, widths_of}
+use Rattle.client_wiring.proofs.NameLemmas.{Owns, Tells, audio_inputs-tell, audio_outputs-tell, bytes-turned, found-named, midi_outputs-tell, named-one, node-one, own-ports, place-named, place-none, position-nowhere}
+use Rattle.client_wiring.proofs.ListLemmas.{few-below, position-called}
+use Rattle.client_wiring.proofs.OverLemmas.{connection-counted, device_of_none}
 use lib.Pointwise.{bytes_decides}
 
 -- a test for the kind and the way of a port
@@ -165,6 +169,35 @@ module _ (plan : Planned) (p : IsPlanned plan) where
         apart : Midi ≡ Audio → ⊥
         apart n = cc
 
+    -- its birth
+    birth-is : end.birth ≡ option_map_or (λ (port : OpenPort). port.birth) (port_named (state_of plan.network) (name_with plan.network.held.ports id)) 0
+    birth-is = e.birth ∙ sym (ap (λ o. option_map_or (λ (port : OpenPort). port.birth) o 0) (ap (port_named (state_of plan.network)) name-is ∙ there))
+      where
+        there : port_named (state_of plan.network) e.port.name ≡ Some (open_port e.port)
+        there =
+            find-one (λ (other : OpenPort). bytes_eq other.name e.port.name) (open_ports plan.network.held.ports) (open_port e.port) (map-contains open_port plan.network.held.ports e.port listed)
+            ((bytes_decides e.port.name e.port.name).1 refl)
+            (λ other n t. named-one plan.network.held registered e.index e.port e.within e.there other n (bytes_same other.name e.port.name t))
+
+    -- it is no audio input of the device
+    playback-none : (client_part e.port.name ≡ system_name → e.port.kind ≡ Audio → ⊥) → port_place (audio_inputs (state_of plan.network) system_name) (name_with plan.network.held.ports id) ≡ None
+    playback-none unless =
+        ap (port_place (audio_inputs (state_of plan.network) system_name)) name-is
+        ∙ position-nowhere (λ (other : OpenPort). bytes_eq other.name e.port.name) (audio_inputs (state_of plan.network) system_name) here
+      where
+        inputs : OpenPort → Bool
+        inputs port = is_audio port && is_input port
+
+        devices : OpenPort → Bool
+        devices port = bytes_eq (client_part port.name) system_name
+
+        here : (other : OpenPort) → Contains (audio_inputs (state_of plan.network) system_name) other → bytes_eq other.name e.port.name ≡ true → ⊥
+        here other m t =
+            let inside : Contains (ports_of (state_of plan.network) system_name) other = filter-contains inputs (ports_of (state_of plan.network) system_name) other m in
+            let one : other ≡ open_port e.port = named-one plan.network.held registered e.index e.port e.within e.there other (filter-contains devices (open_ports plan.network.held.ports) other inside) (bytes_same other.name e.port.name t) in
+            unless (ap (λ (port : OpenPort). client_part port.name) (sym one) ∙ bytes_same (client_part other.name) system_name (filter-passes devices (open_ports plan.network.held.ports) other inside))
+            (ap (λ (port : OpenPort). port.kind) (sym one) ∙ ((audio_inputs-tell other).0 (filter-passes inputs (ports_of (state_of plan.network) system_name) other m)).0)
+
     -- what kind of port has a name
     audio-there : (is_in is_sound : Bool) (other : IsEnd (state_of plan.network) is_in is_sound (name_with plan.network.held.ports id)) → is_audio (open_port e.port) ≡ is_sound
     audio-there is_in is_sound other =
@@ -204,17 +237,72 @@ module _ (plan : Planned) (p : IsPlanned plan) where
         let sound : ends.0 ≡ true = sym (audio-there edge.destination destination d true ends.0 ends.2) ∙ is_audio-kind edge.destination destination d f in
         kind-is_audio edge.source source s (audio-there edge.source source s false ends.0 ends.1 ∙ sound)
 
+    -- what goes into a playback port
+    pub heard-named : heard_from source destination ≡ heard_of (state_of plan.network) (open_clients plan.nodes) (connection plan.network.held.ports edge)
+    heard-named =
+        ap₂ (heard_with (sound_at source) destination.place) d.kind (node-is edge.destination destination d)
+        ∙ go d.port.kind (place_in (open_clients plan.nodes) (client_part (name_with plan.network.held.ports edge.destination))) refl refl
+      where
+        into : way_of d.port ≡ In
+        into = way-is edge.destination destination d In (p.network.ends.destinations edge m)
+
+        name : List ℕ
+        name = name_with plan.network.held.ports edge.destination
+
+        sound : d.port.kind ≡ Audio → sound_at source ≡ sound_of (state_of plan.network) (open_clients plan.nodes) (connection plan.network.held.ports edge)
+        sound f = ap₂ sound_by (source-is edge.source source s (way-is edge.source source s Out (p.network.ends.sources edge m)) (source-audio f)) (node-is edge.source source s)
+
+        with_place : Option ℕ → Option Heard
+        with_place channel = option_map (heard_on (sound_of (state_of plan.network) (open_clients plan.nodes) (connection plan.network.held.ports edge))) channel
+
+        none : (client_part d.port.name ≡ system_name → d.port.kind ≡ Audio → ⊥) → None ≡ heard_of (state_of plan.network) (open_clients plan.nodes) (connection plan.network.held.ports edge)
+        none unless = sym (ap with_place (playback-none edge.destination destination d unless))
+
+        no_midi : d.port.kind ≡ Midi → client_part d.port.name ≡ system_name → d.port.kind ≡ Audio → ⊥
+        no_midi f c g = apart (sym f ∙ g)
+          where
+            apart : Midi ≡ Audio → ⊥
+            apart n = cc
+
+        device : d.port.kind ≡ Audio → place_in (open_clients plan.nodes) (client_part (name_with plan.network.held.ports edge.destination)) ≡ None
+            → client_part (name_with plan.network.held.ports edge.destination) ≡ system_name
+        device f g =
+            let ends = wired (connection plan.network.held.ports edge) (map-contains (connection plan.network.held.ports) plan.network.set.edges edge m) in
+            bytes_same (client_part (name_with plan.network.held.ports edge.destination)) system_name
+            (device_of_none (state_of plan.network) (open_clients plan.nodes) plan.links is_plan true ends.0 (name_with plan.network.held.ports edge.destination) ends.2 g)
+          where
+            is_plan : IsPlan (state_of plan.network) (open_clients plan.nodes) plan.links
+            is_plan = subst (λ s. IsPlan s (open_clients plan.nodes) plan.links) (sym p.state) p.is_plan
+
+        no_node : (n : ℕ) → place_in (open_clients plan.nodes) (client_part (name_with plan.network.held.ports edge.destination)) ≡ Some n → client_part d.port.name ≡ system_name → d.port.kind ≡ Audio → ⊥
+        no_node n g c f =
+            let w = position-Some (λ (client : OpenClient). bytes_eq client.name (client_part name)) (open_clients plan.nodes) n system_client g in
+            let at : Contains (open_clients plan.nodes) (get_or (open_clients plan.nodes) n system_client) = (n, w.0, get_or_default (open_clients plan.nodes) n (get_or (open_clients plan.nodes) n system_client) system_client w.0) in
+            let client = contains-map open_client plan.nodes (get_or (open_clients plan.nodes) n system_client) at in
+            let named : client.0.name ≡ system_name = ap (λ (o : OpenClient). o.name) client.2 ∙ bytes_same (get_or (open_clients plan.nodes) n system_client).name (client_part name) w.1 ∙ ap client_part (name-is edge.destination destination d) ∙ c in
+            true≢false (sym ((bytes_decides client.0.name system_name).1 named) ∙ others client.0 client.1)
+
+        go : (k : PortKind) (node : Option ℕ) → d.port.kind ≡ k → place_in (open_clients plan.nodes) (client_part (name_with plan.network.held.ports edge.destination)) ≡ node
+            → heard_with (sound_at source) destination.place k node ≡ heard_of (state_of plan.network) (open_clients plan.nodes) (connection plan.network.held.ports edge)
+        go Midi None f g = none (no_midi f)
+        go Midi (Some n) f g = none (no_midi f)
+        go Audio (Some n) f g = none (no_node n g)
+        go Audio None f g =
+            ap (λ s. Some (heard_on s destination.place)) (sound f)
+            ∙ sym (ap with_place (ap (λ c. port_place (audio_inputs (state_of plan.network) c) name) (sym (device f g)) ∙ input-is edge.destination destination d into f))
+
     module _ (index : ℕ) (within : index < length plan.network.set.edges) (there : get_or plan.network.set.edges index edge ≡ edge) (carried : List Carried)
         (so_far : carried ≡ filter_map (carried_by (state_of plan.network) (open_clients plan.nodes) plan.links) (connections plan.network.held.ports (take index plan.network.set.edges))) where
       origin-named : (n : ℕ) → place_in (open_clients plan.nodes) (client_part (name_with plan.network.held.ports edge.destination)) ≡ Some n → d.port.kind ≡ Audio
           → origin_by plan.links edge.mark source n carried ≡ origin_of (state_of plan.network) (open_clients plan.nodes) plan.links n (connection plan.network.held.ports edge)
       origin-named n at f =
-          ap₂ (λ place node. origin_with plan.links place n carried edge.mark node)
+          ap₂ (λ place node. origin_with plan.links place source.birth n carried edge.mark node)
           (source-is edge.source source s (way-is edge.source source s Out (p.network.ends.sources edge m)) (source-audio f)) (node-is edge.source source s)
+          ∙ ap (λ birth. origin_with plan.links (source_place (state_of plan.network) (connection plan.network.held.ports edge)) birth n carried edge.mark (place_in (open_clients plan.nodes) (client_part (name_with plan.network.held.ports edge.source)))) (birth-is edge.source source s)
           ∙ go edge.mark (place_in (open_clients plan.nodes) (client_part (name_with plan.network.held.ports edge.source))) refl refl
         where
           go : (mark : Mark) (from : Option ℕ) → edge.mark ≡ mark → place_in (open_clients plan.nodes) (client_part (name_with plan.network.held.ports edge.source)) ≡ from
-              → origin_with plan.links (source_place (state_of plan.network) (connection plan.network.held.ports edge)) n carried mark from
+              → origin_with plan.links (source_place (state_of plan.network) (connection plan.network.held.ports edge)) (source_birth (state_of plan.network) (connection plan.network.held.ports edge)) n carried mark from
               ≡ origin_from (state_of plan.network) (open_clients plan.nodes) plan.links n (connection plan.network.held.ports edge) mark from
           go Direct (Some a) g h = ap (Handed (link_place plan.links a n)) (connection-counted plan p edge index within there carried so_far a n g h at)
           go Feedback (Some a) g h = refl
@@ -242,6 +330,70 @@ module _ (plan : Planned) (p : IsPlanned plan) where
               ap (λ origin. Some (record { node = n; input = destination.place; origin = origin })) (origin-named n g f)
               ∙ sym (ap (joint_into (state_of plan.network) (open_clients plan.nodes) plan.links (connection plan.network.held.ports edge) (Some n)) (input-is edge.destination destination d into f))
 
+-- a port of a plan's that is an audio output of a node
+module _ (plan : Planned) (p : IsPlanned plan) (index : ℕ) (port : Port) (within : index < length plan.network.held.ports) (there : get_or plan.network.held.ports index port ≡ port)
+    (places : List ℕ) (are : ArePlaces plan.network.held.ports places) where
+  pub given-named : given_from plan.nodes places port ≡ given_of (state_of plan.network) (open_clients plan.nodes) (open_port port)
+  given-named =
+      ap₂ (λ place node. given_with port.birth place port.kind (way_of port) node) (are index port within there) (node-named plan p port (index, within, there))
+      ∙ go port.kind (way_of port) refl refl
+    where
+      outputs : OpenPort → Bool
+      outputs other = is_audio other && not (is_input other)
+
+      node : Option ℕ
+      node = place_in (open_clients plan.nodes) (client_part port.name)
+
+      by_none : (birth : ℕ) (o : Option ℕ) → None ≡ given_by birth o None
+      by_none birth None = refl
+      by_none birth (Some n) = refl
+
+      none : outputs (open_port port) ≡ false → None ≡ given_of (state_of plan.network) (open_clients plan.nodes) (open_port port)
+      none f = by_none port.birth node ∙ sym (ap (given_by port.birth node) (place-none plan.network.held p.network.registered index port within there outputs f))
+
+      failing : (port.kind ≡ Audio → way_of port ≡ Out → ⊥) → outputs (open_port port) ≡ false
+      failing unless = fails (outputs (open_port port)) (λ t. let told = (audio_outputs-tell (open_port port)).0 t in unless told.0 told.1)
+
+      no_midi : Midi ≡ Audio → ⊥
+      no_midi n = cc
+
+      no_input : In ≡ Out → ⊥
+      no_input n = cc
+
+      nothing : (birth place : ℕ) (w : Way) (o : Option ℕ) → given_with birth place Midi w o ≡ None
+      nothing birth place In None = refl
+      nothing birth place In (Some n) = refl
+      nothing birth place Out None = refl
+      nothing birth place Out (Some n) = refl
+
+      input : (birth place : ℕ) (o : Option ℕ) → given_with birth place Audio In o ≡ None
+      input birth place None = refl
+      input birth place (Some n) = refl
+
+      output : (birth place : ℕ) (o : Option ℕ) → given_with birth place Audio Out o ≡ given_by birth o (Some place)
+      output birth place None = refl
+      output birth place (Some n) = refl
+
+      go : (k : PortKind) (w : Way) → port.kind ≡ k → way_of port ≡ w
+          → given_with port.birth (class_place plan.network.held.ports index port) k w (place_in (open_clients plan.nodes) (client_part port.name)) ≡ given_of (state_of plan.network) (open_clients plan.nodes) (open_port port)
+      go Midi w f g = nothing port.birth (class_place plan.network.held.ports index port) w node ∙ none (failing (λ a o. no_midi (sym f ∙ a)))
+      go Audio In f g = input port.birth (class_place plan.network.held.ports index port) node ∙ none (failing (λ a o. no_input (sym g ∙ o)))
+      go Audio Out f g =
+          output port.birth (class_place plan.network.held.ports index port) node
+          ∙ sym (ap (given_by port.birth node) (found-named plan.network.held p.network.registered index port within there outputs (turned outputs Audio port.kind Out (way_of port) f g audio_outputs-tell)))
+
+-- one port of a plan's, told by the plan's calls
+pub given-step : (plan : Planned) (p : IsPlanned plan) (ports : List Port) (clients : List Client) → ports ≡ plan.network.held.ports → clients ≡ plan.nodes → (places : List ℕ) → ArePlaces plan.network.held.ports places
+    → (i : ℕ) (port : Port) → i < length ports → port ≡ get_or ports i port
+    → given_from clients places port ≡ given_of (state_of plan.network) (open_clients plan.nodes) (open_port (get_or plan.network.held.ports i port))
+given-step plan p ports clients ports_are clients_are places are i port h is =
+    ap (λ cs. given_from cs places port) clients_are
+    ∙ given-named plan p i port (subst (λ (ps : List Port). i < length ps) ports_are h) there places are
+    ∙ ap (λ q. given_of (state_of plan.network) (open_clients plan.nodes) (open_port q)) (sym there)
+  where
+    there : get_or plan.network.held.ports i port ≡ port
+    there = ap (λ (ps : List Port). get_or ps i port) (sym ports_are) ∙ sym is
+
 -- one edge of a plan's, told by the plan's calls
 module _ (plan : Planned) (p : IsPlanned plan) (i : ℕ) (h : i < length plan.network.set.edges) (source destination : End)
     (ports : List Port) (clients : List Client) (edges : List Edge) (links : List Link)
@@ -265,6 +417,9 @@ module _ (plan : Planned) (p : IsPlanned plan) (i : ℕ) (h : i < length plan.ne
       ap₂ (λ ls (es : List Edge). carried_from ls (get_or es i no_edge).mark source destination) links_are edges_are
       ∙ carried-named plan p edge (i, h, there) source destination (end-moved (λ e. e.source) source s) (end-moved (λ e. e.destination) destination d)
 
+  pub heard-step : heard_from source destination ≡ heard_of (state_of plan.network) (open_clients plan.nodes) (connection plan.network.held.ports (get_or plan.network.set.edges i no_edge))
+  heard-step = heard-named plan p edge (i, h, there) source destination (end-moved (λ e. e.source) source s) (end-moved (λ e. e.destination) destination d)
+
   pub joint-step : (carried : List Carried) → carried ≡ filter_map (carried_by (state_of plan.network) (open_clients plan.nodes) plan.links) (connections plan.network.held.ports (take i plan.network.set.edges))
       → joint_from links (get_or edges i no_edge).mark source destination carried
       ≡ joint_of (state_of plan.network) (open_clients plan.nodes) plan.links (connection plan.network.held.ports (get_or plan.network.set.edges i no_edge))
@@ -285,6 +440,9 @@ module _ (plan : Planned) (p : IsPlanned plan) (ports : List Port) (ports_are : 
 
   pub ids-apart : Apart (λ (port : Port). port.id.0) ports
   ids-apart = subst (Apart (λ (port : Port). port.id.0)) (sym ports_are) p.network.registered.port_ids
+
+  pub ports-few : length ports ≤ 2064
+  ports-few = few-below ports 2064 ids-apart (λ port m. let w = ids-low m.0 port m.1 in subst (λ (q : Port). q.id.0 < 2064) m.2 w)
 
   module _ (edges : List Edge) (edges_are : edges ≡ plan.network.set.edges) (i : ℕ) (h : i < length edges) where
     listed-edge : Contains plan.network.set.edges (get_or edges i no_edge)

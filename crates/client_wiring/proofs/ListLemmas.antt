@@ -1,13 +1,14 @@
 -- Facts on lists: where an element stands among those that pass a test, and tables that are filled step by step.
-use Rattle.std.proofs.Common.{◌≡◌, ◌≢◌, ℕ, zero, suc, ◌+◌, ◌<◌, ◌≤◌, Bool, true, false, cond, not, ◌==◌, ◌⊎◌, inl, inr, List, [], ◌∷◌, ◌++◌, length, map, filter, filter_map, get_or, position, set, take, Contains, Option, Some, None, refl, sym, ◌∙◌, ap, ap₂, subst, arith, true≢false, eq-eqb, eqb-true, get_or-set_same, get_or-set_other, length-append, nat_lt, replicate}
-use Rattle.std.specs.List.{cons_option, position_or_len}
+use Rattle.std.proofs.Common.{◌≡◌, ◌≢◌, ℕ, zero, suc, ◌+◌, ◌<◌, ◌≤◌, Bool, true, false, cond, not, ◌==◌, ◌⊎◌, inl, inr, List, [], ◌∷◌, ◌++◌, length, map, filter, filter_map, get_or, position, set, take, Contains, Option, Some, None, refl, sym, ◌∙◌, ap, ap₂, subst, arith, true≢false, eq-eqb, eqb-true, eqb, ne_eqb, get_or-set_same, get_or-set_other, length-append, nat_lt, replicate}
+use Rattle.std.specs.List.{AllByRecursion, IsDistinct, cons_option, list_any, position_or_len}
 use Rattle.std.proofs.lemmas.Bool.{cases_eq}
 use Rattle.std.proofs.lemmas.List.{get_or_default, get_or-replicate, length-map, length-take-le, map-append, take_more}
 use Rattle.std.proofs.lemmas.List.Elements.{filter-append, filter_map-append}
+use Rattle.std.proofs.lemmas.Map.Steps.{length-le_from_distinct_below}
 use Rattle.jack_types.specs.declared.ports.Port.{Port}
 use Rattle.session_model.specs.Samples.{below}
 use Rattle.session_model.specs.Soundness.{Apart}
-use Rattle.session_laws.proofs.LoopLemmas.{Contains-cases, Contains-first, Contains-later}
+use Rattle.session_laws.proofs.LoopLemmas.{Contains-cases, Contains-first, Contains-later, or_cases}
 use Rattle.session_laws.proofs.PlanLemmas.{Distinct-from_Apart}
 use Rattle.client_wiring.specs.Tables.{class_number, in_class}
 
@@ -145,3 +146,28 @@ zeros_few n class i h =
     let zeros : List ℕ = replicate n 0 in
     let none : get_or zeros class 0 ≡ 0 = get_or-replicate n class 0 0 h in
     omega (arith, none)
+
+-- ports of ids that are apart and below a bound are few
+distinct-ids : (ports : List Port) → Apart (λ (port : Port). port.id.0) ports → IsDistinct eqb (map (λ (port : Port). port.id.0) ports)
+unfolding IsDistinct
+distinct-ids [] h = tt
+distinct-ids (port ∷ ports) h = (others ports (λ other m. h.0 other m), distinct-ids ports h.1)
+  where
+    others : (ps : List Port) → ((other : Port) → Contains ps other → port.id.0 ≡ other.id.0 → ⊥) → AllByRecursion (λ n. eqb port.id.0 n ≡ false) (map (λ (port : Port). port.id.0) ps)
+    others [] f = tt
+    others (p ∷ ps) f = (ne_eqb port.id.0 p.id.0 (f p (Contains-first p ps)), others ps (λ other m. f other (Contains-later p other ps m)))
+
+ids-below : (ports : List Port) (bound : ℕ) → ((port : Port) → Contains ports port → port.id.0 < bound) → (q : ℕ) → list_any (eqb q) (map (λ (port : Port). port.id.0) ports) ≡ true → q < bound
+ids-below [] bound f q e = absurd (true≢false (sym e))
+ids-below (port ∷ ports) bound f q e =
+    go (or_cases (eqb q port.id.0) (list_any (eqb q) (map (λ (port : Port). port.id.0) ports)) e) (λ t. ids-below ports bound (λ other m. f other (Contains-later port other ports m)) q t)
+  where
+    go : (eqb q port.id.0 ≡ true) ⊎ (list_any (eqb q) (map (λ (port : Port). port.id.0) ports) ≡ true) → (list_any (eqb q) (map (λ (port : Port). port.id.0) ports) ≡ true → q < bound) → q < bound
+    go (inl t) rest = subst (λ n. n < bound) (sym (eqb-true q port.id.0 t)) (f port (Contains-first port ports))
+    go (inr t) rest = rest t
+
+pub few-below : (ports : List Port) (bound : ℕ) → Apart (λ (port : Port). port.id.0) ports → ((port : Port) → Contains ports port → port.id.0 < bound) → length ports ≤ bound
+few-below ports bound apart low =
+    let size : length (map (λ (port : Port). port.id.0) ports) ≡ length ports = length-map ports (λ port. port.id.0) in
+    let few : length (map (λ (port : Port). port.id.0) ports) ≤ bound = length-le_from_distinct_below (map (λ (port : Port). port.id.0) ports) bound (distinct-ids ports apart) (ids-below ports bound low) in
+    omega (arith, size, few)

@@ -1,7 +1,7 @@
 -- Which edges a link carries, and where an edge stands among them.
 --     between-is      an edge is between two nodes exactly where their link carries it
 --     connection-counted      an edge's place among those between its nodes is the number of earlier connections of their link
-use Rattle.std.proofs.Common.{◌≡◌, ℕ, ◌+◌, ◌<◌, Bool, true, false, cond, ◌&&◌, ◌==◌, List, [], ◌∷◌, length, filter, filter_map, get_or, take, count_by, Contains, Option, Some, None, refl, sym, ◌∙◌, ap, ap₂, subst, arith, eq-eqb, eqb-true}
+use Rattle.std.proofs.Common.{◌≡◌, ℕ, ◌+◌, ◌<◌, Bool, true, false, cond, not, ◌&&◌, ◌==◌, List, [], ◌∷◌, length, filter, filter_map, get_or, take, count_by, Contains, Option, Some, None, refl, sym, ◌∙◌, ap, ap₂, subst, arith, eq-eqb, eqb-true}
 use Rattle.std.specs.List.{cons_option, position_or_len}
 use Rattle.std.specs.Option.{option_map}
 use Rattle.std.specs.Str.{bytes_eq}
@@ -16,12 +16,14 @@ use Rattle.jack_types.specs.declared.ports.Port.{Port}
 use Rattle.jack_types.specs.declared.ports.Mark.TheVariants.{Direct, Feedback}
 use Rattle.session_model.specs.Activation.{no_link}
 use Rattle.session_model.specs.Benches.{IsPlan, edge_place, edges_between, node_at, place_in}
+use Rattle.session_model.specs.Courses.{players}
+use Rattle.session_model.specs.Soundness.{IsEnd}
 use Rattle.session_model.specs.Ids.{connection, connections, name_with}
-use Rattle.session_model.specs.State.{Connection, OpenClient, State, is_direct, system_client}
+use Rattle.session_model.specs.State.{Connection, OpenClient, State, is_direct, is_system, system_client}
 use Rattle.session_laws.proofs.CycleLemmas.{bytes_same}
 use Rattle.session_laws.proofs.EdgeLemmas.{AreApart, AreApart-opening, AreApart-replay, ends_of}
 use Rattle.session_laws.proofs.LoopLemmas.{Contains-first, Contains-later, and_parts, and_true}
-use Rattle.session_laws.proofs.PlaceLemmas.{position-passes}
+use Rattle.session_laws.proofs.PlaceLemmas.{filter-keeps, position-found, position-passes}
 use Rattle.session_laws.proofs.PlanLemmas.{Distinct-from_Apart}
 use Rattle.session_laws.proofs.SoundLemmas.{map-contains}
 use Rattle.port_registry.proofs.FilterLemmas.{count-cons}
@@ -92,6 +94,23 @@ module _ (state : State) (nodes : List OpenClient) (links : List Link) (plan : I
   name-of_place name a e =
       let w = position-Some (λ (client : OpenClient). bytes_eq client.name name) nodes a system_client e in
       (w.0, bytes_same (node_at nodes a).name name w.1)
+
+  -- what comes from no node, or goes into none, is the device's
+  pub device_of_none : (is_in is_sound : Bool) (name : List ℕ) → IsEnd state is_in is_sound name → place_in nodes (client_part name) ≡ None → is_system (client_part name) ≡ true
+  device_of_none is_in is_sound name end none = go (is_system (client_part name)) refl
+    where
+      plays : OpenClient → Bool
+      plays client = client.active && not (is_system client.name)
+
+      nowhere : (i : ℕ) → None ≡ Some i → ⊥
+      nowhere i f = cc
+
+      go : (b : Bool) → is_system (client_part name) ≡ b → is_system (client_part name) ≡ true
+      go true e = e
+      go false e =
+          let player : Contains (players state) end.client = filter-keeps plays state.clients end.client end.open_client (and_true end.client.active (not (is_system end.client.name)) end.active (ap not (ap is_system end.client_is ∙ e))) in
+          let found = position-found (λ (client : OpenClient). bytes_eq client.name (client_part name)) nodes end.client (plan.every end.client player) ((bytes_decides end.client.name (client_part name)).1 end.client_is) in
+          absurd (nowhere (position_or_len (λ (client : OpenClient). bytes_eq client.name (client_part name)) nodes) (sym none ∙ found))
 
   -- an edge between two nodes has their link
   pub link-of_between : (a n : ℕ) (edge : Connection) → a < length nodes → n < length nodes → is_between nodes a n edge ≡ true → link_in nodes edge ≡ Some (link_numbered a n)

@@ -1,6 +1,6 @@
 -- A plan's wiring says the parts and the routes of its clients' work.
 --     SetsTasks-wired      so does the wiring of every plan
-use Rattle.std.proofs.Common.{◌≡◌, ℕ, zero, suc, ◌<◌, ◌≤◌, Bool, true, false, cond, not, ◌&&◌, ◌==◌, List, [], ◌∷◌, ◌++◌, length, map-id, map, filter, filter_map, get_or, position, take, count_by, Contains, Option, Some, None, nat_lt, refl, sym, ◌∙◌, ap, ap₂, subst, arith, true≢false, eq-eqb, eqb-true}
+use Rattle.std.proofs.Common.{◌≡◌, ℕ, zero, suc, ◌<◌, ◌≤◌, Bool, true, false, cond, ◌&&◌, ◌==◌, List, [], ◌∷◌, ◌++◌, length, map-id, map, filter, filter_map, get_or, position, take, count_by, Contains, Option, Some, None, nat_lt, refl, sym, ◌∙◌, ap, ap₂, subst, arith, true≢false, eq-eqb, eqb-true}
 use Rattle.std.specs.List.{cons_option, position_or_len}
 use Rattle.std.specs.Option.{option_map, option_map_or}
 use Rattle.std.specs.Str.{bytes_eq}
@@ -14,7 +14,6 @@ use Rattle.jack_types.specs.declared.ports.Mark.TheVariants.{Direct, Feedback}
 use Rattle.session_model.specs.Activation.{link_at, no_link, outgoing, place_among}
 use Rattle.session_model.specs.Benches.{IsPlan, Known, Route, audio_part_of, direct_part, edges_between, fixed_audio, marked_part, node_at, place_in, port_place, route_of}
 use Rattle.session_model.specs.Commands.{is_audio, is_input, ports_of, replay}
-use Rattle.session_model.specs.Courses.{players}
 use Rattle.session_model.specs.Cycles.{Settled, audio_inputs, audio_outputs, captured_at, edges_into, midi_outputs}
 use Rattle.session_model.specs.Samples.{below, silence}
 use Rattle.session_model.specs.Soundness.{Apart, IsEnd, IsSound}
@@ -23,7 +22,7 @@ use Rattle.session_laws.proofs.CycleLemmas.{bytes_same, filter-passes}
 use Rattle.session_laws.proofs.FeedbackLemmas.{FeedbackInside, FeedbackInside-opening, FeedbackInside-replay}
 use Rattle.session_laws.proofs.GraphLemmas.{route-audio, route-midi}
 use Rattle.session_laws.proofs.LoopLemmas.{Contains-first, Contains-later, and_parts, and_true}
-use Rattle.session_laws.proofs.PlaceLemmas.{filter-contains, filter-keeps, position-found, position-passes}
+use Rattle.session_laws.proofs.PlaceLemmas.{filter-contains, position-found, position-passes}
 use Rattle.session_laws.proofs.PlanLemmas.{Apart-below, Distinct-from_Apart, IsSound-opening}
 use Rattle.session_laws.proofs.SequentialLemmas.{Contains-below, outgoing_at}
 use Rattle.session_laws.proofs.SoundLemmas.{Apart-filter, Apart-same, IsSound-replay}
@@ -41,17 +40,17 @@ use Rattle.client_wiring.specs.Tables.{link_numbered}
 use Rattle.client_wiring.specs.Wirings.{SetsTasks, carried_by, carried_on, is_from, joint_into, joint_of, link_index, place_out_of, origin_from, origin_of, output_name, output_of, part_from, port_index, route_by, source_place, widths_of, wired_of}
 use Rattle.client_wiring.proofs.ListLemmas.{from_places, places_front, take-whole}
 use Rattle.client_wiring.proofs.NameLemmas.{bytes-turned}
-use Rattle.client_wiring.proofs.OverLemmas.{between-is, between-of_link, carries, is_between, name-of_place, same_link-is, same_link-self}
+use Rattle.client_wiring.proofs.OverLemmas.{between-is, between-of_link, carries, device_of_none, is_between, name-of_place, same_link-is, same_link-self}
 use lib.Pointwise.{bytes_decides}
 
 -- ---- lists
 
 -- the elements that pass, and those that the others that pass are made of
-abbrev passes : {Y : Type 0} → (Y → Bool) → Option Y → Bool
+abbrev pub passes : {Y : Type 0} → (Y → Bool) → Option Y → Bool
 passes test None = false
 passes test (Some y) = test y
 
-same-made : {X Y Z : Type 0} (f : X → Z) (g : Y → Z) (t : X → Bool) (u : Y → Bool) (made : X → Option Y) (xs : List X)
+pub same-made : {X Y Z : Type 0} (f : X → Z) (g : Y → Z) (t : X → Bool) (u : Y → Bool) (made : X → Option Y) (xs : List X)
     → ((x : X) → Contains xs x → t x ≡ passes u (made x)) → ((x : X) (y : Y) → Contains xs x → t x ≡ true → made x ≡ Some y → f x ≡ g y)
     → map f (filter t xs) ≡ map g (filter u (filter_map made xs))
 same-made f g t u made [] agree same = refl
@@ -84,7 +83,7 @@ same-map f g [] agree = refl
 same-map f g (x ∷ xs) agree = ap₂ (λ z zs. z ∷ zs) (agree x (Contains-first x xs)) (same-map f g xs (λ y m. agree y (Contains-later x y xs m)))
 
 -- a place that was found, as a number
-place-index : {X : Type 0} (test : X → Bool) (xs : List X) (i : ℕ) → position test xs ≡ Some i → position_or_len test xs ≡ i
+pub place-index : {X : Type 0} (test : X → Bool) (xs : List X) (i : ℕ) → position test xs ≡ Some i → position_or_len test xs ≡ i
 place-index test xs i e = go (nat_lt (position_or_len test xs) (length xs)) refl
   where
     one : (a b : ℕ) → Some a ≡ Some b → a ≡ b
@@ -108,20 +107,6 @@ module _ (state : State) (nodes : List OpenClient) (links : List Link) (plan : I
 
   some-one : {X : Type 0} (x y : X) → Some x ≡ Some y → x ≡ y
   some-one x y f = cc
-
-  -- what comes from no node comes from the device
-  device-of_none : (is_sound : Bool) (name : List ℕ) → IsEnd state false is_sound name → place_in nodes (client_part name) ≡ None → is_system (client_part name) ≡ true
-  device-of_none is_sound name end none = go (is_system (client_part name)) refl
-    where
-      plays : OpenClient → Bool
-      plays client = client.active && not (is_system client.name)
-
-      go : (b : Bool) → is_system (client_part name) ≡ b → is_system (client_part name) ≡ true
-      go true e = e
-      go false e =
-          let player : Contains (players state) end.client = filter-keeps plays state.clients end.client end.open_client (and_true end.client.active (not (is_system end.client.name)) end.active (ap not (ap is_system end.client_is ∙ e))) in
-          let found = position-found (λ (client : OpenClient). bytes_eq client.name (client_part name)) nodes end.client (plan.every end.client player) ((bytes_decides end.client.name (client_part name)).1 end.client_is) in
-          absurd (apart (sym none ∙ found))
 
   -- ---- routes
 
@@ -276,13 +261,13 @@ module _ (state : State) (nodes : List OpenClient) (links : List Link) (plan : I
     input-owned : (port : OpenPort) → Contains (audio_inputs state name) port → client_part port.name ≡ name
     input-owned port m = bytes_same (client_part port.name) name (filter-passes owned state.ports port (filter-contains is_sound_input (ports_of state name) port m))
 
-    input-listed : (port : OpenPort) → Contains (audio_inputs state name) port → Contains state.ports port
+    pub input-listed : (port : OpenPort) → Contains (audio_inputs state name) port → Contains state.ports port
     input-listed port m = filter-contains owned state.ports port (filter-contains is_sound_input (ports_of state name) port m)
 
-    input-sound : (port : OpenPort) → Contains (audio_inputs state name) port → is_audio port ≡ true
+    pub input-sound : (port : OpenPort) → Contains (audio_inputs state name) port → is_audio port ≡ true
     input-sound port m = (and_parts (is_audio port) (is_input port) (filter-passes is_sound_input (ports_of state name) port m)).0
 
-    input-place : (i : ℕ) (d : OpenPort) → i < length (audio_inputs state name) → port_place (audio_inputs state name) (get_or (audio_inputs state name) i d).name ≡ Some i
+    pub input-place : (i : ℕ) (d : OpenPort) → i < length (audio_inputs state name) → port_place (audio_inputs state name) (get_or (audio_inputs state name) i d).name ≡ Some i
     input-place i d within =
         let it : OpenPort = get_or (audio_inputs state name) i d in
         let listed : Contains (audio_inputs state name) it = (i, within, get_or_default (audio_inputs state name) i it d within) in
@@ -295,7 +280,7 @@ module _ (state : State) (nodes : List OpenClient) (links : List Link) (plan : I
         (λ h. same))
 
   -- an edge into an audio input is one of audio
-  edge-sound : (edge : Connection) → Contains state.edges edge → (port : OpenPort) → Contains state.ports port → is_audio port ≡ true → edge.destination ≡ port.name → IsEnd state false true edge.source
+  pub edge-sound : (edge : Connection) → Contains state.edges edge → (port : OpenPort) → Contains state.ports port → is_audio port ≡ true → edge.destination ≡ port.name → IsEnd state false true edge.source
   edge-sound edge m port listed audio e =
       let ends = wired_so edge m in
       let one : ends.2.port ≡ port = Apart-same (λ (p : OpenPort). p.name) state.ports ends.2.port port sound.port_names ends.2.listed listed (ends.2.named ∙ e) in
@@ -333,9 +318,9 @@ module _ (state : State) (nodes : List OpenClient) (links : List Link) (plan : I
         go : (mark : Mark) (from : Option ℕ) → edge.mark ≡ mark → place_in nodes (client_part edge.source) ≡ from
             → marked_part state nodes links n edge (at.before.audio edge.source) (fixed_audio (record at { graph = state }) edge.source) mark ≡ part_from (record at { graph = state }) nodes (origin_from state nodes links n edge mark from)
         go Direct (Some a) f g = ap (direct_part state nodes links n edge (fixed_audio now edge.source)) g
-        go Direct None f g = ap (direct_part state nodes links n edge (fixed_audio now edge.source)) g ∙ ap Known (captured (device-of_none true edge.source end g))
+        go Direct None f g = ap (direct_part state nodes links n edge (fixed_audio now edge.source)) g ∙ ap Known (captured (device_of_none state nodes links plan false true edge.source end g))
         go Feedback (Some a) f g = ap (λ name. Known (at.before.audio name)) (kept a g)
-        go Feedback None f g = absurd (true≢false (sym (device-of_none true edge.source end g) ∙ (inside edge m f).0))
+        go Feedback None f g = absurd (true≢false (sym (device_of_none state nodes links plan false true edge.source end g) ∙ (inside edge m f).0))
 
     pub parts-are : (n : ℕ) → n < length nodes
         → map (λ (port : OpenPort). map (λ (edge : Connection). marked_part state nodes links n edge (at.before.audio edge.source) (fixed_audio (record at { graph = state }) edge.source) edge.mark) (edges_into state port.name)) (audio_inputs state (node_at nodes n).name)

@@ -1,3 +1,4 @@
 pub mod Ends
+pub mod Keeping
 pub mod Tables
 pub mod Wirings

@@ -13,12 +13,13 @@ use feedback_edges::MOST_PORTS;
 use jack_types::{Client, ClientId, Node, Port, PortId, PortKind};
 
 /// An end of a connection: what its port carries, its client's node, if that is one, and its place among the ports of its
-/// node, kind and way.
+/// node, kind and way, and its birth.
 #[derive(Clone, Copy)]
 pub(crate) struct End {
     pub(crate) kind: PortKind,
     pub(crate) node: Option<usize>,
     pub(crate) place: usize,
+    pub(crate) birth: u32,
 }
 
 /// The place of the node of a client among the plan's nodes; their number where it is none.
@@ -34,7 +35,7 @@ fn first_of(nodes: &[Client], id: ClientId) -> usize
 }
 
 /// The place of a node among the plan's nodes.
-fn place_of(nodes: &[Client], node: Node) -> Option<usize>
+pub(crate) fn place_of(nodes: &[Client], node: Node) -> Option<usize>
     ensures { result ≡ node_place nodes.now node }
 {
     let id = match node {
@@ -63,5 +64,6 @@ pub(crate) fn end_at(ports: &[Port], tables: &Tables, nodes: &[Client], id: Port
         kind: port.kind,
         node: place_of(nodes, port.node),
         place: tables.places[id.0 as usize],
+        birth: port.birth,
     }
 }

@@ -3,11 +3,13 @@
 
 mod adding;
 mod ends;
+mod giving;
 mod joining;
 pub mod joints;
+pub mod laws;
 mod links;
 mod tables;
 pub mod wiring;
 
-pub use joints::{Carried, Joint, Origin, Output, Widths};
+pub use joints::{Carried, Given, Heard, Joint, Origin, Output, Sound, Widths};
 pub use wiring::Wiring;

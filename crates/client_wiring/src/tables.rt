@@ -2,6 +2,7 @@
 
 ghost use Rattle.std.specs.Prelude.{◌≡◌, ◌<◌, ℕ, All};
 ghost use Rattle.jack_types.specs.declared.ports.Port.{Port as PortRecord};
+ghost use Rattle.session_model.specs.Ids.{way_of as way_in};
 ghost use Rattle.session_model.specs.Soundness.{Apart};
 ghost use Rattle.feedback_edges.specs.Marking.{IsNode, node_number};
 ghost use Rattle.client_wiring.specs.Tables.{AreCounts, AreIndices, ArePlaces, class_number, kind_number, number_in_class};
@@ -37,17 +38,24 @@ pub(crate) fn class_of(node: Node, kind: PortKind, way: Way) -> usize
     usize::from(number_of(node)) * 4 + kind_number + way_number
 }
 
+/// The way of a port.
+pub(crate) fn way_of(port: &Port) -> Way
+    ensures { result ≡ way_in port.now }
+{
+    if port.flags.bits() & 1 == 1 {
+        Way::In
+    } else {
+        Way::Out
+    }
+}
+
 /// The class of a port.
 fn class_of_port(port: &Port) -> usize
     requires { IsNode port.now.node }
     ensures value { result ≡ class_number port.now }
     ensures below { result < 268 }
 {
-    let way = if port.flags.bits() & 1 == 1 {
-        Way::In
-    } else {
-        Way::Out
-    };
+    let way = way_of(port);
     class_of(port.node, port.kind, way)
 }
 

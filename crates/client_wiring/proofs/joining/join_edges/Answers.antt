@@ -6,8 +6,8 @@ use Rattle.session_model.specs.State.{State}
 use Rattle.connection_set.specs.Connections.{no_edge}
 use Rattle.port_registry.specs.Registered.{open_clients}
 use Rattle.cycle_plan.specs.Graphs.{state_of}
-use Rattle.client_wiring.specs.Wirings.{carried_by, joint_of}
-use Rattle.client_wiring.proofs.EndLemmas.{carried-step, destination-listed, ids-low, joint-step, source-listed}
+use Rattle.client_wiring.specs.Wirings.{carried_by, heard_of, joint_of}
+use Rattle.client_wiring.proofs.EndLemmas.{carried-step, destination-listed, heard-step, ids-low, joint-step, source-listed}
 use Rattle.client_wiring.proofs.ListLemmas.{made_more, taken-whole}
 use Rattle.client_wiring.proofs.joining.join_edges.Goals as goal
 
@@ -45,10 +45,20 @@ loop-edge-preserved c =
           c.ports-ports.ensures.value c.nodes-nodes.ensures.value c.edges-edge-items.ensures.value c.links-links.ensures.value
           c.end_at-source.ensures c.end_at-destination.ensures)
           ∙ sym (made_more (carried_by (state_of c.args.plan.now.network) (open_clients c.args.plan.now.nodes) c.args.plan.now.links) (connection c.args.plan.now.network.held.ports) c.args.plan.now.network.set.edges c.loop-edge.edge-index no_edge within);
+      heard = c.put_some-in-loop-edge-2.ensures.items
+          ∙ ap₂ (λ heard playback. heard ++ cons_option playback []) c.loop-edge.invariant.heard
+          (c.heard_of-playback.ensures
+          ∙ heard-step c.args.plan.now c.ports-ports.ensures.planned c.loop-edge.edge-index within c.end_at-source.result c.end_at-destination.result
+          c.ports-ports.result.now c.nodes-nodes.result.now c.edges-edge-items.result.now c.links-links.result.now
+          c.ports-ports.ensures.value c.nodes-nodes.ensures.value c.edges-edge-items.ensures.value c.links-links.ensures.value
+          c.end_at-source.ensures c.end_at-destination.ensures)
+          ∙ sym (made_more (heard_of (state_of c.args.plan.now.network) (open_clients c.args.plan.now.nodes)) (connection c.args.plan.now.network.held.ports) c.args.plan.now.network.set.edges c.loop-edge.edge-index no_edge within);
       few_joints = omega (arith, c.put_some.ensures.few, c.loop-edge.invariant.few_joints);
       few_carried = omega (arith, c.put_some-in-loop-edge.ensures.few, c.loop-edge.invariant.few_carried);
+      few_heard = omega (arith, c.put_some-in-loop-edge-2.ensures.few, c.loop-edge.invariant.few_heard);
       joint_room = omega (arith, c.put_some.ensures.room, c.loop-edge.invariant.joint_room);
       carried_room = omega (arith, c.put_some-in-loop-edge.ensures.room, c.loop-edge.invariant.carried_room);
+      heard_room = omega (arith, c.put_some-in-loop-edge-2.ensures.room, c.loop-edge.invariant.heard_room);
     }
 
 pub returns-clause-joints : goal.returns-clause-joints
@@ -64,3 +74,10 @@ returns-clause-carried c =
     ∙ ap (λ (es : List Edge). filter_map (carried_by (state_of c.args.plan.now.network) (open_clients c.args.plan.now.nodes) c.args.plan.now.links) (connections c.args.plan.now.network.held.ports es))
     (taken-whole c.edges-edge-items.result.now c.args.plan.now.network.set.edges c.loop-edge.edge-index c.edges-edge-items.ensures.value c.loop-edge-test.false c.loop-edge.auto.edge-index-end)
     ∙ ap (λ (state : State). filter_map (carried_by state (open_clients c.args.plan.now.nodes) c.args.plan.now.links) state.edges) c.ports-ports.ensures.planned.state
+
+pub returns-clause-heard : goal.returns-clause-heard
+returns-clause-heard c =
+    c.loop-edge.invariant.heard
+    ∙ ap (λ (es : List Edge). filter_map (heard_of (state_of c.args.plan.now.network) (open_clients c.args.plan.now.nodes)) (connections c.args.plan.now.network.held.ports es))
+    (taken-whole c.edges-edge-items.result.now c.args.plan.now.network.set.edges c.loop-edge.edge-index c.edges-edge-items.ensures.value c.loop-edge-test.false c.loop-edge.auto.edge-index-end)
+    ∙ ap (λ (state : State). filter_map (heard_of state (open_clients c.args.plan.now.nodes)) state.edges) c.ports-ports.ensures.planned.state
