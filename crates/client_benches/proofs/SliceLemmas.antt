@@ -3,12 +3,13 @@
 --     slice-behind      what stands behind a front
 --     buffers-take, buffers-front      the buffers within a front of a list
 --     slice-same, slice-other      a buffer that was put at a place, and those at other places
+--     buffer_short      a buffer has at most 4,096 samples where the period has
 use Rattle.std.proofs.Common.{◌≡◌, ◌≢◌, ℕ, zero, suc, ◌+◌, ◌-◌, ◌*◌, ◌<◌, ◌≤◌, Bool, true, false, List, [], ◌∷◌, ◌++◌, length, map, take, drop, ℤ, refl, sym, ◌∙◌, ap, ap₂, subst, arith, add-one}
 use Rattle.std.specs.Prelude.{slice_range, slice_index_or, nat_lt}
 use Rattle.std.proofs.Math.Nat.{mul-le-mul_right}
 use Rattle.std.proofs.lemmas.Bool.{leb-true, ltb-false}
 use Rattle.std.proofs.Math.Seq.{take-append_seam, drop-append_seam, drop-nil}
-use Rattle.std.proofs.lemmas.List.{get_or_past, length-take-le, length-drop, take-take, take-append-le, drop-append-le, drop-take, length-append, append_assoc}
+use Rattle.std.proofs.lemmas.List.{get_or_past, length-take, length-take-le, length-drop, take-take, take-append-le, drop-append-le, drop-take, length-append, append_assoc}
 use Rattle.session_model.specs.Samples.{below}
 use Rattle.session_laws.proofs.ActivationLemmas.{get_or-map_below, length-map_below}
 use Rattle.client_kinds.specs.Buffers.{buffers_of, with_buffer}
@@ -144,3 +145,12 @@ buffer_none place count period samples h = sym (get_or_past (buffers_of count pe
 
 pub buffer_fits : (place count period : ℕ) → place < count → place * period + period ≤ count * period
 buffer_fits = place_within
+
+pub buffer_short : (place count period : ℕ) (samples : List ℤ) → period ≤ 4096 → length (slice_index_or (buffers_of count period samples) place []) ≤ 4096
+buffer_short place count period samples few = go (nat_lt place count) refl
+  where
+    go : (b : Bool) → nat_lt place count ≡ b → length (slice_index_or (buffers_of count period samples) place []) ≤ 4096
+    go true h =
+        subst (λ (xs : List ℤ). length xs ≤ 4096) (buffer_there place count period samples (leb-true (suc place) count h))
+        (omega (arith, few, length-take (place * period + period - place * period) (drop (place * period) samples)))
+    go false h = subst (λ (xs : List ℤ). length xs ≤ 4096) (buffer_none place count period samples (ltb-false place count h)) (omega arith)

@@ -24,7 +24,9 @@ fn pad(padded: &mut [i32], part: &[i32])
 }
 
 /// Adds a part of any length: what it lacks is silence, and what lies behind the last frame is not heard.
-fn add_part(mixer: &mut Mixer, padded: &mut [i32], part: &[i32])
+///
+/// `padded` is room for as many samples as there are sums; what it holds behind the call is not told.
+pub fn add_part(mixer: &mut Mixer, padded: &mut [i32], part: &[i32])
     requires frames { length mixer.old.sums ≡ length padded.old }
     requires few { mixer.old.parts < 512 }
     ensures parts { (parts : List (List ℤ)) → mixer.old.sums ≡ sums_of (length padded.old) parts → mixer.new.sums ≡ sums_of (length padded.old) (parts ++ part.now ∷ []) }

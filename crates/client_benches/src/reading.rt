@@ -5,10 +5,11 @@ ghost use Rattle.client_kinds.specs.Buffers.{buffers_of};
 
 use crate::benches::ClientBench;
 use client_kinds::Guest;
+use jack_types::Kind;
 
 /// The buffer at a place among so many planar ones, nothing past the last one.
 #[tactic(auto, using(crate::proofs::SliceLemmas::buffer_there, crate::proofs::SliceLemmas::buffer_none, crate::proofs::SliceLemmas::buffer_fits))]
-fn buffer(samples: &[i32], count: u16, period: u32, place: usize) -> &[i32]
+pub(crate) fn buffer(samples: &[i32], count: u16, period: u32, place: usize) -> &[i32]
     requires { count * period ≤ length samples.now }
     ensures { result.now ≡ slice_index_or (buffers_of count period samples.now) place [] }
 {
@@ -21,13 +22,27 @@ fn buffer(samples: &[i32], count: u16, period: u32, place: usize) -> &[i32]
 }
 
 impl<G: Guest> ClientBench<G> {
-    ghost use Rattle.std.specs.Prelude.{◌≡◌, [], is_none, slice_index_or};
+    ghost use Rattle.std.specs.Prelude.{◌≡◌, [], is_none, is_some, slice_index_or};
 
     /// Whether it has no task.
     pub fn is_idle(&self) -> bool
         ensures { result ≡ is_none self.now.kept.turn }
     {
         self.turn.is_none()
+    }
+
+    /// The client's kind.
+    pub fn kind(&self) -> Kind
+        ensures { result ≡ self.now.kept.standing.kind }
+    {
+        self.bench.kind()
+    }
+
+    /// Whether a guest is lent to it.
+    pub fn has_guest(&self) -> bool
+        ensures { result ≡ is_some self.now.kept.standing.score }
+    {
+        self.bench.has_guest()
     }
 
     /// A meter's peak, the greatest magnitude of its inputs so far.

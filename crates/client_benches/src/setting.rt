@@ -5,6 +5,7 @@ ghost use Rattle.client_benches.specs.Wires.{kept_count};
 
 use crate::benches::{ClientBench, Turn};
 use crate::known::Room;
+use crate::reading::buffer;
 use crate::values::{Rooms, Route};
 use crate::wires::{Source, Wire};
 use client_kinds::{Guest, Shape};
@@ -37,7 +38,7 @@ fn empty_places(rooms: &mut [Option<Rooms>], spare: &mut Vec<Rooms>)
 }
 
 impl<G: Guest> ClientBench<G> {
-    ghost use Rattle.std.specs.Prelude.{◌≡◌, ◌+◌, ◌*◌, ◌<◌, ◌≤◌, ◌++◌, ◌∷◌, [], false, true, ℕ, IfNone, IfSome, IsSome, List, Some, None, length, option_map, slice_get, slice_set, vec_capacity};
+    ghost use Rattle.std.specs.Prelude.{◌≡◌, ◌+◌, ◌*◌, ◌<◌, ◌≤◌, ◌++◌, ◌∷◌, [], false, true, ℕ, IfNone, IfSome, IsSome, List, Some, None, length, option_map, slice_get, slice_index_or, slice_set, vec_capacity};
     ghost use Rattle.std.specs.Option.{ForSome};
     ghost use Rattle.jack_types.specs.declared.kinds.Score.{Score};
     ghost use Rattle.session_model.specs.Kinds.{first};
@@ -145,6 +146,17 @@ impl<G: Guest> ClientBench<G> {
         self.routes.push_reserved(Route { link, output });
     }
 
+    /// Takes the room of the outgoing link of this place. Nothing is in it.
+    pub fn link(&mut self, place: u32, room: Rooms)
+        requires { place < 64 }
+        ensures bench { self.new ≡ record self.old { rooms = slice_set self.old.rooms place (Some []) } }
+        ensures places { length self.new.rooms ≡ 64 }
+    {
+        let mut room = room;
+        room.clear();
+        self.rooms[place as usize] = Some(room);
+    }
+
     /// Sets the moment and the period of the next cycle.
     pub fn set_moment(&mut self, moment: &Moment, period: u32)
         requires { ForSome self.old.kept.turn (λ turn. MayPlay self.old.kept.standing (moved_to moment.now period turn)) }
@@ -163,6 +175,38 @@ impl<G: Guest> ClientBench<G> {
         requires samples { length samples.now ≤ 4096 }
         ensures { self.new ≡ record self.old { kept = record self.old.kept { wires = with_samples self.old.kept.wires place samples.now } } }
     {
+        self.wires[place].fill(samples);
+    }
+
+    /// Puts what an output of another bench gave when that was last played into the room of the wire of this
+    /// place among all wires; nothing where there was no such output.
+    pub fn fill_from(&mut self, place: usize, other: &ClientBench<G>, output: usize)
+        requires wire { IsKept (wire_at self.old.kept.wires place) }
+        requires place { place < length self.old.kept.wires }
+        ensures { self.new ≡ record self.old { kept = record self.old.kept { wires = with_samples self.old.kept.wires place (slice_index_or other.now.kept.audio output []) } } }
+    {
+        let samples = buffer(
+            other.output.as_slice(),
+            other.played.outputs,
+            other.played.period,
+            output,
+        );
+        self.wires[place].fill(samples);
+    }
+
+    /// Puts what its own output gave when it was last played into the room of the wire of this place among
+    /// all wires; nothing where there was no such output.
+    pub fn fill_own(&mut self, place: usize, output: usize)
+        requires wire { IsKept (wire_at self.old.kept.wires place) }
+        requires place { place < length self.old.kept.wires }
+        ensures { self.new ≡ record self.old { kept = record self.old.kept { wires = with_samples self.old.kept.wires place (slice_index_or self.old.kept.audio output []) } } }
+    {
+        let samples = buffer(
+            self.output.as_slice(),
+            self.played.outputs,
+            self.played.period,
+            output,
+        );
         self.wires[place].fill(samples);
     }
 }

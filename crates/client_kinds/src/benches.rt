@@ -112,7 +112,7 @@ fn room_for(alloc: Global, kind: Kind, period: u32) -> Result<Mixer, Memory>
 }
 
 impl<G: Guest> Bench<G> {
-    ghost use Rattle.std.specs.Prelude.{◌≡◌, ◌+◌, ◌*◌, ◌<◌, ◌≤◌, ◌^◌, [], false, IfNone, IfOk, IfSome, List, length};
+    ghost use Rattle.std.specs.Prelude.{◌≡◌, ◌+◌, ◌*◌, ◌<◌, ◌≤◌, ◌^◌, [], false, IfNone, IfOk, IfSome, List, is_some, length};
     ghost use Rattle.jack_types.specs.declared.kinds.Score.{Score};
     ghost use Rattle.session_model.specs.Kinds.{first, play};
     ghost use Rattle.client_kinds.specs.Buffers.{buffers_of, channels_of};
@@ -246,5 +246,19 @@ impl<G: Guest> Bench<G> {
         ensures { result ≡ self.now.memory.peak }
     {
         self.voice.peak()
+    }
+
+    /// The client's kind.
+    pub fn kind(&self) -> Kind
+        ensures { result ≡ self.now.kind }
+    {
+        self.voice.kind()
+    }
+
+    /// Whether a guest is lent to it.
+    pub fn has_guest(&self) -> bool
+        ensures { result ≡ is_some self.now.score }
+    {
+        self.seat.is_taken()
     }
 }

@@ -1,6 +1,6 @@
 //! Where a bench keeps its guest.
 
-ghost use Rattle.std.specs.Prelude.{◌≡◌, ◌*◌, ◌==◌, IfNone, IfSome, IsSome, false, length, option_map, replicate};
+ghost use Rattle.std.specs.Prelude.{◌≡◌, ◌*◌, ◌==◌, IfNone, IfSome, IsSome, false, is_some, length, option_map, replicate};
 ghost use Rattle.session_model.specs.Kinds.{first_numbers, guest_turn, input_at};
 ghost use Rattle.client_kinds.specs.Buffers.{buffers_of};
 ghost use Rattle.client_kinds.specs.Seats.{Playing, seat_output, seated_after, turn_of};
@@ -56,6 +56,13 @@ impl<G: Guest> Seat<G> {
     {
         self.is_dead = false;
         self.guest.take()
+    }
+
+    /// Whether there is a guest.
+    pub(crate) fn is_taken(&self) -> bool
+        ensures { result ≡ is_some self.now.playing }
+    {
+        self.guest.is_some()
     }
 
     /// Whether the guest answered other than 0.
