@@ -194,9 +194,11 @@ impl<S: Source> Capture<S> {
         self.frames = frames;
     }
 
-    /// What a channel, counted from 0, had in the last period; nothing where there is no such channel.
+    /// What a channel, counted from 0, had in the last period; nothing where there is no such channel. A period has at
+    /// most 4,096 frames.
     pub fn channel(&self, place: usize) -> &[i32]
-        ensures { result.now ≡ slice_index_or self.now.channels place [] }
+        ensures samples { result.now ≡ slice_index_or self.now.channels place [] }
+        ensures few { length result.now ≤ 4096 }
     {
         let frames = self.frames as usize;
         if place < usize::from(self.wave.format().channels) {
