@@ -1,0 +1,8 @@
+//! A crew of clients' benches with its seats: it plays the benches of a cycle, whatever list they lie in.
+#![tactic(auto)]
+
+mod ensembles;
+mod linking;
+mod playing;
+
+pub use ensembles::Ensemble;

@@ -1,0 +1,4 @@
+pub mod TotalLemmas
+pub mod WholeLemmas
+pub mod SequentialLemmas
+pub mod PlayedLemmas

@@ -1,0 +1,36 @@
+use Rattle.std.proofs.Common.{◌≡◌, ◌+◌, ◌<◌, ◌++◌, List, [], length, get_or, sym, ◌∙◌, ap, ap₂, subst, arith}
+use Rattle.std.specs.Prelude.{slice_set, slice_index_or}
+use Rattle.std.proofs.lemmas.List.{set-append_left}
+use Rattle.jack_types.specs.declared.kinds.Kind.TheVariants.{Pass}
+use Rattle.client_benches.specs.Seen.{Seen, new_bench}
+use Rattle.client_benches.specs.Wires.{IsKept, wire_at}
+use Rattle.bench_rack.specs.Insides.{bench_among}
+use Rattle.bench_rack.specs.Racks.{filled}
+use Rattle.bench_rack.proofs.WholeLemmas.{read-same}
+use Rattle.bench_rack.proofs.hearing.fill_before.Goals as goal
+
+pub fill_from-requires-clause-wire : goal.fill_from-requires-clause-wire
+fill_from-requires-clause-wire g c =
+    let from_is : c.args.from + 0 ≡ c.args.from = omega arith in
+    let slot : get_or c.split_at_mut-front.result.0.now c.args.place c.index-front-place.result ≡ bench_among c.args.benches.now c.args.place =
+    read-same c.split_at_mut-front.result.0.now c.args.place c.index-front-place.result (bench_among c.args.benches.now c.args.place) (omega (arith, c.split_at_mut-front.ensures.front_len, c.requires.place)) (c.split_at_mut-front.ensures.by_index.0 c.args.place (new_bench Pass 0) c.requires.place) in
+    subst (λ (seen : Seen). IsKept (wire_at seen.kept.wires c.args.wire)) (sym slot) c.requires.kept
+
+pub fill_from-requires-clause-place : goal.fill_from-requires-clause-place
+fill_from-requires-clause-place g c =
+    let from_is : c.args.from + 0 ≡ c.args.from = omega arith in
+    let slot : get_or c.split_at_mut-front.result.0.now c.args.place c.index-front-place.result ≡ bench_among c.args.benches.now c.args.place =
+    read-same c.split_at_mut-front.result.0.now c.args.place c.index-front-place.result (bench_among c.args.benches.now c.args.place) (omega (arith, c.split_at_mut-front.ensures.front_len, c.requires.place)) (c.split_at_mut-front.ensures.by_index.0 c.args.place (new_bench Pass 0) c.requires.place) in
+    subst (λ (seen : Seen). c.args.wire < length seen.kept.wires) (sym slot) c.requires.wire
+
+pub returns : goal.returns
+returns g c =
+    let from_is : c.args.from + 0 ≡ c.args.from = omega arith in
+    let slot : get_or c.split_at_mut-front.result.0.now c.args.place c.index-front-place.result ≡ bench_among c.args.benches.now c.args.place =
+    read-same c.split_at_mut-front.result.0.now c.args.place c.index-front-place.result (bench_among c.args.benches.now c.args.place) (omega (arith, c.split_at_mut-front.ensures.front_len, c.requires.place)) (c.split_at_mut-front.ensures.by_index.0 c.args.place (new_bench Pass 0) c.requires.place) in
+    let source : get_or c.split_at_mut-front.result.1.now 0 c.index-back-0.result ≡ bench_among c.args.benches.now c.args.from =
+    read-same c.split_at_mut-front.result.1.now 0 c.index-back-0.result (bench_among c.args.benches.now c.args.from) (omega (arith, c.split_at_mut-front.ensures.back_len, c.requires.from)) (c.split_at_mut-front.ensures.by_index.1 0 (new_bench Pass 0) ∙ ap (bench_among c.args.benches.now) from_is) in
+    ap (λ (seen : Seen). slice_set c.split_at_mut-front.result.0.now c.args.place seen ++ c.split_at_mut-front.result.1.now)
+    (c.fill_from.ensures ∙ ap₂ (λ (from here : Seen). filled c.args.wire (slice_index_or from.kept.audio c.args.output []) here) source slot)
+    ∙ sym (set-append_left c.split_at_mut-front.result.0.now c.split_at_mut-front.result.1.now c.args.place (filled c.args.wire (slice_index_or (bench_among c.args.benches.now c.args.from).kept.audio c.args.output []) (bench_among c.args.benches.now c.args.place)) (omega (arith, c.split_at_mut-front.ensures.front_len, c.requires.place)))
+    ∙ ap (λ (benches : List Seen). slice_set benches c.args.place (filled c.args.wire (slice_index_or (bench_among c.args.benches.now c.args.from).kept.audio c.args.output []) (bench_among c.args.benches.now c.args.place))) (sym c.split_at_mut-front.ensures.value)

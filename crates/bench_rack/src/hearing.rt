@@ -1,0 +1,145 @@
+//! What the inputs of the benches are mixed from.
+
+ghost use Rattle.std.specs.Prelude.{◌≡◌, ◌+◌, ◌<◌, [], length, slice_index_or, slice_set, vec_capacity};
+ghost use Rattle.client_benches.specs.Wires.{IsKept, wire_at};
+ghost use Rattle.bench_rack.specs.Insides.{bench_among};
+ghost use Rattle.bench_rack.specs.Racks.{filled};
+
+use crate::racks::Rack;
+use client_benches::{ClientBench, Room};
+use client_kinds::Guest;
+
+/// Takes one of the spare rooms, with nothing in it.
+fn take_room(spare: &mut Vec<Room>) -> Room
+    requires { 0 < length spare.old.items }
+    ensures room { result ≡ [] }
+    ensures spare { (length spare.new.items + 1 ≡ length spare.old.items) × (vec_capacity spare.new ≡ vec_capacity spare.old) }
+{
+    match spare.pop() {
+        Some(mut room) => {
+            room.fill(&[]);
+            room
+        }
+        None => unreachable!(),
+    }
+}
+
+/// Puts what an output of a bench gave into the room of one of its own wires.
+fn fill_own<G: Guest>(benches: &mut [ClientBench<G>], place: usize, wire: usize, output: usize)
+    requires place { place < length benches.old }
+    requires wire { wire < length (bench_among benches.old place).kept.wires }
+    requires kept { IsKept (wire_at (bench_among benches.old place).kept.wires wire) }
+    ensures { benches.new ≡ slice_set benches.old place (filled wire (slice_index_or (bench_among benches.old place).kept.audio output []) (bench_among benches.old place)) }
+{
+    benches[place].fill_own(wire, output);
+}
+
+/// Puts what an output of a bench gave into the room of a wire of a bench behind it.
+fn fill_behind<G: Guest>(
+    benches: &mut [ClientBench<G>],
+    place: usize,
+    wire: usize,
+    from: usize,
+    output: usize,
+)
+    requires place { place < length benches.old }
+    requires from { from < place }
+    requires wire { wire < length (bench_among benches.old place).kept.wires }
+    requires kept { IsKept (wire_at (bench_among benches.old place).kept.wires wire) }
+    ensures { benches.new ≡ slice_set benches.old place (filled wire (slice_index_or (bench_among benches.old from).kept.audio output []) (bench_among benches.old place)) }
+{
+    let (front, back) = benches.split_at_mut(place);
+    back[0].fill_from(wire, &front[from], output);
+}
+
+/// Puts what an output of a bench gave into the room of a wire of a bench before it.
+fn fill_before<G: Guest>(
+    benches: &mut [ClientBench<G>],
+    place: usize,
+    wire: usize,
+    from: usize,
+    output: usize,
+)
+    requires place { place < from }
+    requires from { from < length benches.old }
+    requires wire { wire < length (bench_among benches.old place).kept.wires }
+    requires kept { IsKept (wire_at (bench_among benches.old place).kept.wires wire) }
+    ensures { benches.new ≡ slice_set benches.old place (filled wire (slice_index_or (bench_among benches.old from).kept.audio output []) (bench_among benches.old place)) }
+{
+    let (front, back) = benches.split_at_mut(from);
+    front[place].fill_from(wire, &back[0], output);
+}
+
+/// Puts what an output of a bench gave into the room of a wire of a bench.
+fn fill_among<G: Guest>(
+    benches: &mut [ClientBench<G>],
+    place: usize,
+    wire: usize,
+    from: usize,
+    output: usize,
+)
+    requires place { place < length benches.old }
+    requires from { from < length benches.old }
+    requires wire { wire < length (bench_among benches.old place).kept.wires }
+    requires kept { IsKept (wire_at (bench_among benches.old place).kept.wires wire) }
+    ensures { benches.new ≡ slice_set benches.old place (filled wire (slice_index_or (bench_among benches.old from).kept.audio output []) (bench_among benches.old place)) }
+{
+    if from == place {
+        fill_own(benches, place, wire, output);
+    } else if from < place {
+        fill_behind(benches, place, wire, from, output);
+    } else {
+        fill_before(benches, place, wire, from, output);
+    }
+}
+
+impl<G: Guest> Rack<G> {
+    ghost use Rattle.std.specs.Prelude.{◌≡◌, ◌<◌, ◌≤◌, [], length, slice_index_or};
+    ghost use Rattle.client_benches.specs.Wires.{IsKept, wire_at};
+    ghost use Rattle.bench_rack.specs.Racks.{bench_at, filled, heard_carried, heard_kept, wire_total, with_bench};
+
+    /// Adds a connection into an input of a bench, from a source that does not play in the cycle. It brings
+    /// nothing yet.
+    pub fn hear_kept(&mut self, place: usize, input: u16)
+        requires place { place < length self.old.benches }
+        requires few { length (bench_at self.old place).kept.wires < 512 }
+        requires room { wire_total self.old < 512 }
+        ensures { self.new ≡ with_bench self.old place (heard_kept input (bench_at self.old place)) }
+    {
+        let room = take_room(&mut self.spare);
+        self.benches[place].hear_kept(input, room);
+    }
+
+    /// Adds a connection into an input of a bench: the connection of this place over the incoming link of
+    /// this place.
+    pub fn hear_carried(&mut self, place: usize, input: u16, link: u32, connection: u32)
+        requires place { place < length self.old.benches }
+        requires few { length (bench_at self.old place).kept.wires < 512 }
+        ensures { self.new ≡ with_bench self.old place (heard_carried input link connection (bench_at self.old place)) }
+    {
+        self.benches[place].hear_carried(input, link, connection);
+    }
+
+    /// Puts samples into the room of a bench's wire.
+    pub fn fill(&mut self, place: usize, wire: usize, samples: &[i32])
+        requires place { place < length self.old.benches }
+        requires wire { wire < length (bench_at self.old place).kept.wires }
+        requires kept { IsKept (wire_at (bench_at self.old place).kept.wires wire) }
+        requires samples { length samples.now ≤ 4096 }
+        ensures { self.new ≡ with_bench self.old place (filled wire samples.now (bench_at self.old place)) }
+    {
+        self.benches[place].fill(wire, samples);
+    }
+
+    /// Puts what an output of a bench gave when it was last played into the room of a bench's wire; nothing
+    /// where there was no such output.
+    pub fn fill_back(&mut self, place: usize, wire: usize, from: usize, output: usize)
+        requires place { place < length self.old.benches }
+        requires from { from < length self.old.benches }
+        requires wire { wire < length (bench_at self.old place).kept.wires }
+        requires kept { IsKept (wire_at (bench_at self.old place).kept.wires wire) }
+        ensures { self.new ≡ with_bench self.old place (filled wire (slice_index_or (bench_at self.old from).kept.audio output []) (bench_at self.old place)) }
+    {
+        fill_among(&mut self.benches, place, wire, from, output);
+    }
+}

@@ -1,0 +1,11 @@
+//! All client benches of a session, and the spare rooms of their connections and links.
+#![tactic(auto)]
+
+mod hearing;
+mod linking;
+mod playing;
+mod racks;
+mod reading;
+mod setting;
+
+pub use racks::Rack;
