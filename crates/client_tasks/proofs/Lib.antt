@@ -1,0 +1,4 @@
+mod FillLemmas
+mod ListLemmas
+pub mod PlanLemmas
+mod RackLemmas

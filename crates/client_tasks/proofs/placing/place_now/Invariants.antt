@@ -1,0 +1,10 @@
+use Rattle.std.proofs.Common.{◌≡◌, map, take}
+use Rattle.std.specs.Vec.{vec_capacity}
+use Rattle.client_tasks.specs.Fillings.{now_place}
+use Rattle.client_tasks.proofs.placing.place_now.Given as goal
+
+abbrev pub invariant-loop-joint : goal.invariant-loop-joint
+invariant-loop-joint l = record {
+  places : l.last.items ≡ map now_place (take l.joint-index l.joints);
+  room : vec_capacity l.last ≡ vec_capacity l.fn.last;
+}
