@@ -1,0 +1,12 @@
+pub mod PlaceLemmas
+pub mod TurnLemmas
+pub mod SwapLemmas
+pub mod MovesLemmas
+pub mod MemoryLemmas
+pub mod StandingLemmas
+pub mod GiveLemmas
+pub mod TakeLemmas
+pub mod EquipLemmas
+pub mod SeatLemmas
+pub mod NewLemmas
+pub mod PlayLemmas
