@@ -1,0 +1,3 @@
+pub mod OpeningLemmas
+pub mod BlockLemmas
+pub mod PutLemmas
