@@ -1,6 +1,7 @@
 -- The memories of clients.
 --     memory-owned, memory-past      the memory of a client that owns a bench, and of one of the past
 --     owned_or_not, found_past      who owns a bench; what is found of who owns none
+--     owned_or_not, found_past      who owns a bench, and what is found of who owns none
 --     memory-cases      who has a memory is one of these
 --     memory-kept, memory-fresh      what changes leave, and what they add
 use Rattle.std.proofs.Common.{◌≡◌, ◌≢◌, ℕ, zero, suc, ◌<◌, Bool, true, false, cond, eqb, ◌==◌, ◌⊎◌, inl, inr, List, [], ◌∷◌, ◌++◌, length, get_or, find, Option, Some, None, option_map, refl, sym, ◌∙◌, ap, subst, arith}
