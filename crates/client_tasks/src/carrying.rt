@@ -1,6 +1,6 @@
 //! What the clients' links carry.
 
-ghost use Rattle.std.specs.Prelude.{◌≡◌, ◌≤◌, ◌<◌, ℕ, All, None, [], length, replicate, true};
+ghost use Rattle.std.specs.Prelude.{◌≡◌, ◌≤◌, ◌<◌, ℕ, All, None, [], length, replicate};
 ghost use Rattle.jack_types.specs.declared.ports.Link.{Link as LinkValue};
 ghost use Rattle.client_wiring.specs.declared.joints.Carried.{Carried as CarriedValue};
 ghost use Rattle.bench_rack.specs.Racks.{bench_at, with_bench};

@@ -1,11 +1,10 @@
 //! What is known before the clients play.
 
-ghost use Rattle.std.specs.Prelude.{◌≡◌, ◌≤◌, ◌<◌, ℕ, All, List, [], ℤ, length};
+ghost use Rattle.std.specs.Prelude.{◌≡◌, ◌≤◌, ◌<◌, ℕ, List, ℤ, length};
 ghost use Rattle.jack_types.specs.declared.moments.Moment.{Moment as MomentValue};
 ghost use Rattle.jack_types.specs.declared.ports.Link.{Link as LinkValue};
 ghost use Rattle.client_benches.specs.Wires.{IsKept, wire_at};
 ghost use Rattle.client_wiring.specs.Wirings.{Wired};
-ghost use Rattle.client_wiring.specs.declared.joints.Joint.{Joint as JointValue};
 ghost use Rattle.bench_rack.specs.Racks.{bench_at, filled, with_bench};
 ghost use Rattle.client_tasks.specs.Fillings.{AreJoints, KeepsFrom, kept_at, known_at, known_by, with_wires};
 ghost use Rattle.client_tasks.specs.Steps.{HasRoomFor, with_samples_of};

@@ -4,8 +4,6 @@ ghost use Rattle.std.specs.Prelude.{◌≡◌, ◌≤◌, ◌<◌, ◌+◌, ◌^
 ghost use Rattle.std.specs.Option.{ForSome};
 ghost use Rattle.jack_types.specs.declared.ports.Link.{Link as LinkValue};
 ghost use Rattle.jack_types.specs.declared.moments.Moment.{Moment as MomentValue};
-ghost use Rattle.session_model.specs.Activation.{outgoing};
-ghost use Rattle.client_kinds.specs.Standings.{HasGuest};
 ghost use Rattle.client_benches.specs.Seen.{MayPlay, cleared, moved_to};
 ghost use Rattle.client_wiring.specs.Wirings.{Wired};
 ghost use Rattle.bench_rack.specs.Racks.{bench_at, begun, moved};
