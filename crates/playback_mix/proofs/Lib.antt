@@ -1,0 +1,2 @@
+mod SoundLemmas
+mod BlockLemmas

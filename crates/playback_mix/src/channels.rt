@@ -1,0 +1,100 @@
+//! The channels of the playback.
+
+ghost use Rattle.std.specs.Prelude.{◌≡◌, ◌*◌, ◌<◌, ◌≤◌, length, map, take};
+ghost use Rattle.session_model.specs.Samples.{below, interleaved};
+ghost use Rattle.playback_mix.specs.Mixes.{channel_mix};
+
+use crate::sounds::samples_of;
+use client_benches::{ClientBench, add_part};
+use client_kinds::Guest;
+use client_wiring::Heard;
+use device_periods::{Capture, lay_channel};
+use jack_host::Source;
+use port_mixer::Mixer;
+
+/// Mixes a channel from what its connections bring.
+fn mix_channel<G: Guest, S: Source>(
+    mixer: &mut Mixer,
+    padded: &mut [i32],
+    benches: &[ClientBench<G>],
+    heard: &[Heard],
+    capture: &Capture<S>,
+    channel: usize,
+    out: &mut [i32],
+)
+    requires few { length heard.now ≤ 512 }
+    requires room { length out.old ≤ mixer.old.room }
+    requires frames { (length padded.old ≡ length out.old) × (length out.old ≤ 4096) }
+    ensures mixed { out.new ≡ channel_mix (length out.old) benches.now capture.now.channels heard.now channel }
+    ensures room { mixer.new.room ≡ mixer.old.room }
+    ensures frames { length padded.new ≡ length padded.old }
+{
+    mixer.clear(out.len() as u32);
+    for one in heard {
+        if one.channel == channel {
+            add_part(mixer, padded, samples_of(one.sound, benches, capture));
+        }
+    }
+    mixer.settle(out);
+}
+
+/// Mixes all channels, one after the other, into a block of as many frames as a channel has.
+fn mix_channels<G: Guest, S: Source>(
+    mixer: &mut Mixer,
+    padded: &mut [i32],
+    out: &mut [i32],
+    benches: &[ClientBench<G>],
+    heard: &[Heard],
+    capture: &Capture<S>,
+    channels: usize,
+    block: &mut [i32],
+)
+    requires few { length heard.now ≤ 512 }
+    requires room { length out.old ≤ mixer.old.room }
+    requires frames { (length padded.old ≡ length out.old) × (length out.old ≤ 4096) }
+    requires block { length block.old ≡ length out.old * channels }
+    ensures block { block.new ≡ interleaved (length out.old) (map (channel_mix (length out.old) benches.now capture.now.channels heard.now) (below channels)) }
+    ensures room { mixer.new.room ≡ mixer.old.room }
+    ensures padded { length padded.new ≡ length padded.old }
+    ensures frames { length out.new ≡ length out.old }
+{
+    let frames = out.len();
+    for channel in 0..channels {
+        mix_channel(mixer, padded, benches, heard, capture, channel, out);
+        lay_channel(block, frames, channels, channel, out);
+    }
+}
+
+/// Mixes all channels into the front of more room.
+pub(crate) fn mix_front<G: Guest, S: Source>(
+    mixer: &mut Mixer,
+    padded: &mut [i32],
+    out: &mut [i32],
+    benches: &[ClientBench<G>],
+    heard: &[Heard],
+    capture: &Capture<S>,
+    channels: usize,
+    frames: usize,
+    block: &mut [i32],
+)
+    requires few { length heard.now ≤ 512 }
+    requires room { (frames ≤ mixer.old.room) × (frames ≤ 4096) }
+    requires frames { (frames ≤ length padded.old) × (frames ≤ length out.old) }
+    requires block { frames * channels ≤ length block.old }
+    ensures block { take (frames * channels) block.new ≡ interleaved frames (map (channel_mix frames benches.now capture.now.channels heard.now) (below channels)) }
+    ensures room { mixer.new.room ≡ mixer.old.room }
+    ensures padded { length padded.new ≡ length padded.old }
+    ensures frames { length out.new ≡ length out.old }
+    ensures length { length block.new ≡ length block.old }
+{
+    mix_channels(
+        mixer,
+        &mut padded[..frames],
+        &mut out[..frames],
+        benches,
+        heard,
+        capture,
+        channels,
+        &mut block[..frames * channels],
+    );
+}
