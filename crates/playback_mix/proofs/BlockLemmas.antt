@@ -1,7 +1,7 @@
 -- Channels laid into a block, from the first on.
 --     laid-next      one channel more
 --     laid-all      a block of all channels
-use Rattle.std.proofs.Common.{◌≡◌, ℕ, ◌+◌, ◌*◌, ◌<◌, ◌≤◌, List, [], ◌∷◌, ◌++◌, length, map, ℤ, sym, ◌∙◌, ap, subst, arith, add-one}
+use Rattle.std.proofs.Common.{◌≡◌, ℕ, ◌+◌, ◌*◌, ◌≤◌, List, [], ◌∷◌, ◌++◌, length, map, ℤ, sym, ◌∙◌, ap, subst, arith, add-one}
 use Rattle.session_model.specs.Samples.{below, interleaved, sample}
 use Rattle.session_laws.proofs.ActivationLemmas.{get_or-map_below, length-map_below}
 use Rattle.client_benches.proofs.SliceLemmas.{map_more}

@@ -2,7 +2,7 @@
 --     sums-heard      a connection into this channel is a part more
 --     sums-unheard      any other is none
 --     sums-whole      the sums of all connections
-use Rattle.std.proofs.Common.{◌≡◌, ◌≢◌, ℕ, ◌+◌, ◌<◌, ◌≤◌, ◌==◌, Bool, true, false, List, [], ◌∷◌, ◌++◌, length, map, filter, take, get_or, ℤ, sym, ◌∙◌, ap, eq-eqb, ne_eqb}
+use Rattle.std.proofs.Common.{◌≡◌, ◌≢◌, ℕ, ◌+◌, ◌<◌, ◌≤◌, ◌==◌, true, false, List, [], ◌∷◌, ◌++◌, length, map, filter, take, get_or, ℤ, sym, ◌∙◌, ap, eq-eqb, ne_eqb}
 use Rattle.std.proofs.lemmas.List.{take_all}
 use Rattle.port_mixer.specs.Sums.{sums_of}
 use Rattle.client_benches.proofs.PartLemmas.{filter-more, filter-same, take-next}

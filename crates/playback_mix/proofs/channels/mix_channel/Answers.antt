@@ -1,4 +1,4 @@
-use Rattle.std.proofs.Common.{◌≡◌, ◌∙◌, List, ℤ, ap, sym, arith, length, map, take}
+use Rattle.std.proofs.Common.{◌∙◌, List, ℤ, ap, sym, arith, length, map, take}
 use Rattle.port_mixer.specs.Sums.{Mix}
 use Rattle.client_wiring.specs.declared.joints.Sound.{Sound}
 use Rattle.client_wiring.specs.declared.joints.Sound.TheVariants.{Played}

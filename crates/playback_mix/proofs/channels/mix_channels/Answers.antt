@@ -1,4 +1,4 @@
-use Rattle.std.proofs.Common.{◌≡◌, ℕ, ◌∙◌, List, ℤ, length, ap, arith}
+use Rattle.std.proofs.Common.{ℕ, ◌∙◌, List, ℤ, length, ap, arith}
 use Rattle.playback_mix.specs.Mixes.{channel_mix}
 use Rattle.playback_mix.proofs.BlockLemmas.{laid-next, laid-all}
 use Rattle.playback_mix.proofs.channels.mix_channels.Goals as goal

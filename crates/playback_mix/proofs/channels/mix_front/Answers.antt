@@ -1,4 +1,4 @@
-use Rattle.std.proofs.Common.{ℕ, ◌*◌, ◌∙◌, length, map, ap, arith}
+use Rattle.std.proofs.Common.{ℕ, ◌*◌, ◌∙◌, map, ap, arith}
 use Rattle.std.proofs.lemmas.List.{length-take-le}
 use Rattle.session_model.specs.Samples.{below, interleaved}
 use Rattle.device_periods.proofs.PeriodLemmas.{take_seam}
