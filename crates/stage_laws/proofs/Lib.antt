@@ -1,0 +1,5 @@
+pub mod SourceLemmas
+pub mod KeepLemmas
+pub mod PlayLemmas
+pub mod BoundLemmas
+pub mod WholeLemmas

@@ -1,0 +1,121 @@
+-- The stage from one cycle to the next.
+--     seating-played, sounded-played, unfed-played      what a performance leaves
+--     plan-played      what it played
+use Rattle.std.proofs.Common.{◌≡◌, ℕ, ◌<◌, ◌≤◌, ◌⊎◌, inl, inr, List, [], length, map, Option, Some, None, refl, sym, ◌∙◌, ap, subst, arith}
+use Rattle.std.specs.Prelude.{ℤ, slice_index_or}
+use Rattle.std.proofs.lemmas.Bool.{cases_lt}
+use Rattle.std.proofs.lemmas.List.{get_or-map, get_or_default}
+use Rattle.jack_types.specs.declared.moments.Moment.{Moment}
+use Rattle.session_model.specs.Activation.{given_to}
+use Rattle.session_model.specs.Benches.{Signal}
+use Rattle.session_model.specs.Courses.{Course}
+use Rattle.session_model.specs.Cycles.{Settled, audio_outputs, midi_inputs, midi_outputs}
+use Rattle.session_model.specs.Samples.{silence}
+use Rattle.session_model.specs.State.{system_name}
+use Rattle.port_registry.specs.Registered.{open_clients}
+use Rattle.cycle_plan.specs.Plans.{Planned, state_of_plan}
+use Rattle.client_kinds.specs.Standings.{Standing}
+use Rattle.client_benches.specs.Seen.{Remembered as Kept, Seen, kept_after, kept_gives}
+use Rattle.client_wiring.specs.Keeping.{GoesOn, SetsFeedback}
+use Rattle.client_wiring.specs.Wirings.{Wired, wired_of}
+use Rattle.client_wiring.specs.declared.joints.Origin.TheVariants.{Captured}
+use Rattle.bench_rack.specs.Racks.{Racked, bench_at}
+use Rattle.client_tasks.specs.Fillings.{known_at, last_place}
+use Rattle.client_tasks.specs.Tasks.{joint_at, turn_of, widths_at}
+use Rattle.client_seats.specs.Owners.{owner_at}
+use Rattle.client_seats.specs.Seatings.{HasNoPast, IsSameBench, IsSeating, standing_at}
+use Rattle.client_seats.proofs.PlayLemmas.{IsSameBench-played, IsSeating-played}
+use Rattle.ready_laws.specs.Sources.{HasSources}
+use Rattle.task_laws.proofs.PlayingLemmas.{empty-kept, idle-kept}
+use Rattle.stage_laws.specs.Stages.{IsStaffed, Staged}
+use Rattle.stage_laws.specs.Casts.{ArePlaces, Casts, Fills, Performs}
+use Rattle.stage_laws.specs.Plays.{IsSettledOn, PlaysPlan}
+use Rattle.stage_laws.proofs.BoundLemmas.{captured-within, given-within}
+use Rattle.stage_laws.proofs.KeepLemmas.{audio-played}
+use Rattle.stage_laws.proofs.PlayLemmas.{plays}
+use Rattle.stage_laws.proofs.SourceLemmas.{source}
+
+same-bench : (standing : Standing) → IsSameBench standing standing
+same-bench standing = record { kind = refl; period = refl; score = refl; bare = λ b. b }
+
+module _ (old : Staged) (last plan : Planned) (moment : Moment) (period : ℕ) (channels : List (List ℤ)) (cast : Staged) (casts : Casts old last plan moment period cast)
+    (places : List (Option ℕ)) (filled : Racked) (fills : Fills cast plan moment period channels places filled) (crew : ℕ) (played : Racked) (performs : Performs filled plan crew played) where
+  abbrev given_at : ℕ → List (List Signal)
+  given_at p = given_to kept_after kept_gives plan.links (λ n. (bench_at filled n).kept) p
+
+  -- each bench was played, or stays
+  by-place : (p : ℕ) → ((bench_at played p).kept ≡ kept_after (bench_at filled p).kept (given_at p)) ⊎ ((bench_at played p).kept ≡ (bench_at filled p).kept)
+  by-place p = go (cases_lt p crew)
+    where
+      go : (p < crew) ⊎ (crew ≤ p) → ((bench_at played p).kept ≡ kept_after (bench_at filled p).kept (given_at p)) ⊎ ((bench_at played p).kept ≡ (bench_at filled p).kept)
+      go (inl h) = inl (performs.each p h)
+      go (inr h) = inr (ap (λ (b : Seen). b.kept) (performs.others p h))
+
+  stays-idle : (p : ℕ) → length plan.nodes ≤ p → (bench_at played p).kept ≡ (bench_at filled p).kept
+  stays-idle p h = go (by-place p)
+    where
+      go : ((bench_at played p).kept ≡ kept_after (bench_at filled p).kept (given_at p)) ⊎ ((bench_at played p).kept ≡ (bench_at filled p).kept) → (bench_at played p).kept ≡ (bench_at filled p).kept
+      go (inl e) = e ∙ idle-kept (bench_at filled p).kept (given_at p) (fills.idle p h)
+      go (inr e) = e
+
+  same-played : (p : ℕ) → IsSameBench (standing_at cast.racked p) (standing_at played p)
+  same-played p = subst (λ s. IsSameBench s (standing_at played p)) (fills.standings p) (go (by-place p))
+    where
+      go : ((bench_at played p).kept ≡ kept_after (bench_at filled p).kept (given_at p)) ⊎ ((bench_at played p).kept ≡ (bench_at filled p).kept) → IsSameBench (standing_at filled p) (standing_at played p)
+      go (inl e) = subst (λ (k : Kept). IsSameBench (standing_at filled p) k.standing) (sym e) (IsSameBench-played (bench_at filled p).kept (given_at p))
+      go (inr e) = subst (λ (k : Kept). IsSameBench (standing_at filled p) k.standing) (sym e) (same-bench (standing_at filled p))
+
+  lengths : length played.benches ≡ length cast.racked.benches
+  lengths = performs.lengths ∙ fills.lengths
+
+  pub seating-played : IsSeating played cast.owned
+  seating-played = IsSeating-played cast.racked played cast.owned casts.seating lengths same-played free
+    where
+      free : (p : ℕ) → owner_at cast.owned p ≡ None → standing_at played p ≡ standing_at cast.racked p
+      free p none = go (cases_lt p (length plan.nodes))
+        where
+          none_some : {X : Type 0} {x : X} → None ≡ Some x → ⊥
+          none_some k = cc
+
+          go : (p < length plan.nodes) ⊎ (length plan.nodes ≤ p) → standing_at played p ≡ standing_at cast.racked p
+          go (inl h) = absurd (none_some (sym none ∙ (casts.has p h).owner))
+          go (inr h) = ap (λ (k : Kept). k.standing) (stays-idle p h) ∙ fills.standings p
+
+  pub sounded-played : (n : ℕ) → n < length plan.nodes → length (bench_at played n).kept.audio ≡ (widths_at (wired_of plan) n).outputs
+  sounded-played n h =
+      ap (λ (k : Kept). length k.audio) (performs.each n (omega (arith, h, performs.few)))
+      ∙ audio-played (bench_at filled n).kept (given_at n) (turn_of (wired_of plan) plan.links moment period n) (fills.set n h).turn
+
+  pub unfed-played : (p : ℕ) → (standing_at played p).memory.fed ≡ []
+  unfed-played p = go (by-place p)
+    where
+      before : (standing_at filled p).memory.fed ≡ []
+      before = ap (λ (s : Standing). s.memory.fed) (fills.standings p) ∙ casts.unfed p
+
+      go : ((bench_at played p).kept ≡ kept_after (bench_at filled p).kept (given_at p)) ⊎ ((bench_at played p).kept ≡ (bench_at filled p).kept) → (standing_at played p).memory.fed ≡ []
+      go (inl e) = ap (λ (k : Kept). k.standing.memory.fed) e ∙ empty-kept (bench_at filled p).kept (given_at p) before
+      go (inr e) = ap (λ (k : Kept). k.standing.memory.fed) e ∙ before
+
+  -- ---- what was played
+
+  module _ (course : Course) (at : Settled) (seating : IsSeating old.racked old.owned) (wired_last : old.wiring ≡ wired_of last) (staffed : IsStaffed old last) (goes : GoesOn last plan) (feedback : SetsFeedback last plan)
+      (settled : IsSettledOn old last plan moment period channels at) (scores_are : course.scores ≡ old.owned.scores)
+      (no_inputs : (name : List ℕ) → midi_inputs at.graph name ≡ []) (no_outputs : (name : List ℕ) → midi_outputs at.graph name ≡ [])
+      (as_many : length channels ≡ length (audio_outputs (state_of_plan plan) system_name)) (are_places : ArePlaces old cast period places) (no_past : HasNoPast (open_clients plan.nodes) old.owned) where
+    place-of : (i : ℕ) → i < length (wired_of plan).joints → old.period ≡ period → slice_index_or places i None ≡ last_place (wired_of last).given (joint_at (wired_of plan).joints i)
+    place-of i h same =
+        ap (λ xs. slice_index_or xs i None) (are_places.same same ∙ casts.last_is ∙ ap (map (last_place (wired_of last).given)) (ap (λ (w : Wired). w.joints) casts.wiring))
+        ∙ get_or-map (last_place (wired_of last).given) (wired_of plan).joints i (record { node = 0; input = 0; origin = Captured 0 }) None h
+
+    sources-are : (n : ℕ) → n < length plan.nodes → HasSources at (open_clients plan.nodes) (wired_of plan).joints n (known_at cast.racked channels (silence period) places (wired_of plan).joints)
+    sources-are n h i within of_node =
+        source old last plan moment period channels at feedback staffed wired_last settled cast casts
+        (λ joint channel m o. subst (λ k. channel < k) (sym as_many) (captured-within plan goes.planned joint channel m o))
+        (given-within last goes.planned_last)
+        (joint_at (wired_of plan).joints i) (joint_at (wired_of plan).joints i).origin (i, within, get_or_default (wired_of plan).joints i (joint_at (wired_of plan).joints i) (record { node = 0; input = 0; origin = Captured 0 }) within) refl
+        (slice_index_or places i None) (λ same. place-of i within same, λ other. are_places.other other i)
+
+    pub plan-played : (new : Staged) → new.racked ≡ played → new.owned ≡ cast.owned → PlaysPlan course old plan at new
+    plan-played new rack owned =
+        plays course old last plan moment period channels at seating goes.planned settled cast casts scores_are no_inputs no_outputs filled played
+        (known_at cast.racked channels (silence period) places (wired_of plan).joints) sources-are fills.set fills.standings fills.idle crew performs.few performs.each performs.others no_past seating-played lengths new rack owned

@@ -1,0 +1,66 @@
+-- How a stage goes on to a cycle of a plan.
+--     Casts old last plan moment period cast      each client of the plan has its bench, as it was, and is set for the cycle
+--     ArePlaces old cast period places      at which places kept outputs stood in the cycle before, if that had the period
+--     Fills cast plan moment period channels places filled      what is known before the clients play is in their wires
+--     Performs filled plan crew played      the crew played them
+use Rattle.std.specs.Prelude.{◌≡◌, ◌≢◌, ℕ, ◌<◌, ◌≤◌, List, [], length, map, slice_index_or, ℤ, Option, None, Some}
+use Rattle.jack_types.specs.declared.moments.Moment.{Moment}
+use Rattle.session_model.specs.Activation.{sequential}
+use Rattle.session_model.specs.Benches.{node_at}
+use Rattle.session_model.specs.Kinds.{first}
+use Rattle.session_model.specs.Samples.{silence}
+use Rattle.port_registry.specs.Registered.{open_clients}
+use Rattle.cycle_plan.specs.Plans.{Planned}
+use Rattle.client_benches.specs.Seen.{cleared, kept_after, kept_gives}
+use Rattle.client_wiring.specs.Wirings.{wired_of}
+use Rattle.bench_rack.specs.Racks.{Racked, bench_at}
+use Rattle.client_tasks.specs.Fillings.{AreJoints, known_at, last_place}
+use Rattle.client_tasks.specs.Tasks.{AreSet, HasRooms}
+use Rattle.client_seats.specs.Owners.{owner_at}
+use Rattle.client_seats.specs.Seatings.{HasBench, HavePeriod, IsNobodys, IsSeating, kind_at, memory_of, standing_at}
+use Rattle.task_laws.specs.Calls.{IsOldKind}
+use Rattle.stage_laws.specs.Stages.{Staged}
+
+pub record Casts (old : Staged) (last plan : Planned) (moment : Moment) (period : ℕ) (new : Staged) : Type 0 where
+  pub wiring : new.wiring ≡ wired_of plan
+  pub seating : IsSeating new.racked new.owned
+  pub periods : HavePeriod new.racked new.room
+  pub plain : (p : ℕ) → IsOldKind (kind_at new.racked p)
+  pub unfed : (p : ℕ) → (standing_at new.racked p).memory.fed ≡ []
+  pub idle : (p : ℕ) → length new.nodes ≤ p → cleared (bench_at new.racked p) ≡ bench_at new.racked p
+  pub nodes : new.nodes ≡ plan.nodes
+  pub has : (n : ℕ) → n < length plan.nodes → HasBench (open_clients plan.nodes) new.racked new.owned n n
+  pub sources : ℕ → List ℤ
+  pub set : AreSet new.wiring plan.links moment period sources (length plan.nodes) new.racked
+  pub rooms : HasRooms plan.links new.racked
+  pub joints : AreJoints (length plan.nodes) new.wiring.joints
+  pub standings : (n p : ℕ) → n < length plan.nodes → owner_at old.owned p ≡ Some (node_at (open_clients plan.nodes) n).birth → standing_at new.racked n ≡ standing_at old.racked p
+  pub audio : (n p : ℕ) → n < length plan.nodes → owner_at old.owned p ≡ Some (node_at (open_clients plan.nodes) n).birth → (bench_at new.racked n).kept.audio ≡ (bench_at old.racked p).kept.audio
+  pub fresh : (n : ℕ) → n < length plan.nodes → IsNobodys old.owned (node_at (open_clients plan.nodes) n).birth → (standing_at new.racked n).memory ≡ first old.owned.scores (node_at (open_clients plan.nodes) n).kind
+  pub others : (birth : ℕ) → ((n : ℕ) → n < length plan.nodes → (node_at (open_clients plan.nodes) n).birth ≡ birth → ⊥) → memory_of new.racked new.owned birth ≡ memory_of old.racked old.owned birth
+  pub scores : new.owned.scores ≡ old.owned.scores
+  pub last_is : new.last ≡ map (last_place (wired_of last).given) new.wiring.joints
+  pub crew_stays : new.crew ≡ old.crew
+  pub room_stays : new.room ≡ old.room
+  pub period_stays : new.period ≡ old.period
+  pub lengths : length new.racked.benches ≡ length old.racked.benches
+  pub links_stay : new.racked.links ≡ old.racked.links
+
+-- those of the last plan's outputs, or none where the period is another
+pub record ArePlaces (old cast : Staged) (period : ℕ) (places : List (Option ℕ)) : Type 0 where
+  pub same : old.period ≡ period → places ≡ cast.last
+  pub other : old.period ≢ period → (i : ℕ) → slice_index_or places i None ≡ None
+
+-- captured channels, kept outputs at these places, or silence; past the last node all is idle
+pub record Fills (cast : Staged) (plan : Planned) (moment : Moment) (period : ℕ) (channels : List (List ℤ)) (places : List (Option ℕ)) (filled : Racked) : Type 0 where
+  pub set : AreSet (wired_of plan) plan.links moment period (known_at cast.racked channels (silence period) places (wired_of plan).joints) (length plan.nodes) filled
+  pub standings : (p : ℕ) → standing_at filled p ≡ standing_at cast.racked p
+  pub idle : (p : ℕ) → length plan.nodes ≤ p → (bench_at filled p).kept.turn ≡ None
+  pub lengths : length filled.benches ≡ length cast.racked.benches
+
+-- a crew of so many nodes plays the first benches, and leaves all others
+pub record Performs (filled : Racked) (plan : Planned) (crew : ℕ) (played : Racked) : Type 0 where
+  pub few : length plan.nodes ≤ crew
+  pub each : (n : ℕ) → n < crew → (bench_at played n).kept ≡ sequential kept_after kept_gives plan.links (λ n. (bench_at filled n).kept) n
+  pub others : (n : ℕ) → crew ≤ n → bench_at played n ≡ bench_at filled n
+  pub lengths : length played.benches ≡ length filled.benches
