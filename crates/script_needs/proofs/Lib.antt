@@ -1,0 +1,5 @@
+mod OpenLemmas
+mod LineLemmas
+mod PeriodLemmas
+mod CycleLemmas
+mod SampleLemmas
