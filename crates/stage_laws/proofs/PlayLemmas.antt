@@ -100,7 +100,7 @@ module _ (course : Course) (old : Staged) (last plan : Planned) (moment : Moment
   kind_is n h = ap (λ (s : Standing). s.kind) (same_standing n) ∙ (casts.has n h).kind
 
   no_player : (n list : ℕ) → n < length plan.nodes → (node_at nodes n).kind ≢ Midiplay list
-  no_player n list h e = subst (λ k. IsOldKind k) ((casts.has n h).kind ∙ e) (casts.plain n)
+  no_player n list h e = subst (λ k. IsOldKind k) e (casts.plain n h)
 
   task_is : (n : ℕ) → n < length plan.nodes → (before n).task ≡ Some (task_of course at nodes plan.links n)
   task_is n h =

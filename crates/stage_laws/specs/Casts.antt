@@ -17,7 +17,7 @@ use Rattle.bench_rack.specs.Racks.{Racked, bench_at}
 use Rattle.client_tasks.specs.Fillings.{AreJoints, known_at, last_place}
 use Rattle.client_tasks.specs.Tasks.{AreSet, HasRooms}
 use Rattle.client_seats.specs.Owners.{owner_at}
-use Rattle.client_seats.specs.Seatings.{HasBench, HavePeriod, IsNobodys, IsSeating, kind_at, memory_of, standing_at}
+use Rattle.client_seats.specs.Seatings.{HasBench, HavePeriod, IsNobodys, IsSeating, memory_of, standing_at}
 use Rattle.task_laws.specs.Calls.{IsOldKind}
 use Rattle.stage_laws.specs.Stages.{Staged}
 
@@ -25,7 +25,7 @@ pub record Casts (old : Staged) (last plan : Planned) (moment : Moment) (period 
   pub wiring : new.wiring ≡ wired_of plan
   pub seating : IsSeating new.racked new.owned
   pub periods : HavePeriod new.racked new.room
-  pub plain : (p : ℕ) → IsOldKind (kind_at new.racked p)
+  pub plain : (n : ℕ) → n < length plan.nodes → IsOldKind (node_at (open_clients plan.nodes) n).kind
   pub unfed : (p : ℕ) → (standing_at new.racked p).memory.fed ≡ []
   pub idle : (p : ℕ) → length new.nodes ≤ p → cleared (bench_at new.racked p) ≡ bench_at new.racked p
   pub nodes : new.nodes ≡ plan.nodes
