@@ -1,0 +1,9 @@
+pub mod PlaceLemmas
+pub mod MeetingLemmas
+pub mod CourseLemmas
+pub mod ListsLemmas
+pub mod LossLemmas
+pub mod ReportLemmas
+pub mod WholeLemmas
+pub mod SerialLemmas
+pub mod CountLemmas

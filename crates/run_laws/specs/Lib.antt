@@ -1,0 +1,4 @@
+pub mod Sessions
+pub mod Runs
+pub mod SerialRuns
+pub mod Told

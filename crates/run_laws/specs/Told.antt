@@ -1,0 +1,112 @@
+-- What a session's calls answer for.
+--     IsNew      behind `new`
+--     HasLists, Runs      behind `run`
+--     Ends      behind `end`
+--     report_in session      what the report prints, from the desk's and the driver's lists
+--     StandsBehindFault session given      what the stores hold behind a fault
+use Rattle.std.specs.Prelude.{◌≡◌, ℕ, ◌<◌, List, [], ◌∷◌, length, map, flat_map, slice_get, slice_index_or, All, IfSome, Option, Some, None, IsNone}
+use Rattle.jack_types.specs.declared.commands.Change.{Change}
+use Rattle.jack_types.specs.declared.commands.Command.{Command}
+use Rattle.jack_types.specs.declared.commands.Command.TheVariants.{Open}
+use Rattle.jack_types.specs.declared.kinds.Kind.TheVariants.{Meter, Midilog}
+use Rattle.jack_types.specs.declared.moments.Moment.{Moment}
+use Rattle.jack_types.specs.declared.moments.TransportState.TheVariants.{Stopped}
+use Rattle.session_model.specs.Disks.{Played}
+use Rattle.session_model.specs.Explanations.{Given, playback_text, record_text}
+use Rattle.session_model.specs.Histories.{Cycles, Legal, accepted}
+use Rattle.session_model.specs.Playback.{playback_format, played_back}
+use Rattle.session_model.specs.Recorders.{Lost, recorded, recorder_format}
+use Rattle.session_model.specs.Reports.{PrintedCycle, PrintedDisk, PrintedEvent, PrintedMeter, PrintedRecorder, Report, printed_call, report_lines}
+use Rattle.session_model.specs.Samples.{below}
+use Rattle.session_model.specs.Scripts.{phases}
+use Rattle.session_model.specs.Serial.{serial}
+use Rattle.graph_word.specs.Publications.{IsOpening}
+use Rattle.record_ring.specs.Rings.{Sending, Getting}
+use Rattle.wave_write.specs.Tapes.{HasFront}
+use Rattle.control_desk.specs.Desks.{IsNewDesk, base_of}
+use Rattle.driver_laws.specs.Drivers.{Driver, log_in, overruns_on, peak_in, run, underruns_on}
+use Rattle.driver_laws.specs.Openings.{IsNew as IsNewDriver}
+use Rattle.run_laws.specs.Sessions.{Session, Attaching, IsGiven, IsOne, KeepsGiven, course_in, printed_of}
+use Rattle.run_laws.specs.Runs.{AtPhase, RanPhases}
+
+-- behind `new`: nothing was published, run, put, got or attached
+pub record IsNew (session : Session) : Type 0 where
+  pub one : IsOne session
+  pub opening : IsOpening (base_of session.script) session.desk.publishing session.driver.reading
+  pub new_desk : IsNewDesk session.script session.desk.publishing session.desk
+  pub new_driver : IsNewDriver session.script session.driver.scores session.driver
+  pub no_gets : All (λ (got : Getting). got.got ≡ []) session.getting
+  pub no_puts : All (λ (ring : Sending). ring.put ≡ []) session.putting
+  pub counts : session.counts ≡ map (λ _. 0) session.script.header.recorders
+  pub no_tapes : session.tapes ≡ []
+  pub none : session.attached ≡ 0
+  pub standing : session.standing ≡ Attaching
+
+-- the history is legal and the numbers are within their bounds
+pub record HasLists (session : Session) : Type 0 where
+  pub legal : Legal session.script session.desk.history
+  pub cycles : Cycles session.script session.desk.history session.driver.numbers
+
+-- behind `run` with Ok, of the session before it: the lists whatever the sources tell, and where they tell what is given, also the losses
+pub record Runs (before after : Session) : Type 0 where
+  pub script : after.script ≡ before.script
+  pub lists : HasLists after
+  pub at_end : (given : Given) → IsGiven before given → AtPhase after given (length (phases before.script))
+  pub lost : (given : Given) → IsGiven before given → (recorder : ℕ) → recorder < length before.script.header.recorders → Lost (course_in given after) (overruns_on after.driver.overruns recorder) recorder
+  pub disks : (given : Given) → IsGiven before given → (disk : ℕ) → disk < length before.script.header.disks → Played (course_in given after) disk
+  pub serial_history : IsNone before.script.header.threads → after.desk.history ≡ (serial before.script).history
+  pub serial_numbers : IsNone before.script.header.threads → after.driver.numbers ≡ (serial before.script).numbers
+  pub serial_overruns : IsNone before.script.header.threads → (given : Given) → IsGiven before given → (printed_of after).overruns ≡ (serial before.script).overruns
+
+-- behind `end` with Ok, of the session that was run: the lists stay, and the finished files that are told are those of the one computation over them
+pub record Ends (given : Given) (before after : Session) : Type 0 where
+  pub printed : printed_of after ≡ printed_of before
+  pub ran : RanPhases after (length (phases before.script))
+  pub given_kept : KeepsGiven given after
+  pub counted : after.counts ≡ map (λ (ring : Sending). length ring.put) after.driver.rings
+  pub playback : IfSome after.playback_file (λ bytes. bytes ≡ playback_text given (printed_of before))
+  pub records : (recorder : ℕ) (file : Option (List ℕ)) → slice_get after.record_files recorder ≡ Some file → IfSome file (λ bytes. bytes ≡ record_text given (printed_of before) recorder)
+
+-- an accepted `open` of a meter or of a log prints what the driver remembers of its client
+abbrev pub meters_from : Driver → ℕ → Command → List PrintedMeter
+meters_from driver birth (Open client Meter) = record { client = client; peak = peak_in driver birth } ∷ []
+meters_from driver birth _ = []
+
+abbrev pub events_from : Driver → ℕ → Command → List PrintedEvent
+events_from driver birth (Open client Midilog) = map (λ logged. record { client = client; logged = logged }) (log_in driver birth)
+events_from driver birth _ = []
+
+abbrev pub no_moment : Moment
+no_moment = record { cycle = 0; state = Stopped; frame = 0; rate = 0; bbt = None }
+
+-- the cycle at a place, counted from 0
+abbrev pub cycle_in : Driver → ℕ → PrintedCycle
+cycle_in driver i = record { number = slice_index_or driver.numbers i 0; moment = slice_index_or driver.moments i no_moment }
+
+-- the blocks written for a recorder, and its overruns
+abbrev pub recorder_in : Session → ℕ → PrintedRecorder
+recorder_in session recorder = record { recorder = recorder; blocks = slice_index_or session.counts recorder 0; overruns = overruns_on session.driver.overruns recorder }
+
+-- the blocks played of a disk, and its underruns
+abbrev pub disk_in : Session → ℕ → PrintedDisk
+disk_in session disk = record { disk = disk; blocks = slice_index_or session.driver.played disk 0; underruns = underruns_on session.driver.underruns disk }
+
+abbrev pub report_in : Session → Report
+report_in session = record {
+  calls = map printed_call session.desk.history;
+  cycles = map (cycle_in session.driver) (below (run session.driver));
+  meters = flat_map (λ (change : Change). meters_from session.driver change.number change.command) (accepted session.desk.history);
+  events = flat_map (λ (change : Change). events_from session.driver change.number change.command) (accepted session.desk.history);
+  recorders = map (recorder_in session) (below (length session.script.header.recorders));
+  disks = map (disk_in session) (below (length session.script.header.disks));
+}
+
+-- its bytes
+abbrev pub text_in : Session → List ℕ
+text_in session = flat_map (λ text. text) (report_lines (report_in session))
+
+-- behind a fault the stores that tell hold fronts of the files of the one computation over the session's own lists
+pub record StandsBehindFault (session : Session) (given : Given) : Type 0 where
+  pub playback : HasFront (playback_format (course_in given session)) (played_back (course_in given session)) session.playback_file
+  pub records : (recorder : ℕ) (file : Option (List ℕ)) → slice_get session.record_files recorder ≡ Some file
+      → HasFront (recorder_format (course_in given session) recorder) (recorded (course_in given session) (overruns_on session.driver.overruns recorder) recorder) file

@@ -1,0 +1,7 @@
+//! What contracts see of a session, and the laws of its run, each as the contract of a function that does nothing.
+#![tactic(auto)]
+
+pub mod endings;
+pub mod meetings;
+pub mod runs;
+pub mod serial;
