@@ -1,0 +1,136 @@
+-- How benches get from one plan's clients to the next one's.
+--     AreApart-plan      the clients of a plan are told apart by their births
+--     nodes-within      who has a bench each are no more than benches
+--     memory-same      benches of the same standings are of the same memories
+--     cleared-same      a bench that is cleared keeps what it remembers and gave
+--     fed-seated      nothing is fed behind the clients' seating
+--     fresh-seated, others-seated      who had no bench begins anew; who has none now keeps its memory
+use Rattle.std.proofs.Common.{◌≡◌, ℕ, zero, suc, ◌<◌, ◌≤◌, ◌==◌, ◌⊎◌, inl, inr, List, [], length, find, Option, Some, None, option_map, refl, sym, ◌∙◌, ap, subst, arith}
+use Rattle.std.specs.List.{Contains}
+use Rattle.std.proofs.lemmas.Bool.{cases_lt, eqb-true}
+use Rattle.jack_types.specs.declared.kinds.Kind.{Kind}
+use Rattle.jack_types.specs.declared.kinds.Kind.TheVariants.{Pass, Gain, Mix, Delay, Tone, Click, Meter, Tape, Guest, Midiplay, Midithru, Midilog, Disk}
+use Rattle.jack_types.specs.declared.kinds.Score.{Score}
+use Rattle.session_model.specs.Benches.{node_at, place_in}
+use Rattle.session_model.specs.Cycles.{player_born}
+use Rattle.session_model.specs.Kinds.{Memory, first}
+use Rattle.session_model.specs.State.{OpenClient}
+use Rattle.port_registry.specs.Registered.{open_clients}
+use Rattle.port_registry.proofs.PlaceLemmas.{find-none}
+use Rattle.cycle_plan.specs.Plans.{IsPlanned, Planned, state_of_plan}
+use Rattle.client_kinds.specs.Standings.{Standing}
+use Rattle.client_benches.specs.Seen.{Remembered as Kept, Seen, cleared}
+use Rattle.bench_rack.specs.Racks.{Racked, bench_at}
+use Rattle.driver_laws.specs.Drivers.{Remembered}
+use Rattle.client_seats.specs.Owners.{Owned, owner_at}
+use Rattle.client_seats.specs.Seatings.{AreApart, HasBench, HasNoPast, IsNobodys, IsSameBench, IsSeating, kind_at, memory_of, standing_at}
+use Rattle.client_seats.proofs.MemoryLemmas.{found_past, memory-owned, owned_or_not}
+use Rattle.client_seats.proofs.PlaceLemmas.{open_within, within_open}
+use Rattle.client_seats.proofs.PlayLemmas.{IsSeating-played}
+use Rattle.client_seats.proofs.SeatLemmas.{bench-within}
+
+some_is : {X : Type 0} {a b : X} → Some a ≡ Some b → a ≡ b
+some_is e = cc
+
+pub AreApart-plan : (plan : Planned) → IsPlanned plan → AreApart (open_clients plan.nodes)
+AreApart-plan plan planned n m low_n low_m births =
+    let one : node_at (open_clients plan.nodes) n ≡ node_at (open_clients plan.nodes) m =
+    some_is (sym (planned.is_plan.born n low_n) ∙ ap (player_born (state_of_plan plan)) births ∙ planned.is_plan.born m low_m) in
+    some_is (sym (planned.is_plan.placed n low_n) ∙ ap (λ (c : OpenClient). place_in (open_clients plan.nodes) c.name) one ∙ planned.is_plan.placed m low_m)
+
+no_more : (m k : ℕ) → ((n : ℕ) → n < m → n < k) → m ≤ k
+no_more zero k h = omega arith
+no_more (suc m) k h = let low = h m (omega arith) in omega (arith, low)
+
+pub nodes-within : (plan : Planned) (rack : Racked) (owned : Owned) → IsSeating rack owned → ((n : ℕ) → n < length plan.nodes → HasBench (open_clients plan.nodes) rack owned n n) → length plan.nodes ≤ length rack.benches
+nodes-within plan rack owned s has = no_more (length plan.nodes) (length rack.benches) (λ n h. bench-within (open_clients plan.nodes) rack owned n n s (has n h))
+
+pub same-bench : (before after : Standing) → after ≡ before → IsSameBench before after
+same-bench before after e = subst (λ s. IsSameBench before s) (sym e) (record { kind = refl; period = refl; score = refl; bare = λ b. b })
+
+pub seating-same : (rack after : Racked) (owned : Owned) → IsSeating rack owned → length after.benches ≡ length rack.benches → ((p : ℕ) → standing_at after p ≡ standing_at rack p) → IsSeating after owned
+seating-same rack after owned s lengths same = IsSeating-played rack after owned s lengths (λ p. same-bench (standing_at rack p) (standing_at after p) (same p)) (λ p none. same p)
+
+pub memory-same : (rack after : Racked) (owned : Owned) → IsSeating rack owned → IsSeating after owned → ((p : ℕ) → standing_at after p ≡ standing_at rack p) → (birth : ℕ) → memory_of after owned birth ≡ memory_of rack owned birth
+memory-same rack after owned s t same birth = go (owned_or_not owned.births birth)
+  where
+    go : ((p : ℕ) × (owner_at owned p ≡ Some birth)) ⊎ IsNobodys owned birth → memory_of after owned birth ≡ memory_of rack owned birth
+    go (inl o) = memory-owned after owned t o.0 birth o.1 ∙ ap (λ (x : Standing). Some x.memory) (same o.0) ∙ sym (memory-owned rack owned s o.0 birth o.1)
+    go (inr n) = ap (option_map (λ (k : Remembered). k.memory)) (found_past owned.births after.benches owned.past birth n ∙ sym (found_past owned.births rack.benches owned.past birth n))
+
+pub cleared-same : (rack clear : Racked) (count : ℕ) → ((p : ℕ) → p < count → bench_at clear p ≡ cleared (bench_at rack p)) → ((p : ℕ) → count ≤ p → bench_at clear p ≡ bench_at rack p)
+    → (p : ℕ) → (standing_at clear p ≡ standing_at rack p) × ((bench_at clear p).kept.audio ≡ (bench_at rack p).kept.audio)
+cleared-same rack clear count is_cleared others p = go (cases_lt p count)
+  where
+    go : (p < count) ⊎ (count ≤ p) → (standing_at clear p ≡ standing_at rack p) × ((bench_at clear p).kept.audio ≡ (bench_at rack p).kept.audio)
+    go (inl h) = (ap (λ (b : Seen). b.kept.standing) (is_cleared p h), ap (λ (b : Seen). b.kept.audio) (is_cleared p h))
+    go (inr h) = (ap (λ (b : Seen). b.kept.standing) (others p h), ap (λ (b : Seen). b.kept.audio) (others p h))
+
+pub first-unfed : (scores : List Score) (kind : Kind) → (first scores kind).fed ≡ []
+first-unfed scores Pass = refl
+first-unfed scores (Gain factor shift) = refl
+first-unfed scores Mix = refl
+first-unfed scores (Delay frames) = refl
+first-unfed scores (Tone half level) = refl
+first-unfed scores (Click level) = refl
+first-unfed scores Meter = refl
+first-unfed scores (Tape recorder) = refl
+first-unfed scores (Guest guest) = refl
+first-unfed scores (Midiplay list) = refl
+first-unfed scores Midithru = refl
+first-unfed scores Midilog = refl
+first-unfed scores (Disk disk) = refl
+
+-- the memory of a client that owned none and lost none
+pub nothing-of : (nodes : List OpenClient) (rack : Racked) (owned : Owned) (n : ℕ) → n < length nodes → HasNoPast nodes owned → IsNobodys owned (node_at nodes n).birth → memory_of rack owned (node_at nodes n).birth ≡ None
+nothing-of nodes rack owned n low no_past none =
+    ap (option_map (λ (k : Remembered). k.memory)) (found_past owned.births rack.benches owned.past (node_at nodes n).birth none
+    ∙ find-none (λ (kept : Remembered). kept.birth == (node_at nodes n).birth) owned.past (λ kept c t. no_past n kept low c (sym (eqb-true kept.birth (node_at nodes n).birth t))))
+
+-- what `seat` says, over the benches before and behind it
+module _ (nodes : List OpenClient) (rack after : Racked) (owned owned_after : Owned) (before_seating : IsSeating rack owned) (after_seating : IsSeating after owned_after) (no_past : HasNoPast nodes owned)
+    (kept : (birth : ℕ) (memory : Memory) → memory_of rack owned birth ≡ Some memory → memory_of after owned_after birth ≡ Some memory)
+    (fresh : (birth : ℕ) (memory : Memory) → memory_of rack owned birth ≡ None → memory_of after owned_after birth ≡ Some memory
+    → (n : ℕ) × (n < length nodes) × ((node_at nodes n).birth ≡ birth) × (memory ≡ first owned.scores (node_at nodes n).kind))
+    (same_bench : (p q birth : ℕ) → owner_at owned p ≡ Some birth → owner_at owned_after q ≡ Some birth → (bench_at after q).kept ≡ (bench_at rack p).kept)
+    (owners : (p birth : ℕ) → owner_at owned_after p ≡ Some birth
+    → ((q : ℕ) × (owner_at owned q ≡ Some birth) × (kind_at after p ≡ kind_at rack q)) ⊎ ((n : ℕ) × (n < length nodes) × ((node_at nodes n).birth ≡ birth) × (kind_at after p ≡ (node_at nodes n).kind))) where
+  pub fresh-seated : AreApart nodes → (n q : ℕ) → n < length nodes → owner_at owned_after q ≡ Some (node_at nodes n).birth → IsNobodys owned (node_at nodes n).birth → (standing_at after q).memory ≡ first owned.scores (node_at nodes n).kind
+  fresh-seated apart n q low owner none =
+      let new = fresh (node_at nodes n).birth (standing_at after q).memory (nothing-of nodes rack owned n low no_past none) (memory-owned after owned_after after_seating q (node_at nodes n).birth owner) in
+      new.3 ∙ ap (λ k. first owned.scores (node_at nodes k).kind) (apart new.0 n new.1 low new.2)
+
+  fed-new : (q n : ℕ) → n < length nodes → owner_at owned_after q ≡ Some (node_at nodes n).birth → IsNobodys owned (node_at nodes n).birth → (standing_at after q).memory.fed ≡ []
+  fed-new q n low owner none =
+      let new = fresh (node_at nodes n).birth (standing_at after q).memory (nothing-of nodes rack owned n low no_past none) (memory-owned after owned_after after_seating q (node_at nodes n).birth owner) in
+      ap (λ (m : Memory). m.fed) new.3 ∙ first-unfed owned.scores (node_at nodes new.0).kind
+
+  pub fed-seated : ((p : ℕ) → (standing_at rack p).memory.fed ≡ []) → (p : ℕ) → (standing_at after p).memory.fed ≡ []
+  fed-seated unfed p = by_owner (owner_at owned_after p) refl
+    where
+      old : (q birth : ℕ) → owner_at owned q ≡ Some birth → owner_at owned_after p ≡ Some birth → (standing_at after p).memory.fed ≡ []
+      old q birth o e = ap (λ (k : Kept). k.standing.memory.fed) (same_bench q p birth o e) ∙ unfed q
+
+      of_node : (birth n : ℕ) → n < length nodes → (node_at nodes n).birth ≡ birth → owner_at owned_after p ≡ Some birth → ((q : ℕ) × (owner_at owned q ≡ Some (node_at nodes n).birth)) ⊎ IsNobodys owned (node_at nodes n).birth → (standing_at after p).memory.fed ≡ []
+      of_node birth n low b e (inl o) = old o.0 birth (o.1 ∙ ap (λ k. Some k) b) e
+      of_node birth n low b e (inr none) = fed-new p n low (e ∙ ap (λ k. Some k) (sym b)) none
+
+      by_case : (birth : ℕ) → owner_at owned_after p ≡ Some birth
+          → ((q : ℕ) × (owner_at owned q ≡ Some birth) × (kind_at after p ≡ kind_at rack q)) ⊎ ((n : ℕ) × (n < length nodes) × ((node_at nodes n).birth ≡ birth) × (kind_at after p ≡ (node_at nodes n).kind)) → (standing_at after p).memory.fed ≡ []
+      by_case birth e (inl o) = old o.0 birth o.1 e
+      by_case birth e (inr o) = of_node birth o.0 o.1 o.2 e (owned_or_not owned.births (node_at nodes o.0).birth)
+
+      by_owner : (owner : Option ℕ) → owner_at owned_after p ≡ owner → (standing_at after p).memory.fed ≡ []
+      by_owner None e = ap (λ (s : Standing). s.memory.fed) (after_seating.free p e) ∙ first-unfed [] (kind_at after p)
+      by_owner (Some birth) e = by_case birth e (owners p birth e)
+
+  pub others-seated : (birth : ℕ) → ((n : ℕ) → n < length nodes → (node_at nodes n).birth ≡ birth → ⊥) → memory_of after owned_after birth ≡ memory_of rack owned birth
+  others-seated birth not_node = go (memory_of rack owned birth) refl
+    where
+      now : memory_of rack owned birth ≡ None → (memory : Option Memory) → memory_of after owned_after birth ≡ memory → memory_of after owned_after birth ≡ None
+      now none None e = e
+      now none (Some memory) e = let new = fresh birth memory none e in absurd (not_node new.0 new.1 new.2)
+
+      go : (memory : Option Memory) → memory_of rack owned birth ≡ memory → memory_of after owned_after birth ≡ memory_of rack owned birth
+      go None e = now e (memory_of after owned_after birth) refl ∙ sym e
+      go (Some memory) e = kept birth memory e ∙ sym e

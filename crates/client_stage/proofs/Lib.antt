@@ -1,0 +1,2 @@
+mod CastLemmas
+mod PerformLemmas

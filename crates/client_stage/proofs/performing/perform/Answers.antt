@@ -1,0 +1,52 @@
+use Rattle.std.proofs.Common.{◌≡◌, ℕ, ◌<◌, ◌≤◌, List, length, ℤ, refl, sym, ◌∙◌, ap, subst, arith}
+use Rattle.std.proofs.lemmas.List.{length-map}
+use Rattle.jack_types.specs.declared.moments.Moment.{Moment}
+use Rattle.session_model.specs.Activation.{AreLinks, sequential}
+use Rattle.session_model.specs.Samples.{silence}
+use Rattle.port_registry.specs.Registered.{open_client}
+use Rattle.client_benches.specs.Seen.{Seen, kept_after, kept_gives}
+use Rattle.client_wiring.specs.Wirings.{Wired, wired_of}
+use Rattle.client_wiring.specs.declared.joints.Joint.{Joint}
+use Rattle.bench_rack.specs.Racks.{Racked, bench_at}
+use Rattle.client_tasks.specs.Fillings.{known_at}
+use Rattle.client_tasks.specs.Tasks.{AreSet}
+use Rattle.client_tasks.proofs.PlanLemmas.{few-links}
+use Rattle.client_seats.specs.Seatings.{standing_at}
+use Rattle.client_stage.proofs.PerformLemmas.{more-nodes}
+use Rattle.client_stage.proofs.performing.perform.Goals as goal
+
+pub play-requires-clause-links : goal.play-requires-clause-links
+play-requires-clause-links g c κs within = (subst (λ links. AreLinks c.args.ensemble.now.nodes links) (sym are) upward, omega (arith, few-links c.args.plan.now c.links-links.ensures.planned few_edges, ap length are))
+  where
+    are : c.links-links.result.now ≡ c.args.plan.now.links
+    are = c.links-links.ensures.value
+
+    upward : AreLinks c.args.ensemble.now.nodes c.args.plan.now.links
+    upward = more-nodes (length c.args.plan.now.nodes) c.args.ensemble.now.nodes c.args.plan.now.links c.requires.few
+        (subst (λ n. AreLinks n c.args.plan.now.links) (length-map c.args.plan.now.nodes open_client) c.links-links.ensures.planned.is_plan.upward)
+
+    few_edges : length c.args.plan.now.network.set.edges ≤ 512
+    few_edges = subst (λ n. n ≤ 512) (ap length c.edges-edges.ensures.value) c.edges-edges.ensures.few
+
+pub returns-clause-performed : goal.returns-clause-performed
+returns-clause-performed g c cast moment period sources is_rack is_silence set idle = (
+  c.fill_wires.new.rack,
+  record {
+    set = subst (λ r. AreSet (wired_of c.args.plan.now) c.args.plan.now.links moment period (known_at r c.args.capture.now.channels (silence period) c.args.places.now (wired_of c.args.plan.now).joints) (length c.args.plan.now.nodes) c.fill_wires.new.rack) (sym is_rack)
+        (subst (λ s. AreSet (wired_of c.args.plan.now) c.args.plan.now.links moment period (known_at c.args.rack.now c.args.capture.now.channels s c.args.places.now (wired_of c.args.plan.now).joints) (length c.args.plan.now.nodes) c.fill_wires.new.rack) is_silence
+        (subst (λ (js : List Joint). AreSet (wired_of c.args.plan.now) c.args.plan.now.links moment period (known_at c.args.rack.now c.args.capture.now.channels c.args.silence.now c.args.places.now js) (length c.args.plan.now.nodes) c.fill_wires.new.rack) joints
+        (c.fill_wires.ensures.set (wired_of c.args.plan.now) c.args.plan.now.links moment period sources (length c.args.plan.now.nodes) (sym joints) set)));
+    standings = λ p. ap (λ (b : Seen). b.kept.standing) (c.fill_wires.ensures.others p) ∙ ap (λ (r : Racked). standing_at r p) (sym is_rack);
+    idle = λ p h. ap (λ (b : Seen). b.kept.turn) (c.fill_wires.ensures.others p) ∙ idle p h;
+    lengths = c.fill_wires.ensures.lengths ∙ ap (λ (r : Racked). length r.benches) (sym is_rack);
+  },
+  record {
+    few = c.requires.few;
+    each = λ n h. subst (λ links. (bench_at c.play.new.self n).kept ≡ sequential kept_after kept_gives links (λ n. (bench_at c.fill_wires.new.rack n).kept) n) c.links-links.ensures.value (c.play.ensures.played n h);
+    others = c.play.ensures.others;
+    lengths = c.play.ensures.count;
+  },
+)
+  where
+    joints : c.joints.result.now ≡ (wired_of c.args.plan.now).joints
+    joints = c.joints.ensures ∙ ap (λ (w : Wired). w.joints) c.requires.wired

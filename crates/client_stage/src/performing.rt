@@ -1,0 +1,57 @@
+//! A cycle's performance: what is known before the clients play is filled in, and the crew plays.
+
+ghost use Rattle.std.specs.Prelude.{◌≡◌, ◌<◌, ◌≤◌, ℕ, List, None, ℤ, length};
+ghost use Rattle.jack_types.specs.declared.moments.Moment.{Moment as MomentValue};
+ghost use Rattle.session_model.specs.Samples.{silence as silent};
+ghost use Rattle.client_wiring.specs.Wirings.{wired_of};
+ghost use Rattle.bench_rack.specs.Racks.{Racked, bench_at};
+ghost use Rattle.client_tasks.specs.Fillings.{AreJoints};
+ghost use Rattle.client_tasks.specs.Tasks.{AreSet, HasRooms};
+ghost use Rattle.stage_laws.specs.Casts.{Fills, Performs};
+ghost use Rattle.stage_laws.specs.Stages.{Staged};
+
+use bench_crew::Ensemble;
+use bench_rack::Rack;
+use client_kinds::Guest;
+use client_tasks::fill_wires;
+use client_wiring::Wiring;
+use cycle_plan::Plan;
+use device_periods::Capture;
+use jack_host::{Gate, Source};
+use std::thread::Threads;
+
+/// Plays a cycle of a plan whose clients have their benches, set for it: fills the wires of what is captured and of what
+/// kept outputs gave at these places in the cycle before, and lets the crew play.
+///
+/// It takes no memory. `silence` is a period of it.
+pub fn perform<G: Guest + Send, S: Source, T: Threads + Sync, K: Gate>(
+    threads: &T,
+    gate: &K,
+    rack: &mut Rack<G>,
+    ensemble: &mut Ensemble<G>,
+    plan: &Plan,
+    wiring: &Wiring,
+    places: &[Option<usize>],
+    capture: &Capture<S>,
+    silence: &[i32],
+)
+    requires wired { wiring.now ≡ wired_of plan.now }
+    requires few { length plan.now.nodes ≤ ensemble.old.nodes }
+    requires crew { ensemble.old.nodes ≤ length rack.old.benches }
+    requires joints { AreJoints (length plan.now.nodes) wiring.now.joints }
+    requires places { length places.now ≡ length wiring.now.joints }
+    requires silence { length silence.now ≤ 4096 }
+    requires set { (moment : MomentValue) × (period : ℕ) × (sources : ℕ → List ℤ) × AreSet (wired_of plan.now) plan.now.links moment period sources (length plan.now.nodes) rack.old }
+    requires rooms { HasRooms plan.now.links rack.old }
+    ensures crew { ensemble.new ≡ ensemble.old }
+    ensures performed { (cast : Staged) (moment : MomentValue) (period : ℕ) (sources : ℕ → List ℤ) → cast.racked ≡ rack.old → silence.now ≡ silent period
+        → AreSet (wired_of plan.now) plan.now.links moment period sources (length plan.now.nodes) rack.old → ((p : ℕ) → length plan.now.nodes ≤ p → (bench_at rack.old p).kept.turn ≡ None)
+        → (filled : Racked) × Fills cast plan.now moment period capture.now.channels places.now filled × Performs filled plan.now ensemble.old.nodes rack.new }
+    ensures rooms { HasRooms plan.now.links rack.new }
+    ensures links { rack.new.links ≡ rack.old.links }
+{
+    let links = plan.links();
+    let edges = plan.edges();
+    fill_wires(rack, wiring.joints(), places, capture, silence);
+    rack.play(threads, gate, ensemble, links);
+}
