@@ -1,12 +1,10 @@
 -- How benches get from one plan's clients to the next one's.
 --     AreApart-plan      the clients of a plan are told apart by their births
 --     nodes-within      who has a bench each are no more than benches
---     memory-same      benches of the same standings are of the same memories
 --     cleared-same      a bench that is cleared keeps what it remembers and gave
 --     fed-seated      nothing is fed behind the clients' seating
 --     fresh-seated, others-seated      who had no bench begins anew; who has none now keeps its memory
-use Rattle.std.proofs.Common.{◌≡◌, ℕ, zero, suc, ◌<◌, ◌≤◌, ◌==◌, ◌⊎◌, inl, inr, List, [], length, find, Option, Some, None, option_map, refl, sym, ◌∙◌, ap, subst, arith}
-use Rattle.std.specs.List.{Contains}
+use Rattle.std.proofs.Common.{◌≡◌, ℕ, zero, suc, ◌<◌, ◌≤◌, ◌==◌, ◌⊎◌, inl, inr, List, [], length, Option, Some, None, option_map, refl, sym, ◌∙◌, ap, arith}
 use Rattle.std.proofs.lemmas.Bool.{cases_lt, eqb-true}
 use Rattle.jack_types.specs.declared.kinds.Kind.{Kind}
 use Rattle.jack_types.specs.declared.kinds.Kind.TheVariants.{Pass, Gain, Mix, Delay, Tone, Click, Meter, Tape, Guest, Midiplay, Midithru, Midilog, Disk}
@@ -23,11 +21,11 @@ use Rattle.client_benches.specs.Seen.{Remembered as Kept, Seen, cleared}
 use Rattle.bench_rack.specs.Racks.{Racked, bench_at}
 use Rattle.driver_laws.specs.Drivers.{Remembered}
 use Rattle.client_seats.specs.Owners.{Owned, owner_at}
-use Rattle.client_seats.specs.Seatings.{AreApart, HasBench, HasNoPast, IsNobodys, IsSameBench, IsSeating, kind_at, memory_of, standing_at}
+use Rattle.client_seats.specs.Seatings.{AreApart, HasBench, HasNoPast, IsNobodys, IsSeating, kind_at, memory_of, standing_at}
 use Rattle.client_seats.proofs.MemoryLemmas.{found_past, memory-owned, owned_or_not}
-use Rattle.client_seats.proofs.PlaceLemmas.{open_within, within_open}
 use Rattle.client_seats.proofs.PlayLemmas.{IsSeating-played}
 use Rattle.client_seats.proofs.SeatLemmas.{bench-within}
+use Rattle.stage_laws.proofs.WholeLemmas.{same-bench-of}
 
 some_is : {X : Type 0} {a b : X} → Some a ≡ Some b → a ≡ b
 some_is e = cc
@@ -45,18 +43,8 @@ no_more (suc m) k h = let low = h m (omega arith) in omega (arith, low)
 pub nodes-within : (plan : Planned) (rack : Racked) (owned : Owned) → IsSeating rack owned → ((n : ℕ) → n < length plan.nodes → HasBench (open_clients plan.nodes) rack owned n n) → length plan.nodes ≤ length rack.benches
 nodes-within plan rack owned s has = no_more (length plan.nodes) (length rack.benches) (λ n h. bench-within (open_clients plan.nodes) rack owned n n s (has n h))
 
-pub same-bench : (before after : Standing) → after ≡ before → IsSameBench before after
-same-bench before after e = subst (λ s. IsSameBench before s) (sym e) (record { kind = refl; period = refl; score = refl; bare = λ b. b })
-
 pub seating-same : (rack after : Racked) (owned : Owned) → IsSeating rack owned → length after.benches ≡ length rack.benches → ((p : ℕ) → standing_at after p ≡ standing_at rack p) → IsSeating after owned
-seating-same rack after owned s lengths same = IsSeating-played rack after owned s lengths (λ p. same-bench (standing_at rack p) (standing_at after p) (same p)) (λ p none. same p)
-
-pub memory-same : (rack after : Racked) (owned : Owned) → IsSeating rack owned → IsSeating after owned → ((p : ℕ) → standing_at after p ≡ standing_at rack p) → (birth : ℕ) → memory_of after owned birth ≡ memory_of rack owned birth
-memory-same rack after owned s t same birth = go (owned_or_not owned.births birth)
-  where
-    go : ((p : ℕ) × (owner_at owned p ≡ Some birth)) ⊎ IsNobodys owned birth → memory_of after owned birth ≡ memory_of rack owned birth
-    go (inl o) = memory-owned after owned t o.0 birth o.1 ∙ ap (λ (x : Standing). Some x.memory) (same o.0) ∙ sym (memory-owned rack owned s o.0 birth o.1)
-    go (inr n) = ap (option_map (λ (k : Remembered). k.memory)) (found_past owned.births after.benches owned.past birth n ∙ sym (found_past owned.births rack.benches owned.past birth n))
+seating-same rack after owned s lengths same = IsSeating-played rack after owned s lengths (λ p. same-bench-of (standing_at rack p) (standing_at after p) (same p)) (λ p none. same p)
 
 pub cleared-same : (rack clear : Racked) (count : ℕ) → ((p : ℕ) → p < count → bench_at clear p ≡ cleared (bench_at rack p)) → ((p : ℕ) → count ≤ p → bench_at clear p ≡ bench_at rack p)
     → (p : ℕ) → (standing_at clear p ≡ standing_at rack p) × ((bench_at clear p).kept.audio ≡ (bench_at rack p).kept.audio)

@@ -1,8 +1,8 @@
 -- Facts of a performance.
 --     more-nodes      links between some nodes are links between more
 --     rooms-filled      filling leaves all rooms
-use Rattle.std.proofs.Common.{◌≡◌, ℕ, ◌<◌, ◌≤◌, length, All, refl, sym, ◌∙◌, ap, subst, arith}
-use Rattle.std.specs.Prelude.{List, true}
+use Rattle.std.proofs.Common.{◌≡◌, ℕ, ◌≤◌, ◌∙◌, ap, arith}
+use Rattle.std.specs.Prelude.{List}
 use Rattle.jack_types.specs.declared.ports.Link.{Link}
 use Rattle.session_model.specs.Activation.{AreLinks, link_at, place_among}
 use Rattle.client_benches.specs.Seen.{Seen, has_room_at}

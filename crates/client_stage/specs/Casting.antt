@@ -1,6 +1,6 @@
 -- What a cast leaves.
 --     HasCast rack owned after owned_after plan moment period      each client of the plan has its own bench, as it was, or a new one in its first memory, and all are set for the cycle
-use Rattle.std.specs.Prelude.{◌≡◌, ℕ, ◌<◌, ◌≤◌, List, [], length, ℤ, Some}
+use Rattle.std.specs.Prelude.{◌≡◌, ℕ, ◌<◌, ◌≤◌, [], length, Some}
 use Rattle.jack_types.specs.declared.moments.Moment.{Moment}
 use Rattle.session_model.specs.Benches.{node_at}
 use Rattle.session_model.specs.Kinds.{first}

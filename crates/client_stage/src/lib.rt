@@ -2,7 +2,9 @@
 #![tactic(auto)]
 
 mod casting;
+mod laws;
 mod performing;
 
 pub use casting::cast;
+pub use laws::a_cast_is_the_stages;
 pub use performing::perform;

@@ -3,3 +3,4 @@ pub mod KeepLemmas
 pub mod PlayLemmas
 pub mod BoundLemmas
 pub mod WholeLemmas
+pub mod GoingLemmas

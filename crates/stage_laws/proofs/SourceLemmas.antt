@@ -60,7 +60,7 @@ module _ (old : Staged) (last plan : Planned) (moment : Moment) (period : ℕ) (
   is_before n output =
       ap (λ graph. at.before.audio (output_name graph (open_clients plan.nodes) n output)) settled.graph
       ∙ settled.before (output_name (state_of_plan plan) (open_clients plan.nodes) n output)
-      ∙ ap (λ nodes. (kept_from old.period (state_of_plan last) (outputs_of settled.at_last (open_clients nodes) (bench_of old)) (state_of_plan plan) period).audio (output_name (state_of_plan plan) (open_clients plan.nodes) n output)) staffed.nodes
+      ∙ ap (λ nodes. (kept_from old.period (state_of_plan last) (outputs_of settled.at_last nodes (bench_of old)) (state_of_plan plan) period).audio (output_name (state_of_plan plan) (open_clients plan.nodes) n output)) staffed.nodes
 
   abbrev born : ℕ → Given → Bool
   born birth given = given.birth == birth

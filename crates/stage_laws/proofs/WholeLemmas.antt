@@ -35,6 +35,9 @@ use Rattle.stage_laws.proofs.KeepLemmas.{audio-played}
 use Rattle.stage_laws.proofs.PlayLemmas.{plays}
 use Rattle.stage_laws.proofs.SourceLemmas.{source}
 
+pub same-bench-of : (before after : Standing) → after ≡ before → IsSameBench before after
+same-bench-of before after e = subst (λ s. IsSameBench before s) (sym e) (record { kind = refl; period = refl; score = refl; bare = λ b. b })
+
 same-bench : (standing : Standing) → IsSameBench standing standing
 same-bench standing = record { kind = refl; period = refl; score = refl; bare = λ b. b }
 

@@ -1,5 +1,6 @@
 -- How a stage goes on to a cycle of a plan.
 --     Casts old last plan moment period cast      each client of the plan has its bench, as it was, and is set for the cycle
+--     GoesOnIn old last moment period new      the same, for a later cycle of the last plan
 --     ArePlaces old cast period places      at which places kept outputs stood in the cycle before, if that had the period
 --     Fills cast plan moment period channels places filled      what is known before the clients play is in their wires
 --     Performs filled plan crew played      the crew played them
@@ -13,7 +14,7 @@ use Rattle.port_registry.specs.Registered.{open_clients}
 use Rattle.cycle_plan.specs.Plans.{Planned}
 use Rattle.client_benches.specs.Seen.{cleared, kept_after, kept_gives}
 use Rattle.client_wiring.specs.Wirings.{wired_of}
-use Rattle.bench_rack.specs.Racks.{Racked, bench_at}
+use Rattle.bench_rack.specs.Racks.{Racked, bench_at, moved}
 use Rattle.client_tasks.specs.Fillings.{AreJoints, known_at, last_place}
 use Rattle.client_tasks.specs.Tasks.{AreSet, HasRooms}
 use Rattle.client_seats.specs.Owners.{owner_at}
@@ -28,7 +29,7 @@ pub record Casts (old : Staged) (last plan : Planned) (moment : Moment) (period 
   pub plain : (n : ℕ) → n < length plan.nodes → IsOldKind (node_at (open_clients plan.nodes) n).kind
   pub unfed : (p : ℕ) → (standing_at new.racked p).memory.fed ≡ []
   pub idle : (p : ℕ) → length new.nodes ≤ p → cleared (bench_at new.racked p) ≡ bench_at new.racked p
-  pub nodes : new.nodes ≡ plan.nodes
+  pub nodes : open_clients new.nodes ≡ open_clients plan.nodes
   pub has : (n : ℕ) → n < length plan.nodes → HasBench (open_clients plan.nodes) new.racked new.owned n n
   pub sources : ℕ → List ℤ
   pub set : AreSet new.wiring plan.links moment period sources (length plan.nodes) new.racked
@@ -64,3 +65,11 @@ pub record Performs (filled : Racked) (plan : Planned) (crew : ℕ) (played : Ra
   pub each : (n : ℕ) → n < crew → (bench_at played n).kept ≡ sequential kept_after kept_gives plan.links (λ n. (bench_at filled n).kept) n
   pub others : (n : ℕ) → crew ≤ n → bench_at played n ≡ bench_at filled n
   pub lengths : length played.benches ≡ length filled.benches
+
+-- the benches that played last are told the moment and the period of the next cycle, and nothing else changes but where kept outputs stand
+pub record GoesOnIn (old : Staged) (last : Planned) (moment : Moment) (period : ℕ) (new : Staged) : Type 0 where
+  pub told : (n : ℕ) → n < length last.nodes → bench_at new.racked n ≡ moved moment period (bench_at old.racked n)
+  pub others : (n : ℕ) → length last.nodes ≤ n → bench_at new.racked n ≡ bench_at old.racked n
+  pub lengths : length new.racked.benches ≡ length old.racked.benches
+  pub places : new.last ≡ map (last_place old.wiring.given) old.wiring.joints
+  pub same : new ≡ record old { racked = record old.racked { benches = new.racked.benches }; last = new.last; is_settled = new.is_settled }

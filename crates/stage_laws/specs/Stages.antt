@@ -35,7 +35,7 @@ bench_of staged n = bench_in staged.owned.scores (bench_at staged.racked n).kept
 
 -- the benches of the plan's nodes are their clients' and set for the cycle that was played, with as many outputs as their clients
 pub record IsStaffed (staged : Staged) (plan : Planned) : Type 0 where
-  pub nodes : staged.nodes ≡ plan.nodes
+  pub nodes : open_clients staged.nodes ≡ open_clients plan.nodes
   pub has : (n : ℕ) → n < length plan.nodes → HasBench (open_clients plan.nodes) staged.racked staged.owned n n
   pub moment : Moment
   pub sources : ℕ → List ℤ

@@ -1,18 +1,22 @@
 //! Laws of a stage in one cycle: what its benches play, and how it stands behind the cycle.
 
-ghost use Rattle.std.specs.Prelude.{◌≡◌, ◌<◌, ℕ, ℤ, [], List, Option, length};
+ghost use Rattle.std.specs.Prelude.{◌≡◌, ◌<◌, ◌≤◌, ℕ, ℤ, [], List, Option, length};
 ghost use Rattle.jack_types.specs.declared.moments.Moment.{Moment as MomentValue};
 ghost use Rattle.session_model.specs.Courses.{Course};
 ghost use Rattle.session_model.specs.Cycles.{Settled, audio_outputs, midi_inputs, midi_outputs};
 ghost use Rattle.session_model.specs.State.{system_name};
 ghost use Rattle.port_registry.specs.Registered.{open_clients};
-ghost use Rattle.cycle_plan.specs.Plans.{Planned, state_of_plan};
+ghost use Rattle.session_model.specs.Benches.{node_at};
+ghost use Rattle.cycle_plan.specs.Plans.{IsPlanned, Planned, state_of_plan};
+ghost use Rattle.client_benches.specs.Seen.{cleared};
+ghost use Rattle.client_tasks.specs.Fillings.{AreJoints};
+ghost use Rattle.task_laws.specs.Calls.{IsOldKind};
 ghost use Rattle.client_wiring.specs.Keeping.{GoesOn};
 ghost use Rattle.client_wiring.specs.Wirings.{wired_of};
 ghost use Rattle.bench_rack.specs.Racks.{Racked, bench_at};
 ghost use Rattle.client_tasks.specs.Tasks.{widths_at};
-ghost use Rattle.client_seats.specs.Seatings.{HasNoPast, IsSeating, standing_at};
-ghost use Rattle.stage_laws.specs.Casts.{ArePlaces, Casts, Fills, Performs};
+ghost use Rattle.client_seats.specs.Seatings.{HasNoPast, HavePeriod, IsSeating, standing_at};
+ghost use Rattle.stage_laws.specs.Casts.{ArePlaces, Casts, Fills, GoesOnIn, Performs};
 ghost use Rattle.stage_laws.specs.Plays.{IsSettledOn, PlaysPlan};
 ghost use Rattle.stage_laws.specs.Stages.{IsStaffed, Staged};
 
@@ -29,6 +33,15 @@ pub fn a_stage_plays_its_plan()
 {
     keeps_by_births();
 }
+
+/// In a later cycle of the same plan, or of another one of its content, the clients are cast as they stand, once they are told
+/// the moment and the period.
+pub fn a_stage_goes_on_with_its_plan()
+    ensures { (last plan : Planned) (old new : Staged) (moment : MomentValue) (period : ℕ) → IsPlanned last → IsPlanned plan → plan.base ≡ last.base → plan.changes ≡ last.changes
+        → old.wiring ≡ wired_of last → IsSeating old.racked old.owned → HavePeriod old.racked old.room → ((p : ℕ) → (standing_at old.racked p).memory.fed ≡ [])
+        → ((p : ℕ) → length last.nodes ≤ p → cleared (bench_at old.racked p) ≡ bench_at old.racked p) → ((n : ℕ) → n < length plan.nodes → IsOldKind (node_at (open_clients plan.nodes) n).kind)
+        → AreJoints (length plan.nodes) old.wiring.joints → IsStaffed old last → GoesOnIn old last moment period new → Casts old last plan moment period new }
+{}
 
 /// Behind that cycle the benches are a seating yet, no block is left to be played, and each bench of the plan has as many
 /// outputs as its client.

@@ -1,19 +1,18 @@
-use Rattle.std.proofs.Common.{◌≡◌, ℕ, ◌<◌, ◌≤◌, List, [], length, Some, refl, sym, ◌∙◌, ap, subst, arith}
+use Rattle.std.proofs.Common.{◌≡◌, ℕ, ◌<◌, List, [], length, Some, refl, sym, ◌∙◌, ap, subst, arith}
 use Rattle.jack_types.specs.declared.ports.Client.{Client}
 use Rattle.session_model.specs.Benches.{node_at}
 use Rattle.session_model.specs.Kinds.{first}
 use Rattle.port_registry.specs.Registered.{open_clients}
 use Rattle.client_kinds.specs.Standings.{HasGuest, Standing}
 use Rattle.client_benches.specs.Seen.{Remembered as Kept, Seen, cleared}
-use Rattle.client_wiring.specs.Wirings.{Wired, wired_of}
-use Rattle.client_wiring.specs.declared.joints.Joint.{Joint}
+use Rattle.client_wiring.specs.Wirings.{Wired}
 use Rattle.bench_rack.specs.Racks.{bench_at}
 use Rattle.client_tasks.specs.Fillings.{AreJoints}
 use Rattle.client_tasks.specs.Tasks.{AreSet}
-use Rattle.client_seats.specs.Owners.{owner_at}
 use Rattle.client_seats.specs.Seatings.{AreApart, HasBench, HasNoPast, HavePeriod, IsNobodys, IsRefused, IsSeating, memory_of, standing_at}
 use Rattle.client_seats.proofs.PlaceLemmas.{open_within, within_open}
-use Rattle.client_stage.proofs.CastLemmas.{AreApart-plan, cleared-same, fed-seated, fresh-seated, memory-same, nodes-within, others-seated, seating-same}
+use Rattle.stage_laws.proofs.GoingLemmas.{memory-same}
+use Rattle.client_stage.proofs.CastLemmas.{AreApart-plan, cleared-same, fed-seated, fresh-seated, nodes-within, others-seated, seating-same}
 use Rattle.client_stage.proofs.casting.cast.Goals as goal
 
 pub seat-requires-clause-apart : goal.seat-requires-clause-apart
