@@ -1,6 +1,5 @@
 -- What is known of the wires before the clients play.
 --     last_place given joint      at which place of its client's outputs a kept output stood in the cycle before
---     place_now joint      at which place it stands
 --     KeepsFrom benches origin      the output that is kept is of one of so many benches
 --     with_wires wires bench      a bench with these wires
 --     AreJoints nodes joints      the joints of a plan of so many nodes
@@ -26,13 +25,6 @@ last_from given _ = None
 
 abbrev pub last_place : List Given → Joint → Option ℕ
 last_place given joint = last_from given joint.origin
-
-abbrev pub now_from : Origin → Option ℕ
-now_from (Kept node output birth) = Some output
-now_from _ = None
-
-abbrev pub now_place : Joint → Option ℕ
-now_place joint = now_from joint.origin
 
 -- what an output gave when its bench was last played, nothing where there was no such output; silence where no place is told
 abbrev pub kept_at : List (List ℤ) → List ℤ → Option ℕ → List ℤ

@@ -9,6 +9,6 @@ mod setting;
 mod turns;
 
 pub use filling::fill_wires;
-pub use placing::{place_last, place_now};
+pub use placing::place_last;
 pub use setting::set_tasks;
 pub use turns::{clear_all, move_all};

@@ -2,7 +2,7 @@
 
 ghost use Rattle.std.specs.Prelude.{◌≡◌, ◌≤◌, length, map};
 ghost use Rattle.std.specs.Vec.{vec_capacity};
-ghost use Rattle.client_tasks.specs.Fillings.{last_place, now_place, output_born};
+ghost use Rattle.client_tasks.specs.Fillings.{last_place, output_born};
 
 use client_wiring::{Given, Joint, Origin};
 
@@ -28,18 +28,8 @@ fn last_of(joint: &Joint, given: &[Given]) -> Option<usize>
     }
 }
 
-/// Where a kept output stands.
-fn now_of(joint: &Joint) -> Option<usize>
-    ensures { result ≡ now_place joint.now }
-{
-    match joint.origin {
-        Origin::Kept { output, .. } => Some(output),
-        _ => None,
-    }
-}
-
-/// At which place of its client's outputs each kept output stood when a cycle was last played, by births: for the
-/// first cycle of a plan, where the outputs that the plan before it gave are these.
+/// At which place of its client's outputs each kept output stood when a cycle was last played, by births: those
+/// outputs are of the plan of that cycle, the one before or the same.
 pub fn place_last(last: &mut Vec<Option<usize>>, joints: &[Joint], given: &[Given])
     requires { length joints.now ≤ vec_capacity last.old }
     ensures places { last.new.items ≡ map (last_place given.now) joints.now }
@@ -48,17 +38,5 @@ pub fn place_last(last: &mut Vec<Option<usize>>, joints: &[Joint], given: &[Give
     last.clear();
     for joint in joints {
         last.push_reserved(last_of(joint, given));
-    }
-}
-
-/// At which place of its client's outputs each kept output stands: for the later cycles of a plan.
-pub fn place_now(last: &mut Vec<Option<usize>>, joints: &[Joint])
-    requires { length joints.now ≤ vec_capacity last.old }
-    ensures places { last.new.items ≡ map now_place joints.now }
-    ensures room { vec_capacity last.new ≡ vec_capacity last.old }
-{
-    last.clear();
-    for joint in joints {
-        last.push_reserved(now_of(joint));
     }
 }
