@@ -16,6 +16,13 @@ impl<G: Guest> Rack<G> {
         self.benches.len()
     }
 
+    /// All benches, by their places.
+    pub fn benches(&self) -> &[ClientBench<G>]
+        ensures { result.now ≡ self.now.benches }
+    {
+        &self.benches
+    }
+
     /// The bench at a place.
     pub fn bench(&self, place: usize) -> &ClientBench<G>
         requires { place < length self.now.benches }

@@ -4,11 +4,17 @@
 --     cleared-same      a bench that is cleared keeps what it remembers and gave
 --     fed-seated      nothing is fed behind the clients' seating
 --     fresh-seated, others-seated      who had no bench begins anew; who has none now keeps its memory
-use Rattle.std.proofs.Common.{◌≡◌, ℕ, zero, suc, ◌<◌, ◌≤◌, ◌==◌, ◌⊎◌, inl, inr, List, [], length, Option, Some, None, option_map, refl, sym, ◌∙◌, ap, arith}
+--     kinds-same, seats-cast, kinds-cast, periods-cast, memories-cast, unfed-cast      what a cast leaves, whether all have a bench or not
+use Rattle.std.proofs.Common.{◌≡◌, ℕ, zero, suc, ◌<◌, ◌≤◌, ◌==◌, ◌⊎◌, inl, inr, List, [], length, Option, Some, None, option_map, refl, sym, ◌∙◌, ap, subst, arith}
+use Rattle.std.specs.List.{Contains}
+use Rattle.std.specs.List.Sorted.{IsPermutation}
 use Rattle.std.proofs.lemmas.Bool.{cases_lt, eqb-true}
+use Rattle.std.proofs.lemmas.List.{ext_get_or, length-map}
+use Rattle.std.proofs.Math.ListN.{get_or-map}
 use Rattle.jack_types.specs.declared.kinds.Kind.{Kind}
 use Rattle.jack_types.specs.declared.kinds.Kind.TheVariants.{Pass, Gain, Mix, Delay, Tone, Click, Meter, Tape, Guest, Midiplay, Midithru, Midilog, Disk}
 use Rattle.jack_types.specs.declared.kinds.Score.{Score}
+use Rattle.jack_types.specs.declared.ports.Client.{Client}
 use Rattle.session_model.specs.Benches.{node_at, place_in}
 use Rattle.session_model.specs.Cycles.{player_born}
 use Rattle.session_model.specs.Kinds.{Memory, first}
@@ -17,14 +23,17 @@ use Rattle.port_registry.specs.Registered.{open_clients}
 use Rattle.port_registry.proofs.PlaceLemmas.{find-none}
 use Rattle.cycle_plan.specs.Plans.{IsPlanned, Planned, state_of_plan}
 use Rattle.client_kinds.specs.Standings.{Standing}
-use Rattle.client_benches.specs.Seen.{Remembered as Kept, Seen, cleared}
+use Rattle.client_benches.specs.Seen.{Remembered as Kept, Seen, cleared, new_bench}
 use Rattle.bench_rack.specs.Racks.{Racked, bench_at}
 use Rattle.driver_laws.specs.Drivers.{Remembered}
 use Rattle.client_seats.specs.Owners.{Owned, owner_at}
-use Rattle.client_seats.specs.Seatings.{AreApart, HasBench, HasNoPast, IsNobodys, IsSeating, kind_at, memory_of, standing_at}
+use Rattle.client_seats.specs.Moves.{LostGuest, kinds_of}
+use Rattle.owner_laws.specs.Known.{SeatsPlan}
+use Rattle.client_seats.specs.Seatings.{AreApart, HasBench, HasNoPast, HavePeriod, IsNobodys, IsSeating, kind_at, memory_of, standing_at}
 use Rattle.client_seats.proofs.MemoryLemmas.{found_past, memory-owned, owned_or_not}
 use Rattle.client_seats.proofs.PlayLemmas.{IsSeating-played}
 use Rattle.client_seats.proofs.SeatLemmas.{bench-within}
+use Rattle.stage_laws.proofs.GoingLemmas.{memory-same}
 use Rattle.stage_laws.proofs.WholeLemmas.{same-bench-of}
 
 some_is : {X : Type 0} {a b : X} → Some a ≡ Some b → a ≡ b
@@ -122,3 +131,89 @@ module _ (nodes : List OpenClient) (rack after : Racked) (owned owned_after : Ow
       go : (memory : Option Memory) → memory_of rack owned birth ≡ memory → memory_of after owned_after birth ≡ memory_of rack owned birth
       go None e = now e (memory_of after owned_after birth) refl ∙ sym e
       go (Some memory) e = kept birth memory e ∙ sym e
+
+-- ---- benches of the same standings
+
+pub standings-cleared : (rack clear : Racked) (count : ℕ) → ((p : ℕ) → p < count → bench_at clear p ≡ cleared (bench_at rack p)) → ((p : ℕ) → count ≤ p → bench_at clear p ≡ bench_at rack p) → (p : ℕ) → standing_at clear p ≡ standing_at rack p
+standings-cleared rack clear count is_cleared others p = (cleared-same rack clear count is_cleared others p).0
+
+pub kinds-same : (rack after : Racked) → length after.benches ≡ length rack.benches → ((p : ℕ) → standing_at after p ≡ standing_at rack p) → kinds_of after ≡ kinds_of rack
+kinds-same rack after lengths same = ext_get_or Pass (kinds_of after) (kinds_of rack)
+    (length-map after.benches kind_of ∙ lengths ∙ sym (length-map rack.benches kind_of))
+    (λ i h. get_or-map kind_of after.benches i (new_bench Pass 0) ∙ ap (λ (s : Standing). s.kind) (same i) ∙ sym (get_or-map kind_of rack.benches i (new_bench Pass 0)))
+  where
+    kind_of : Seen → Kind
+    kind_of bench = bench.kept.standing.kind
+
+-- where the owners behind a seating come from, and those who lost their guests
+abbrev OwnersFrom : List OpenClient → Racked → Owned → Racked → Owned → Type 0
+OwnersFrom nodes rack owned after owned_after = (p birth : ℕ) → owner_at owned_after p ≡ Some birth
+    → ((q : ℕ) × (owner_at owned q ≡ Some birth) × (kind_at after p ≡ kind_at rack q)) ⊎ ((n : ℕ) × (n < length nodes) × ((node_at nodes n).birth ≡ birth) × (kind_at after p ≡ (node_at nodes n).kind))
+
+abbrev LostFrom : List OpenClient → Racked → Owned → Owned → Type 0
+LostFrom nodes rack owned owned_after = (kept : Remembered) → Contains owned_after.past kept → Contains owned.past kept ⊎ LostGuest nodes rack owned kept.birth
+
+-- benches are cleared, seated, and set, which changes no standing but that of the seated
+module _ (rack clear seated after : Racked) (owned owned_after : Owned) (nodes : List OpenClient)
+    (clear_lengths : length clear.benches ≡ length rack.benches) (after_lengths : length after.benches ≡ length seated.benches)
+    (clear_same : (p : ℕ) → standing_at clear p ≡ standing_at rack p) (after_same : (p : ℕ) → standing_at after p ≡ standing_at seated p) where
+  kind-clear : (p : ℕ) → kind_at clear p ≡ kind_at rack p
+  kind-clear p = ap (λ (s : Standing). s.kind) (clear_same p)
+
+  kind-after : (p : ℕ) → kind_at after p ≡ kind_at seated p
+  kind-after p = ap (λ (s : Standing). s.kind) (after_same p)
+
+  owners-cast : OwnersFrom nodes clear owned seated owned_after → OwnersFrom nodes rack owned after owned_after
+  owners-cast owners p birth e = go (owners p birth e)
+    where
+      go : ((q : ℕ) × (owner_at owned q ≡ Some birth) × (kind_at seated p ≡ kind_at clear q)) ⊎ ((n : ℕ) × (n < length nodes) × ((node_at nodes n).birth ≡ birth) × (kind_at seated p ≡ (node_at nodes n).kind))
+          → ((q : ℕ) × (owner_at owned q ≡ Some birth) × (kind_at after p ≡ kind_at rack q)) ⊎ ((n : ℕ) × (n < length nodes) × ((node_at nodes n).birth ≡ birth) × (kind_at after p ≡ (node_at nodes n).kind))
+      go (inl o) = inl (o.0, o.1, kind-after p ∙ o.2 ∙ kind-clear o.0)
+      go (inr o) = inr (o.0, o.1, o.2, kind-after p ∙ o.3)
+
+  lost-cast : LostFrom nodes clear owned owned_after → LostFrom nodes rack owned owned_after
+  lost-cast lost kept m = go (lost kept m)
+    where
+      go : Contains owned.past kept ⊎ LostGuest nodes clear owned kept.birth → Contains owned.past kept ⊎ LostGuest nodes rack owned kept.birth
+      go (inl o) = inl o
+      go (inr o) = inr (record {
+        place = o.place;
+        guest = o.guest;
+        n = o.n;
+        owner = o.owner;
+        kind = sym (kind-clear o.place) ∙ o.kind;
+        node = o.node;
+        node_kind = o.node_kind;
+        none = o.none;
+      })
+
+  pub seats-cast : (plan : Planned) → nodes ≡ open_clients plan.nodes → OwnersFrom nodes clear owned seated owned_after → LostFrom nodes clear owned owned_after → SeatsPlan plan rack owned after owned_after
+  seats-cast plan are owners lost = record {
+    owners = subst (λ ns. OwnersFrom ns rack owned after owned_after) are (owners-cast owners);
+    lost = subst (λ ns. LostFrom ns rack owned owned_after) are (lost-cast lost);
+  }
+
+  pub kinds-cast : IsPermutation (kinds_of clear) (kinds_of seated) → IsPermutation (kinds_of rack) (kinds_of after)
+  kinds-cast moved = subst (λ ks. IsPermutation ks (kinds_of after)) (kinds-same rack clear clear_lengths clear_same) (subst (IsPermutation (kinds_of clear)) (sym (kinds-same seated after after_lengths after_same)) moved)
+
+  pub periods-cast : ((period : ℕ) → HavePeriod clear period → HavePeriod seated period) → (period : ℕ) → HavePeriod rack period → HavePeriod after period
+  periods-cast kept period have p h =
+      ap (λ (s : Standing). s.period) (after_same p)
+      ∙ kept period (λ q k. ap (λ (s : Standing). s.period) (clear_same q) ∙ have q (omega (arith, k, clear_lengths))) p (omega (arith, h, after_lengths))
+
+  pub memories-cast : IsSeating rack owned → IsSeating seated owned_after → ((birth : ℕ) (memory : Memory) → memory_of clear owned birth ≡ Some memory → memory_of seated owned_after birth ≡ Some memory)
+      → (birth : ℕ) (memory : Memory) → memory_of rack owned birth ≡ Some memory → memory_of after owned_after birth ≡ Some memory
+  memories-cast seating seated_seating kept birth memory e =
+      memory-same seated after owned_after seated_seating (seating-same seated after owned_after seated_seating after_lengths after_same) after_same birth
+      ∙ kept birth memory (memory-same rack clear owned seating (seating-same rack clear owned seating clear_lengths clear_same) clear_same birth ∙ e)
+
+pub unfed-cast : (plan : Planned) (ns : List Client) → ns ≡ plan.nodes → (rack clear seated : Racked) (owned owned_after : Owned) → IsSeating rack owned → IsSeating seated owned_after → length clear.benches ≡ length rack.benches
+    → ((p : ℕ) → standing_at clear p ≡ standing_at rack p) → HasNoPast (open_clients plan.nodes) owned
+    → ((birth : ℕ) (memory : Memory) → memory_of clear owned birth ≡ Some memory → memory_of seated owned_after birth ≡ Some memory)
+    → ((birth : ℕ) (memory : Memory) → memory_of clear owned birth ≡ None → memory_of seated owned_after birth ≡ Some memory
+    → (n : ℕ) × (n < length (open_clients ns)) × ((node_at (open_clients ns) n).birth ≡ birth) × (memory ≡ first owned.scores (node_at (open_clients ns) n).kind))
+    → ((p q birth : ℕ) → owner_at owned p ≡ Some birth → owner_at owned_after q ≡ Some birth → (bench_at seated q).kept ≡ (bench_at clear p).kept)
+    → OwnersFrom (open_clients ns) clear owned seated owned_after → ((p : ℕ) → (standing_at rack p).memory.fed ≡ []) → (p : ℕ) → (standing_at seated p).memory.fed ≡ []
+unfed-cast plan ns are rack clear seated owned owned_after seating seated_seating lengths same no_past kept fresh same_bench owners unfed p =
+    fed-seated (open_clients ns) clear seated owned owned_after (seating-same rack clear owned seating lengths same) seated_seating (subst (λ (xs : List Client). HasNoPast (open_clients xs) owned) (sym are) no_past)
+    kept fresh same_bench owners (λ q. ap (λ (s : Standing). s.memory.fed) (same q) ∙ unfed q) p

@@ -1,2 +1,7 @@
 mod CastLemmas
 mod PerformLemmas
+mod TurnLemmas
+mod PlayLemmas
+mod OpeningLemmas
+mod InsideLemmas
+mod StageLemmas

@@ -12,12 +12,10 @@ use Rattle.bench_rack.specs.Racks.{Racked, bench_at}
 use Rattle.client_tasks.specs.Fillings.{AreJoints}
 use Rattle.client_tasks.specs.Tasks.{AreSet, HasRooms}
 use Rattle.client_seats.specs.Owners.{Owned, owner_at}
-use Rattle.client_seats.specs.Seatings.{HasBench, HavePeriod, IsNobodys, memory_of, standing_at}
+use Rattle.client_seats.specs.Seatings.{HasBench, IsNobodys, memory_of, standing_at}
 
 -- `Casts` of `stage_laws`, over the rack and its owners alone
 pub record HasCast (rack : Racked) (owned : Owned) (after : Racked) (owned_after : Owned) (plan : Planned) (moment : Moment) (period : ℕ) : Type 0 where
-  pub periods : (room : ℕ) → HavePeriod rack room → HavePeriod after room
-  pub unfed : (p : ℕ) → (standing_at after p).memory.fed ≡ []
   pub idle : (p : ℕ) → length plan.nodes ≤ p → cleared (bench_at after p) ≡ bench_at after p
   pub has : (n : ℕ) → n < length plan.nodes → HasBench (open_clients plan.nodes) after owned_after n n
   pub set : AreSet (wired_of plan) plan.links moment period (λ i. []) (length plan.nodes) after

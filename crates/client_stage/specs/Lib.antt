@@ -1,1 +1,3 @@
 pub mod Casting
+pub mod Standing
+pub mod Insides

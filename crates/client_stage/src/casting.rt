@@ -1,11 +1,15 @@
 //! How the clients of a plan get their benches, and what they do is set.
 
-ghost use Rattle.std.specs.Prelude.{◌≡◌, ◌<◌, ◌≤◌, ◌+◌, ◌^◌, ℕ, [], IsFalse, IsTrue, length};
+ghost use Rattle.std.specs.Prelude.{◌≡◌, ◌<◌, ◌≤◌, ◌+◌, ◌^◌, ℕ, [], IsFalse, IsTrue, Some, length};
+ghost use Rattle.std.specs.List.Sorted.{IsPermutation};
+ghost use Rattle.session_model.specs.Kinds.{Memory as MemoryValue};
 ghost use Rattle.port_registry.specs.Registered.{open_clients};
 ghost use Rattle.client_benches.specs.Seen.{cleared};
 ghost use Rattle.client_wiring.specs.Wirings.{wired_of};
 ghost use Rattle.bench_rack.specs.Racks.{bench_at};
-ghost use Rattle.client_seats.specs.Seatings.{HasNoPast, HavePeriod, IsIdle, IsRefused, IsSeating, standing_at};
+ghost use Rattle.client_seats.specs.Moves.{kinds_of};
+ghost use Rattle.client_seats.specs.Seatings.{HasNoPast, HavePeriod, IsIdle, IsRefused, IsSeating, memory_of, standing_at};
+ghost use Rattle.owner_laws.specs.Known.{SeatsPlan};
 ghost use Rattle.client_stage.specs.Casting.{HasCast};
 
 use bench_rack::Rack;
@@ -17,7 +21,8 @@ use cycle_plan::Plan;
 use jack_types::Moment;
 
 /// Gives each client of a plan its bench, at its node's place, and sets what it does in the next cycle. The first `count`
-/// benches played last. Answers whether each client has a bench; where one can have none, all benches are idle.
+/// benches played last. Answers whether each client has a bench; where one can have none, all benches are idle, and whoever
+/// had a memory has it yet.
 pub fn cast<G: Guest>(
     rack: &mut Rack<G>,
     owners: &mut Owners<G>,
@@ -40,6 +45,11 @@ pub fn cast<G: Guest>(
     ensures refused { IsFalse result → IsIdle rack.new × IsRefused (open_clients plan.now.nodes) rack.new owners.new }
     ensures cast { IsTrue result → HasCast rack.old owners.old rack.new owners.new plan.now moment.now period }
     ensures seating { IsSeating rack.new owners.new }
+    ensures seats { SeatsPlan plan.now rack.old owners.old rack.new owners.new }
+    ensures kinds { IsPermutation (kinds_of rack.old) (kinds_of rack.new) }
+    ensures periods { (room : ℕ) → HavePeriod rack.old room → HavePeriod rack.new room }
+    ensures unfed { (p : ℕ) → (standing_at rack.new p).memory.fed ≡ [] }
+    ensures kept { (birth : ℕ) (memory : MemoryValue) → memory_of rack.old owners.old birth ≡ Some memory → memory_of rack.new owners.new birth ≡ Some memory }
     ensures scores { owners.new.scores ≡ owners.old.scores }
     ensures lengths { length rack.new.benches ≡ length rack.old.benches }
     ensures links { rack.new.links ≡ rack.old.links }

@@ -1,6 +1,6 @@
 //! A cycle's performance: what is known before the clients play is filled in, and the crew plays.
 
-ghost use Rattle.std.specs.Prelude.{◌≡◌, ◌<◌, ◌≤◌, ℕ, List, None, ℤ, length};
+ghost use Rattle.std.specs.Prelude.{◌≡◌, ◌<◌, ◌≤◌, [], ℕ, List, None, ℤ, length};
 ghost use Rattle.jack_types.specs.declared.moments.Moment.{Moment as MomentValue};
 ghost use Rattle.session_model.specs.Samples.{silence as silent};
 ghost use Rattle.client_wiring.specs.Wirings.{wired_of};
@@ -47,6 +47,7 @@ pub fn perform<G: Guest + Send, S: Source, T: Threads + Sync, K: Gate>(
     ensures performed { (cast : Staged) (moment : MomentValue) (period : ℕ) (sources : ℕ → List ℤ) → cast.racked ≡ rack.old → silence.now ≡ silent period
         → AreSet (wired_of plan.now) plan.now.links moment period sources (length plan.now.nodes) rack.old → ((p : ℕ) → length plan.now.nodes ≤ p → (bench_at rack.old p).kept.turn ≡ None)
         → (filled : Racked) × Fills cast plan.now moment period capture.now.channels places.now filled × Performs filled plan.now ensemble.old.nodes rack.new }
+    ensures others { (p : ℕ) → ensemble.old.nodes ≤ p → (bench_at rack.old p).kept.wires ≡ [] → bench_at rack.new p ≡ bench_at rack.old p }
     ensures rooms { HasRooms plan.now.links rack.new }
     ensures links { rack.new.links ≡ rack.old.links }
 {

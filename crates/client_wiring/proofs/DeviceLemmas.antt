@@ -1,5 +1,6 @@
 -- The device's ports stay as they were.
 --     playback_ports      the audio inputs of `system` are the playback ports
+--     capture_ports      its audio outputs are the capture ports
 use Rattle.std.proofs.Common.{◌≡◌, ℕ, zero, suc, Bool, true, false, cond, not, ◌&&◌, List, [], ◌∷◌, ◌++◌, map, filter, find, is_none, refl, sym, ◌∙◌, ap, true≢false, append-nil}
 use Rattle.std.specs.Str.{bytes_eq}
 use Rattle.std.proofs.lemmas.List.{map-append}
@@ -10,7 +11,7 @@ use Rattle.jack_types.specs.declared.commands.Command.{Command}
 use Rattle.jack_types.specs.declared.commands.Command.TheVariants.{Open, Close, Activate, Deactivate, Register, Unregister, Connect, Disconnect, Start, Stop, Locate, Timeout, Slow, Timebase, TimebaseIf, Release, Latency}
 use Rattle.jack_types.specs.declared.replies.Refusal.TheVariants.{NoClient, NoPort, IsSystem, NameTaken, PortsFull}
 use Rattle.session_model.specs.Commands.{after, applies, effect, is_audio, is_input, ports_of, refusal, refusals_of, replay}
-use Rattle.session_model.specs.Cycles.{audio_inputs}
+use Rattle.session_model.specs.Cycles.{audio_inputs, audio_outputs}
 use Rattle.session_model.specs.Samples.{below}
 use Rattle.session_model.specs.State.{OpenPort, State, capture_port, is_system, opening, playback_port, system_name}
 use Rattle.session_laws.proofs.CycleLemmas.{bytes_same}
@@ -118,3 +119,18 @@ playback_ports capture playback changes =
   where
     inputs : OpenPort → Bool
     inputs port = is_audio port && is_input port
+
+pub capture_ports : (capture playback : ℕ) (changes : List Change) → audio_outputs (replay (opening capture playback) changes) system_name ≡ map capture_port (below capture)
+capture_ports capture playback changes =
+    ap (filter outputs)
+    (devices-replay (opening capture playback) changes
+    ∙ filter-append is_device (map capture_port (below capture)) (map playback_port (below playback))
+    ∙ ap (λ l. l ++ filter is_device (map playback_port (below playback))) (filter-all_made is_device capture_port capture (λ i. refl))
+    ∙ ap (λ l. map capture_port (below capture) ++ l) (filter-all_made is_device playback_port playback (λ i. refl)))
+    ∙ filter-append outputs (map capture_port (below capture)) (map playback_port (below playback))
+    ∙ ap (λ l. filter outputs (map capture_port (below capture)) ++ l) (filter-none_made outputs playback_port playback (λ i. refl))
+    ∙ append-nil (filter outputs (map capture_port (below capture)))
+    ∙ filter-all_made outputs capture_port capture (λ i. refl)
+  where
+    outputs : OpenPort → Bool
+    outputs port = is_audio port && not (is_input port)

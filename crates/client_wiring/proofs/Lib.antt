@@ -1,10 +1,10 @@
-mod DeviceLemmas
+pub mod DeviceLemmas
 mod EndLemmas
 mod FollowLemmas
 mod KeptLemmas
 mod LinkLemmas
 mod ListLemmas
 mod NameLemmas
-mod OverLemmas
+pub mod OverLemmas
 pub mod PlaybackLemmas
 pub mod TaskLemmas

@@ -2,7 +2,7 @@
 --     a_cycle      it is a whole cycle, in the driver's own terms
 --     a_course, a_kept      a course fits behind it, and is kept
 --     a_playback      its playback gets the capture's first samples
-use Rattle.std.proofs.Common.{◌≡◌, ℕ, zero, suc, false, ◌==◌, ◌⊎◌, inl, inr, List, [], ◌∷◌, take, slice_get, get_or, All, Contains, ℤ, pos, codes, Some, None, refl, sym, ◌∙◌, ap, subst, arith, true≢false}
+use Rattle.std.proofs.Common.{◌≡◌, ℕ, zero, suc, false, ◌==◌, ◌⊎◌, inl, inr, List, [], ◌∷◌, drop, take, slice_get, get_or, All, Contains, ℤ, pos, codes, Some, None, Option, option_map, refl, sym, ◌∙◌, ap, subst, arith, true≢false}
 use Rattle.std.specs.Fmt.{digits}
 use Rattle.std.specs.List.{list_any}
 use Rattle.std.proofs.lemmas.List.{get_or_past}
@@ -128,7 +128,7 @@ module _ (table : TableId) where
     underruns = [];
     more_underruns = refl;
     underruns_now = λ k d h. absurd (none_below h);
-    left = refl;
+    left = λ left told. ap (λ (left : Option (List ℤ)). option_map (drop 4) left) told;
     own_rows = record { cycles = refl; numbers = refl; last = refl; place = refl; base = refl };
     own_rings = record { recorders = refl; disks = refl; puts = refl; gets = refl; own = λ recorder ring here. absurd (none-some ring here) };
     script = refl;

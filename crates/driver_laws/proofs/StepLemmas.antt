@@ -3,7 +3,7 @@
 --     graph-of_row      the graph of the cycle is that of the content that its row took
 --     Keeps-next      from the facts of one cycle
 --     KeepsBut-next      where the playback failed
-use Rattle.std.proofs.Common.{◌≡◌, ℕ, suc, ◌+◌, ◌*◌, Bool, true, false, List, [], ◌∷◌, ◌++◌, length, map, take, drop, slice_get, Some, None, Option, option_map, refl, sym, ◌∙◌, ap, subst, arith}
+use Rattle.std.proofs.Common.{◌≡◌, ℕ, suc, ◌+◌, ◌*◌, Bool, true, false, List, [], ◌∷◌, ◌++◌, length, map, take, drop, slice_get, Some, None, Option, refl, sym, ◌∙◌, ap, subst, arith}
 use Rattle.std.proofs.lemmas.List.{length_push, length-map}
 use Rattle.std.proofs.lemmas.Option.{slice_get_within}
 use Rattle.session_model.specs.Benches.{IsPlan}
@@ -106,9 +106,8 @@ module _ (driver after : Driver) (steps : StepsOnce driver after) where
 
       left_kept : after.left ≡ Some (drop (frames_before course (suc (run driver) + 1) * course.script.header.capture) course.capture)
       left_kept =
-          steps.left
-          ∙ ap (λ (s : Script). option_map (drop (frames_read (turn_of s (run driver + 1)) * s.header.capture)) driver.left) (sym script-same)
-          ∙ ap (option_map (drop (frames_read (turn course (run driver + 1)) * course.script.header.capture))) keeps.left
+          steps.left (drop (frames_before course (run driver + 1) * course.script.header.capture) course.capture) keeps.left
+          ∙ ap (λ (s : Script). Some (drop (frames_read (turn_of s (run driver + 1)) * s.header.capture) (drop (frames_before course (run driver + 1) * course.script.header.capture) course.capture))) (sym script-same)
           ∙ ap (λ samples. Some samples) (left-next course (run driver) course.script.header.capture)
 
       driven_kept : IsDriven course (suc (run driver)) after.nodes (bench_at after) (memory_in after)

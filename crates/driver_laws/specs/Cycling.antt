@@ -7,7 +7,7 @@
 --     CyclesOnce, CyclesMany      one cycle, and many
 --     FailsAtRead, FailsAtWrite      a cycle that failed
 --     HasMetOthers driver after      its lent ends met others
-use Rattle.std.specs.Prelude.{◌≡◌, ℕ, zero, suc, ◌+◌, ◌*◌, ◌≤◌, ◌<◌, Bool, true, false, List, [], ◌∷◌, ◌++◌, length, drop, slice_get, All, ℤ, Some, None, option_map}
+use Rattle.std.specs.Prelude.{◌≡◌, ℕ, zero, suc, ◌+◌, ◌*◌, ◌≤◌, ◌<◌, Bool, true, false, List, [], ◌∷◌, ◌++◌, length, drop, slice_get, All, ℤ, Some, None}
 use Rattle.jack_types.specs.declared.ports.Link.{Link}
 use Rattle.jack_types.specs.declared.replies.Overrun.{Overrun}
 use Rattle.jack_types.specs.declared.replies.Underrun.{Underrun}
@@ -53,7 +53,7 @@ pub data GetsOne (k disk : ℕ) (active : Bool) (before after : Getting) (misses
   Missed : (one : RingBlock) (found : ℕ) → active ≡ true → Gets before after one found (Empty found found)
       → misses_after ≡ misses ++ record { disk = disk; cycle = k; sent = found; taken = found } ∷ [] → GetsOne k disk active before after misses misses_after
 
--- what a cycle appends, in the driver's own terms: one take and one row; at each ring what `PutsOne` or `GetsOne` says; overruns and underruns of this cycle alone; the capture's next frames only in a `run` cycle
+-- what a cycle appends, in the driver's own terms: one take and one row; at each ring what `PutsOne` or `GetsOne` says; overruns and underruns of this cycle alone; the capture's next frames only in a `run` cycle, where it tells them
 pub record StepsOnce (driver after : Driver) : Type 0 where
   pub taken : Reading
   pub number : ℕ
@@ -72,7 +72,7 @@ pub record StepsOnce (driver after : Driver) : Type 0 where
   pub underruns : List Underrun
   pub more_underruns : after.underruns ≡ driver.underruns ++ underruns
   pub underruns_now : All (λ (underrun : Underrun). (underrun.cycle ≡ run driver + 1) × (underrun.disk < length driver.disks)) underruns
-  pub left : after.left ≡ option_map (drop (frames_read (turn_of driver.script (run driver + 1)) * driver.script.header.capture)) driver.left
+  pub left : (left : List ℤ) → driver.left ≡ Some left → after.left ≡ Some (drop (frames_read (turn_of driver.script (run driver + 1)) * driver.script.header.capture) left)
   pub own_rows : HasOwnRows after
   pub own_rings : HasOwnRings after
   pub script : after.script ≡ driver.script

@@ -1,7 +1,7 @@
 -- What the wiring of a plan names is there.
 --     given-within      an output that a node gives is one of its client's
 --     captured-within      a captured channel is one of the device's
-use Rattle.std.proofs.Common.{◌≡◌, ℕ, ◌<◌, Bool, true, false, not, ◌&&◌, List, length, get_or, Option, Some, None, refl, sym, ◌∙◌, ap, subst}
+use Rattle.std.proofs.Common.{◌≡◌, ℕ, ◌<◌, Bool, true, false, List, length, get_or, Option, Some, None, refl, sym, ◌∙◌, ap, subst}
 use Rattle.std.specs.List.{Contains}
 use Rattle.std.specs.Str.{bytes_eq}
 use Rattle.std.proofs.lemmas.List.{get_or-map, get_or_default}
@@ -10,14 +10,11 @@ use Rattle.jack_types.specs.Names.{client_part}
 use Rattle.jack_types.specs.declared.ports.Mark.{Mark}
 use Rattle.jack_types.specs.declared.ports.Mark.TheVariants.{Direct, Feedback}
 use Rattle.session_model.specs.Benches.{node_at, place_in, port_place}
-use Rattle.session_model.specs.Courses.{players}
 use Rattle.session_model.specs.Cycles.{audio_inputs, audio_outputs, midi_outputs}
 use Rattle.session_model.specs.Soundness.{IsEnd}
-use Rattle.session_model.specs.State.{Connection, OpenClient, OpenPort, State, capture_port, is_system, system_client, system_name}
+use Rattle.session_model.specs.State.{Connection, OpenClient, OpenPort, State, capture_port, system_client, system_name}
 use Rattle.session_laws.proofs.CycleLemmas.{bytes_same}
 use Rattle.session_laws.proofs.GraphLemmas.{route-audio}
-use Rattle.session_laws.proofs.LoopLemmas.{and_true}
-use Rattle.session_laws.proofs.PlaceLemmas.{filter-keeps, position-found}
 use Rattle.session_laws.proofs.ListLemmas.{Each-all, Each-contains, Each-from_contains}
 use Rattle.port_registry.specs.Registered.{open_clients}
 use Rattle.cycle_plan.specs.Plans.{IsPlanned, Planned, state_of_plan}
@@ -26,11 +23,11 @@ use Rattle.client_wiring.specs.declared.joints.Joint.{Joint}
 use Rattle.client_wiring.specs.declared.joints.Origin.TheVariants.{Captured}
 use Rattle.client_wiring.specs.declared.joints.Widths.{Widths}
 use Rattle.client_wiring.specs.Wirings.{given_by, given_of, joint_into, joint_of, origin_from, source_place, widths_of, wired_of}
+use Rattle.client_wiring.proofs.OverLemmas.{device_of_none, name-of_place}
 use Rattle.client_wiring.proofs.PlaybackLemmas.{inside-plan, sound-plan, wired-plan}
 use Rattle.client_wiring.proofs.TaskLemmas.{edge-sound, input-listed, input-sound, place-index}
 use Rattle.client_tasks.specs.Tasks.{widths_at}
 use Rattle.task_laws.proofs.CallLemmas.{each-filter_map}
-use lib.Pointwise.{bytes_decides}
 
 module _ (plan : Planned) (planned : IsPlanned plan) where
   abbrev state : State
@@ -38,27 +35,6 @@ module _ (plan : Planned) (planned : IsPlanned plan) where
 
   abbrev nodes : List OpenClient
   nodes = open_clients plan.nodes
-
-  name-of_place : (name : List ℕ) (a : ℕ) → place_in nodes name ≡ Some a → (a < length nodes) × ((node_at nodes a).name ≡ name)
-  name-of_place name a e =
-      let w = position-Some (λ (client : OpenClient). bytes_eq client.name name) nodes a system_client e in
-      (w.0, bytes_same (node_at nodes a).name name w.1)
-
-  -- an end of a connection that is of no node is the device's
-  device_of_none : (name : List ℕ) → IsEnd state false true name → place_in nodes (client_part name) ≡ None → is_system (client_part name) ≡ true
-  device_of_none name end none = go (is_system (client_part name)) refl
-    where
-      nowhere : {i : ℕ} → None ≡ Some i → ⊥
-      nowhere f = cc
-
-      go : (b : Bool) → is_system (client_part name) ≡ b → is_system (client_part name) ≡ true
-      go true e = e
-      go false e =
-          let player : Contains (players state) end.client =
-          filter-keeps (λ (client : OpenClient). client.active && not (is_system client.name)) state.clients end.client end.open_client
-          (and_true end.client.active (not (is_system end.client.name)) end.active (ap not (ap is_system end.client_is ∙ e))) in
-          let found = position-found (λ (client : OpenClient). bytes_eq client.name (client_part name)) nodes end.client (planned.is_plan.every end.client player) ((bytes_decides end.client.name (client_part name)).1 end.client_is) in
-          absurd (nowhere (sym none ∙ found))
 
   abbrev IsWithin : Given → Type 0
   IsWithin given = given.output < (widths_at (wired_of plan) given.node).outputs
@@ -78,7 +54,7 @@ module _ (plan : Planned) (planned : IsPlanned plan) where
           low = (position-Some (λ (p : OpenPort). bytes_eq p.name port.name) (audio_outputs state (client_part port.name)) i port f).0
 
           named : (n < length nodes) × ((node_at nodes n).name ≡ client_part port.name)
-          named = name-of_place (client_part port.name) n e
+          named = name-of_place state nodes plan.links planned.is_plan (client_part port.name) n e
 
           widths : (widths_at (wired_of plan) n).outputs ≡ length (audio_outputs state (client_part port.name))
           widths = ap (λ (w : Widths). w.outputs) (get_or-map (widths_of state) nodes n system_client (record { inputs = 0; outputs = 0 }) named.0) ∙ ap (λ name. length (audio_outputs state name)) named.1
@@ -104,7 +80,7 @@ module _ (plan : Planned) (planned : IsPlanned plan) where
       place = place-index (λ (port : OpenPort). bytes_eq port.name edge.source) (audio_outputs state (client_part edge.source)) told.0.0 told.0.2
 
       device : client_part edge.source ≡ system_name
-      device = bytes_same (client_part edge.source) system_name (device_of_none edge.source end none)
+      device = bytes_same (client_part edge.source) system_name (device_of_none state nodes plan.links planned.is_plan false true edge.source end none)
 
   by-origin : (n : ℕ) (edge : Connection) → IsEnd state false true edge.source → (mark : Mark) (source : Option ℕ) → place_in nodes (client_part edge.source) ≡ source
       → (channel : ℕ) → origin_from state nodes plan.links n edge mark source ≡ Captured channel → channel < channels

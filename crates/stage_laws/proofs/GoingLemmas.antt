@@ -2,7 +2,7 @@
 --     memory-same      benches of the same standings are of the same memories
 --     same-nodes, same-links, same-wiring      plans of one content are one but for ids
 --     casts-on      its clients were cast
-use Rattle.std.proofs.Common.{◌≡◌, ℕ, ◌<◌, ◌≤◌, ◌⊎◌, inl, inr, [], length, map, Some, sym, ◌∙◌, ap, ap₂, subst, arith}
+use Rattle.std.proofs.Common.{◌≡◌, ℕ, ◌<◌, ◌≤◌, ◌⊎◌, inl, inr, [], length, map, None, Some, sym, ◌∙◌, ap, ap₂, subst, arith}
 use Rattle.std.specs.Prelude.{option_map}
 use Rattle.std.proofs.lemmas.Bool.{cases_lt}
 use Rattle.std.proofs.lemmas.List.{length-map}
@@ -13,7 +13,7 @@ use Rattle.session_model.specs.Commands.{replay}
 use Rattle.port_registry.specs.Registered.{open_client, open_clients}
 use Rattle.cycle_plan.specs.Plans.{IsPlanned, Planned, links_of, nodes_of, opening_of, state_of_plan}
 use Rattle.client_kinds.specs.Standings.{HasGuest, Standing}
-use Rattle.client_benches.specs.Seen.{Seen, cleared, has_room_at, moved_to}
+use Rattle.client_benches.specs.Seen.{Seen, has_room_at, moved_to}
 use Rattle.client_wiring.specs.Wirings.{Wired, wired, wired_of}
 use Rattle.bench_rack.specs.Racks.{Racked, bench_at}
 use Rattle.client_tasks.specs.Fillings.{AreJoints, last_place}
@@ -23,7 +23,6 @@ use Rattle.client_seats.specs.Seatings.{HasBench, HavePeriod, IsNobodys, IsSeati
 use Rattle.client_seats.proofs.MemoryLemmas.{found_past, memory-owned, owned_or_not}
 use Rattle.client_seats.proofs.PlayLemmas.{IsSeating-played}
 use Rattle.driver_laws.specs.Drivers.{Remembered}
-use Rattle.task_laws.specs.Calls.{IsOldKind}
 use Rattle.stage_laws.specs.Casts.{Casts, GoesOnIn}
 use Rattle.stage_laws.specs.Stages.{IsStaffed, Staged}
 use Rattle.stage_laws.proofs.WholeLemmas.{same-bench-of}
@@ -55,8 +54,7 @@ module _ (last plan : Planned) (planned_last : IsPlanned last) (planned : IsPlan
   as-many = sym (length-map plan.nodes open_client) ∙ ap length same-nodes ∙ length-map last.nodes open_client
 
   module _ (old new : Staged) (moment : Moment) (period : ℕ) (wiring : old.wiring ≡ wired_of last) (seating : IsSeating old.racked old.owned) (periods : HavePeriod old.racked old.room)
-      (unfed : (p : ℕ) → (standing_at old.racked p).memory.fed ≡ []) (idle : (p : ℕ) → length last.nodes ≤ p → cleared (bench_at old.racked p) ≡ bench_at old.racked p)
-      (plain : (n : ℕ) → n < length plan.nodes → IsOldKind (node_at (open_clients plan.nodes) n).kind) (joints : AreJoints (length plan.nodes) old.wiring.joints)
+      (unfed : (p : ℕ) → (standing_at old.racked p).memory.fed ≡ []) (idle : (p : ℕ) → length last.nodes ≤ p → (bench_at old.racked p).kept.turn ≡ None)
       (staffed : IsStaffed old last) (goes : GoesOnIn old last moment period new) where
     standings : (p : ℕ) → standing_at new.racked p ≡ standing_at old.racked p
     standings p = go (cases_lt p (length last.nodes))
@@ -120,15 +118,13 @@ module _ (last plan : Planned) (planned_last : IsPlanned last) (planned : IsPlan
       wiring = wiring-new ∙ wiring ∙ sym same-wiring;
       seating = subst (λ o. IsSeating new.racked o) (sym owned) seating-new;
       periods = λ p h. ap (λ (s : Standing). s.period) (standings p) ∙ periods p (omega (arith, h, goes.lengths)) ∙ sym room;
-      plain = plain;
       unfed = λ p. ap (λ (s : Standing). s.memory.fed) (standings p) ∙ unfed p;
-      idle = λ p h. let low : length last.nodes ≤ p = omega (arith, h, many) in subst (λ (b : Seen). cleared b ≡ b) (sym (goes.others p low)) (idle p low);
-      nodes = ap open_clients nodes-new ∙ staffed.nodes ∙ sym same-nodes;
+      idle = λ p h. let low : length last.nodes ≤ p = omega (arith, h, as-many) in ap (λ (b : Seen). b.kept.turn) (goes.others p low) ∙ idle p low;
       has = has-new;
       sources = staffed.sources;
       set = set-new;
       rooms = λ l h. rooms (link_at plan.links l).from (place_among plan.links l) ∙ subst (λ ls. HasRooms ls old.racked) (sym same-links) staffed.rooms l h;
-      joints = subst (λ (w : Wired). AreJoints (length plan.nodes) w.joints) (sym wiring-new) joints;
+      joints = subst (λ (w : Wired). AreJoints (length plan.nodes) w.joints) (sym wiring-new) (subst (λ n. AreJoints n old.wiring.joints) (sym as-many) staffed.joints);
       standings = λ n p h e. standings n ∙ ap (standing_at old.racked) (sym (one-place n p h e));
       audio = λ n p h e. audio n ∙ ap (λ q. (bench_at old.racked q).kept.audio) (sym (one-place n p h e));
       fresh = λ n h none. absurd (none n (has-old n h).owner);
@@ -144,9 +140,3 @@ module _ (last plan : Planned) (planned_last : IsPlanned last) (planned : IsPlan
       where
         room : new.room ≡ old.room
         room = ap (λ (s : Staged). s.room) goes.same
-
-        nodes-new : new.nodes ≡ old.nodes
-        nodes-new = ap (λ (s : Staged). s.nodes) goes.same
-
-        many : length new.nodes ≡ length last.nodes
-        many = ap length nodes-new ∙ sym (length-map old.nodes open_client) ∙ ap length staffed.nodes ∙ length-map last.nodes open_client

@@ -75,7 +75,7 @@ module _ (course : Course) (old : Staged) (last plan : Planned) (moment : Moment
     (crew : ℕ) (few : length plan.nodes ≤ crew)
     (played_is : (n : ℕ) → n < crew → (bench_at played n).kept ≡ sequential kept_after kept_gives plan.links (λ n. (bench_at filled n).kept) n)
     (played_other : (n : ℕ) → crew ≤ n → bench_at played n ≡ bench_at filled n)
-    (no_past : HasNoPast (open_clients plan.nodes) old.owned) (after_seating : IsSeating played cast.owned) (played_lengths : length played.benches ≡ length cast.racked.benches) where
+    (no_past : HasNoPast (open_clients plan.nodes) old.owned) (old_kinds : (n : ℕ) → n < length plan.nodes → IsOldKind (node_at (open_clients plan.nodes) n).kind) (after_seating : IsSeating played cast.owned) (played_lengths : length played.benches ≡ length cast.racked.benches) where
   abbrev nodes : List OpenClient
   nodes = open_clients plan.nodes
 
@@ -100,7 +100,7 @@ module _ (course : Course) (old : Staged) (last plan : Planned) (moment : Moment
   kind_is n h = ap (λ (s : Standing). s.kind) (same_standing n) ∙ (casts.has n h).kind
 
   no_player : (n list : ℕ) → n < length plan.nodes → (node_at nodes n).kind ≢ Midiplay list
-  no_player n list h e = subst (λ k. IsOldKind k) e (casts.plain n h)
+  no_player n list h e = subst (λ k. IsOldKind k) e (old_kinds n h)
 
   task_is : (n : ℕ) → n < length plan.nodes → (before n).task ≡ Some (task_of course at nodes plan.links n)
   task_is n h =

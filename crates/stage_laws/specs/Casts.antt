@@ -12,24 +12,21 @@ use Rattle.session_model.specs.Kinds.{first}
 use Rattle.session_model.specs.Samples.{silence}
 use Rattle.port_registry.specs.Registered.{open_clients}
 use Rattle.cycle_plan.specs.Plans.{Planned}
-use Rattle.client_benches.specs.Seen.{cleared, kept_after, kept_gives}
+use Rattle.client_benches.specs.Seen.{kept_after, kept_gives}
 use Rattle.client_wiring.specs.Wirings.{wired_of}
 use Rattle.bench_rack.specs.Racks.{Racked, bench_at, moved}
 use Rattle.client_tasks.specs.Fillings.{AreJoints, known_at, last_place}
 use Rattle.client_tasks.specs.Tasks.{AreSet, HasRooms}
 use Rattle.client_seats.specs.Owners.{owner_at}
 use Rattle.client_seats.specs.Seatings.{HasBench, HavePeriod, IsNobodys, IsSeating, memory_of, standing_at}
-use Rattle.task_laws.specs.Calls.{IsOldKind}
 use Rattle.stage_laws.specs.Stages.{Staged}
 
 pub record Casts (old : Staged) (last plan : Planned) (moment : Moment) (period : ℕ) (new : Staged) : Type 0 where
   pub wiring : new.wiring ≡ wired_of plan
   pub seating : IsSeating new.racked new.owned
   pub periods : HavePeriod new.racked new.room
-  pub plain : (n : ℕ) → n < length plan.nodes → IsOldKind (node_at (open_clients plan.nodes) n).kind
   pub unfed : (p : ℕ) → (standing_at new.racked p).memory.fed ≡ []
-  pub idle : (p : ℕ) → length new.nodes ≤ p → cleared (bench_at new.racked p) ≡ bench_at new.racked p
-  pub nodes : open_clients new.nodes ≡ open_clients plan.nodes
+  pub idle : (p : ℕ) → length plan.nodes ≤ p → (bench_at new.racked p).kept.turn ≡ None
   pub has : (n : ℕ) → n < length plan.nodes → HasBench (open_clients plan.nodes) new.racked new.owned n n
   pub sources : ℕ → List ℤ
   pub set : AreSet new.wiring plan.links moment period sources (length plan.nodes) new.racked
@@ -66,10 +63,10 @@ pub record Performs (filled : Racked) (plan : Planned) (crew : ℕ) (played : Ra
   pub others : (n : ℕ) → crew ≤ n → bench_at played n ≡ bench_at filled n
   pub lengths : length played.benches ≡ length filled.benches
 
--- the benches that played last are told the moment and the period of the next cycle, and nothing else changes but where kept outputs stand
+-- the benches that played last are told the moment and the period of the next cycle; else only where kept outputs stand changes, and whose nodes they are
 pub record GoesOnIn (old : Staged) (last : Planned) (moment : Moment) (period : ℕ) (new : Staged) : Type 0 where
   pub told : (n : ℕ) → n < length last.nodes → bench_at new.racked n ≡ moved moment period (bench_at old.racked n)
   pub others : (n : ℕ) → length last.nodes ≤ n → bench_at new.racked n ≡ bench_at old.racked n
   pub lengths : length new.racked.benches ≡ length old.racked.benches
   pub places : new.last ≡ map (last_place old.wiring.given) old.wiring.joints
-  pub same : new ≡ record old { racked = record old.racked { benches = new.racked.benches }; last = new.last; is_settled = new.is_settled }
+  pub same : new ≡ record old { racked = record old.racked { benches = new.racked.benches }; last = new.last; nodes = new.nodes }

@@ -11,13 +11,14 @@ use Rattle.cycle_plan.specs.Plans.{Planned}
 use Rattle.client_benches.specs.Seen.{bench_in}
 use Rattle.client_wiring.specs.Wirings.{Wired}
 use Rattle.bench_rack.specs.Racks.{Racked, bench_at}
+use Rattle.client_tasks.specs.Fillings.{AreJoints}
 use Rattle.client_tasks.specs.Tasks.{AreSet, HasRooms, widths_at}
 use Rattle.client_seats.specs.Owners.{Owned}
 use Rattle.client_seats.specs.Seatings.{HasBench}
 
 -- the benches and who owns them; how many nodes the crew has, and the greatest period; how the clients of the last plan are wired, and at which
--- places its kept outputs stood in the cycle before; the nodes that played last, and that cycle's period, 0 before the first; whether `last` has the
--- places of this plan's own outputs, and whether each of its clients has a bench
+-- places its kept outputs stood in the cycle before; the nodes that played last, and that cycle's period, 0 before the first; whether each of their
+-- clients has a bench
 pub record Staged : Type 0 where
   pub racked : Racked
   pub owned : Owned
@@ -27,7 +28,6 @@ pub record Staged : Type 0 where
   pub last : List (Option ℕ)
   pub nodes : List Client
   pub period : ℕ
-  pub is_settled : Bool
   pub is_staffed : Bool
 
 abbrev pub bench_of : Staged → ℕ → Bench
@@ -41,4 +41,5 @@ pub record IsStaffed (staged : Staged) (plan : Planned) : Type 0 where
   pub sources : ℕ → List ℤ
   pub set : AreSet staged.wiring plan.links moment staged.period sources (length plan.nodes) staged.racked
   pub rooms : HasRooms plan.links staged.racked
+  pub joints : AreJoints (length plan.nodes) staged.wiring.joints
   pub sounded : (n : ℕ) → n < length plan.nodes → length (bench_at staged.racked n).kept.audio ≡ (widths_at staged.wiring n).outputs

@@ -12,7 +12,7 @@ use Rattle.client_tasks.specs.Tasks.{AreSet}
 use Rattle.client_seats.specs.Seatings.{AreApart, HasBench, HasNoPast, HavePeriod, IsNobodys, IsRefused, IsSeating, memory_of, standing_at}
 use Rattle.client_seats.proofs.PlaceLemmas.{open_within, within_open}
 use Rattle.stage_laws.proofs.GoingLemmas.{memory-same}
-use Rattle.client_stage.proofs.CastLemmas.{AreApart-plan, cleared-same, fed-seated, fresh-seated, nodes-within, others-seated, seating-same}
+use Rattle.client_stage.proofs.CastLemmas.{AreApart-plan, cleared-same, fresh-seated, kinds-cast, memories-cast, nodes-within, others-seated, periods-cast, seating-same, seats-cast, standings-cleared, unfed-cast}
 use Rattle.client_stage.proofs.casting.cast.Goals as goal
 
 pub seat-requires-clause-apart : goal.seat-requires-clause-apart
@@ -50,25 +50,14 @@ set_tasks-requires-clause-period g c n low =
 
 pub set_tasks-requires-clause-fed : goal.set_tasks-requires-clause-fed
 set_tasks-requires-clause-fed g c n low =
-    fed-seated (open_clients c.nodes-nodes.result.now) c.clear_all.new.rack c.seat.new.rack c.args.owners.now c.seat.new.owners cleared_seating c.seat.ensures.seating (subst (λ (ns : List Client). HasNoPast (open_clients ns) c.args.owners.now) (sym c.nodes-nodes.ensures.value) c.requires.past)
-    c.seat.ensures.kept c.seat.ensures.fresh c.seat.ensures.same_bench c.seat.ensures.owners unfed n
-  where
-    same : (p : ℕ) → standing_at c.clear_all.new.rack p ≡ standing_at c.args.rack.now p
-    same p = (cleared-same c.args.rack.now c.clear_all.new.rack c.args.count c.clear_all.ensures.cleared c.clear_all.ensures.others p).0
-
-    cleared_seating : IsSeating c.clear_all.new.rack c.args.owners.now
-    cleared_seating = seating-same c.args.rack.now c.clear_all.new.rack c.args.owners.now c.requires.seating c.clear_all.ensures.lengths same
-
-    unfed : (p : ℕ) → (standing_at c.clear_all.new.rack p).memory.fed ≡ []
-    unfed p = ap (λ (s : Standing). s.memory.fed) (same p) ∙ c.requires.unfed p
+    unfed-cast c.args.plan.now c.nodes-nodes.result.now c.nodes-nodes.ensures.value c.args.rack.now c.clear_all.new.rack c.seat.new.rack c.args.owners.now c.seat.new.owners c.requires.seating c.seat.ensures.seating c.clear_all.ensures.lengths
+    (standings-cleared c.args.rack.now c.clear_all.new.rack c.args.count c.clear_all.ensures.cleared c.clear_all.ensures.others) c.requires.past c.seat.ensures.kept c.seat.ensures.fresh c.seat.ensures.same_bench c.seat.ensures.owners c.requires.unfed n
 
 pub returns-clause-seating : goal.returns-clause-seating
 returns-clause-seating g c = seating-same c.seat.new.rack c.set_tasks.new.rack c.seat.new.owners c.seat.ensures.seating c.set_tasks.ensures.lengths c.set_tasks.ensures.standings
 
 pub returns-clause-cast : goal.returns-clause-cast
 returns-clause-cast g c is_true = record {
-  periods = λ room have p h. ap (λ (s : Standing). s.period) (c.set_tasks.ensures.standings p) ∙ c.seat.ensures.periods room (cleared_periods room have) p (omega (arith, h, c.set_tasks.ensures.lengths));
-  unfed = λ p. ap (λ (s : Standing). s.memory.fed) (c.set_tasks.ensures.standings p) ∙ seated_unfed p;
   idle = λ p h. subst (λ (b : Seen). cleared b ≡ b) (sym (c.set_tasks.ensures.others p h)) (c.seat.ensures.idle p);
   has = λ n h. with_standing n (has n h);
   set = subst (λ (w : Wired). AreSet w c.args.plan.now.links c.args.moment.now c.args.period (λ i. []) (length c.args.plan.now.nodes) c.set_tasks.new.rack) c.requires.wired c.set_tasks.ensures.set;
@@ -95,16 +84,6 @@ returns-clause-cast g c is_true = record {
     cleared_seating : IsSeating c.clear_all.new.rack c.args.owners.now
     cleared_seating = seating-same c.args.rack.now c.clear_all.new.rack c.args.owners.now c.requires.seating c.clear_all.ensures.lengths same
 
-    cleared_periods : (room : ℕ) → HavePeriod c.args.rack.now room → HavePeriod c.clear_all.new.rack room
-    cleared_periods room have p h = ap (λ (s : Standing). s.period) (same p) ∙ have p (omega (arith, h, c.clear_all.ensures.lengths))
-
-    unfed : (p : ℕ) → (standing_at c.clear_all.new.rack p).memory.fed ≡ []
-    unfed p = ap (λ (s : Standing). s.memory.fed) (same p) ∙ c.requires.unfed p
-
-    seated_unfed : (p : ℕ) → (standing_at c.seat.new.rack p).memory.fed ≡ []
-    seated_unfed p = fed-seated (open_clients c.nodes-nodes.result.now) c.clear_all.new.rack c.seat.new.rack c.args.owners.now c.seat.new.owners cleared_seating c.seat.ensures.seating (subst (λ (ns : List Client). HasNoPast (open_clients ns) c.args.owners.now) (sym c.nodes-nodes.ensures.value) c.requires.past)
-        c.seat.ensures.kept c.seat.ensures.fresh c.seat.ensures.same_bench c.seat.ensures.owners unfed p
-
     has : (n : ℕ) → n < length c.args.plan.now.nodes → HasBench (open_clients c.args.plan.now.nodes) c.seat.new.rack c.seat.new.owners n n
     has = subst (λ (ns : List Client). (n : ℕ) → n < length ns → HasBench (open_clients ns) c.seat.new.rack c.seat.new.owners n n) nodes (c.if-not-seat.ensures.seated refl)
 
@@ -125,3 +104,40 @@ returns-clause-cast g c is_true = record {
     stays birth not_node = others-seated (open_clients c.nodes-nodes.result.now) c.clear_all.new.rack c.seat.new.rack c.args.owners.now c.seat.new.owners cleared_seating c.seat.ensures.seating (subst (λ (ns : List Client). HasNoPast (open_clients ns) c.args.owners.now) (sym c.nodes-nodes.ensures.value) c.requires.past)
         c.seat.ensures.kept c.seat.ensures.fresh c.seat.ensures.same_bench c.seat.ensures.owners birth
         (subst (λ (ns : List Client). (n : ℕ) → n < length (open_clients ns) → (node_at (open_clients ns) n).birth ≡ birth → ⊥) (sym nodes) (λ n h e. not_node n (within_open c.args.plan.now.nodes n h) e))
+
+-- ---- whether all have a bench or not
+
+pub returns-then-not-seat-clause-seats : goal.returns-then-not-seat-clause-seats
+returns-then-not-seat-clause-seats g c = seats-cast c.args.rack.now c.clear_all.new.rack c.seat.new.rack c.seat.new.rack c.args.owners.now c.seat.new.owners (open_clients c.nodes-nodes.result.now) c.clear_all.ensures.lengths refl (standings-cleared c.args.rack.now c.clear_all.new.rack c.args.count c.clear_all.ensures.cleared c.clear_all.ensures.others) (λ p. refl) c.args.plan.now (ap open_clients c.nodes-nodes.ensures.value) c.seat.ensures.owners c.seat.ensures.lost
+
+pub returns-clause-seats : goal.returns-clause-seats
+returns-clause-seats g c = seats-cast c.args.rack.now c.clear_all.new.rack c.seat.new.rack c.set_tasks.new.rack c.args.owners.now c.seat.new.owners (open_clients c.nodes-nodes.result.now) c.clear_all.ensures.lengths c.set_tasks.ensures.lengths (standings-cleared c.args.rack.now c.clear_all.new.rack c.args.count c.clear_all.ensures.cleared c.clear_all.ensures.others) c.set_tasks.ensures.standings c.args.plan.now (ap open_clients c.nodes-nodes.ensures.value) c.seat.ensures.owners c.seat.ensures.lost
+
+pub returns-then-not-seat-clause-kinds : goal.returns-then-not-seat-clause-kinds
+returns-then-not-seat-clause-kinds g c = kinds-cast c.args.rack.now c.clear_all.new.rack c.seat.new.rack c.seat.new.rack c.args.owners.now c.seat.new.owners (open_clients c.nodes-nodes.result.now) c.clear_all.ensures.lengths refl (standings-cleared c.args.rack.now c.clear_all.new.rack c.args.count c.clear_all.ensures.cleared c.clear_all.ensures.others) (λ p. refl) c.seat.ensures.kinds
+
+pub returns-clause-kinds : goal.returns-clause-kinds
+returns-clause-kinds g c = kinds-cast c.args.rack.now c.clear_all.new.rack c.seat.new.rack c.set_tasks.new.rack c.args.owners.now c.seat.new.owners (open_clients c.nodes-nodes.result.now) c.clear_all.ensures.lengths c.set_tasks.ensures.lengths (standings-cleared c.args.rack.now c.clear_all.new.rack c.args.count c.clear_all.ensures.cleared c.clear_all.ensures.others) c.set_tasks.ensures.standings c.seat.ensures.kinds
+
+pub returns-then-not-seat-clause-periods : goal.returns-then-not-seat-clause-periods
+returns-then-not-seat-clause-periods g c = periods-cast c.args.rack.now c.clear_all.new.rack c.seat.new.rack c.seat.new.rack c.args.owners.now c.seat.new.owners (open_clients c.nodes-nodes.result.now) c.clear_all.ensures.lengths refl (standings-cleared c.args.rack.now c.clear_all.new.rack c.args.count c.clear_all.ensures.cleared c.clear_all.ensures.others) (λ p. refl) c.seat.ensures.periods
+
+pub returns-clause-periods : goal.returns-clause-periods
+returns-clause-periods g c = periods-cast c.args.rack.now c.clear_all.new.rack c.seat.new.rack c.set_tasks.new.rack c.args.owners.now c.seat.new.owners (open_clients c.nodes-nodes.result.now) c.clear_all.ensures.lengths c.set_tasks.ensures.lengths (standings-cleared c.args.rack.now c.clear_all.new.rack c.args.count c.clear_all.ensures.cleared c.clear_all.ensures.others) c.set_tasks.ensures.standings c.seat.ensures.periods
+
+pub returns-then-not-seat-clause-kept : goal.returns-then-not-seat-clause-kept
+returns-then-not-seat-clause-kept g c = memories-cast c.args.rack.now c.clear_all.new.rack c.seat.new.rack c.seat.new.rack c.args.owners.now c.seat.new.owners (open_clients c.nodes-nodes.result.now) c.clear_all.ensures.lengths refl (standings-cleared c.args.rack.now c.clear_all.new.rack c.args.count c.clear_all.ensures.cleared c.clear_all.ensures.others) (λ p. refl) c.requires.seating c.seat.ensures.seating c.seat.ensures.kept
+
+pub returns-clause-kept : goal.returns-clause-kept
+returns-clause-kept g c = memories-cast c.args.rack.now c.clear_all.new.rack c.seat.new.rack c.set_tasks.new.rack c.args.owners.now c.seat.new.owners (open_clients c.nodes-nodes.result.now) c.clear_all.ensures.lengths c.set_tasks.ensures.lengths (standings-cleared c.args.rack.now c.clear_all.new.rack c.args.count c.clear_all.ensures.cleared c.clear_all.ensures.others) c.set_tasks.ensures.standings c.requires.seating c.seat.ensures.seating c.seat.ensures.kept
+
+pub returns-then-not-seat-clause-unfed : goal.returns-then-not-seat-clause-unfed
+returns-then-not-seat-clause-unfed g c p =
+    unfed-cast c.args.plan.now c.nodes-nodes.result.now c.nodes-nodes.ensures.value c.args.rack.now c.clear_all.new.rack c.seat.new.rack c.args.owners.now c.seat.new.owners c.requires.seating c.seat.ensures.seating c.clear_all.ensures.lengths
+    (standings-cleared c.args.rack.now c.clear_all.new.rack c.args.count c.clear_all.ensures.cleared c.clear_all.ensures.others) c.requires.past c.seat.ensures.kept c.seat.ensures.fresh c.seat.ensures.same_bench c.seat.ensures.owners c.requires.unfed p
+
+pub returns-clause-unfed : goal.returns-clause-unfed
+returns-clause-unfed g c p =
+    ap (λ (s : Standing). s.memory.fed) (c.set_tasks.ensures.standings p)
+    ∙ unfed-cast c.args.plan.now c.nodes-nodes.result.now c.nodes-nodes.ensures.value c.args.rack.now c.clear_all.new.rack c.seat.new.rack c.args.owners.now c.seat.new.owners c.requires.seating c.seat.ensures.seating c.clear_all.ensures.lengths
+    (standings-cleared c.args.rack.now c.clear_all.new.rack c.args.count c.clear_all.ensures.cleared c.clear_all.ensures.others) c.requires.past c.seat.ensures.kept c.seat.ensures.fresh c.seat.ensures.same_bench c.seat.ensures.owners c.requires.unfed p

@@ -1,19 +1,17 @@
-use Rattle.std.proofs.Common.{[], length, sym, ◌∙◌, ap, subst, arith}
-use Rattle.port_registry.specs.Registered.{open_clients}
+use Rattle.std.proofs.Common.{[], length, sym, ap, subst}
+use Rattle.client_benches.specs.Seen.{Seen}
 use Rattle.client_tasks.specs.Fillings.{AreJoints}
 use Rattle.client_tasks.specs.Tasks.{AreSet}
 use Rattle.client_wiring.specs.Wirings.{Wired}
 use Rattle.client_stage.proofs.laws.a_cast_is_the_stages.Goals as goal
 
 pub returns : goal.returns
-returns c old new last plan moment period cast seating periods plain wiring nodes places scores crew room same_period lengths links = record {
+returns c old new last plan moment period cast seating periods unfed wiring places scores crew room same_period lengths links = record {
   wiring = wiring;
   seating = seating;
-  periods = λ p h. cast.periods old.room periods p h ∙ sym room;
-  plain = plain;
-  unfed = cast.unfed;
-  idle = λ p h. cast.idle p (omega (arith, h, ap length nodes));
-  nodes = ap open_clients nodes;
+  periods = periods;
+  unfed = unfed;
+  idle = λ p h. sym (ap (λ (b : Seen). b.kept.turn) (cast.idle p h));
   has = cast.has;
   sources = λ i. [];
   set = subst (λ (w : Wired). AreSet w plan.links moment period (λ i. []) (length plan.nodes) new.racked) (sym wiring) cast.set;

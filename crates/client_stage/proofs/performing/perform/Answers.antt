@@ -7,11 +7,12 @@ use Rattle.client_benches.specs.Seen.{Seen, kept_after, kept_gives}
 use Rattle.client_wiring.specs.Wirings.{Wired, wired_of}
 use Rattle.client_wiring.specs.declared.joints.Joint.{Joint}
 use Rattle.bench_rack.specs.Racks.{Racked, bench_at}
-use Rattle.client_tasks.specs.Fillings.{known_at}
+use Rattle.client_tasks.specs.Fillings.{AreJoints, known_at}
 use Rattle.client_tasks.specs.Tasks.{AreSet}
 use Rattle.client_tasks.proofs.PlanLemmas.{few-links}
 use Rattle.client_seats.specs.Seatings.{standing_at}
 use Rattle.client_stage.proofs.PerformLemmas.{more-nodes}
+use Rattle.client_stage.proofs.PlayLemmas.{others-filled}
 use Rattle.client_stage.proofs.performing.perform.Goals as goal
 
 pub play-requires-clause-links : goal.play-requires-clause-links
@@ -49,3 +50,9 @@ returns-clause-performed g c cast moment period sources is_rack is_silence set i
   where
     joints : c.joints.result.now ≡ (wired_of c.args.plan.now).joints
     joints = c.joints.ensures ∙ ap (λ (w : Wired). w.joints) c.requires.wired
+
+pub returns-clause-others : goal.returns-clause-others
+returns-clause-others g c p h none =
+    c.play.ensures.others p h
+    ∙ others-filled c.args.rack.now c.fill_wires.new.rack c.joints.result.now (length c.args.plan.now.nodes) p (known_at c.args.rack.now c.args.capture.now.channels c.args.silence.now c.args.places.now c.joints.result.now)
+    (subst (AreJoints (length c.args.plan.now.nodes)) (sym c.joints.ensures) c.requires.joints) (omega (arith, h, c.requires.few)) none c.fill_wires.ensures.wires c.fill_wires.ensures.others

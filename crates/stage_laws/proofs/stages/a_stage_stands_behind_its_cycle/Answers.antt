@@ -1,4 +1,4 @@
-use Rattle.stage_laws.proofs.WholeLemmas.{seating-played, sounded-played, unfed-played}
+use Rattle.stage_laws.proofs.WholeLemmas.{idle-played, kinds-played, periods-played, seating-played, staffed-played, unfed-played}
 use Rattle.stage_laws.proofs.stages.a_stage_stands_behind_its_cycle.Goals as goal
 
 pub returns-clause-seating : goal.returns-clause-seating
@@ -7,5 +7,14 @@ returns-clause-seating c old last plan moment period channels cast places filled
 pub returns-clause-unfed : goal.returns-clause-unfed
 returns-clause-unfed c old last plan moment period channels cast places filled crew played casts fills performs = unfed-played old last plan moment period channels cast casts places filled fills crew played performs
 
-pub returns-clause-sounded : goal.returns-clause-sounded
-returns-clause-sounded c old last plan moment period channels cast places filled crew played casts fills performs = sounded-played old last plan moment period channels cast casts places filled fills crew played performs
+pub returns-clause-idle : goal.returns-clause-idle
+returns-clause-idle c old last plan moment period channels cast places filled crew played casts fills performs = idle-played old last plan moment period channels cast casts places filled fills crew played performs
+
+pub returns-clause-kinds : goal.returns-clause-kinds
+returns-clause-kinds c old last plan moment period channels cast places filled crew played casts fills performs = kinds-played old last plan moment period channels cast casts places filled fills crew played performs
+
+pub returns-clause-periods : goal.returns-clause-periods
+returns-clause-periods c old last plan moment period channels cast places filled crew played casts fills performs = periods-played old last plan moment period channels cast casts places filled fills crew played performs
+
+pub returns-clause-staffed : goal.returns-clause-staffed
+returns-clause-staffed c old last plan moment period channels cast places filled crew played casts fills performs = staffed-played old last plan moment period channels cast casts places filled fills crew played performs

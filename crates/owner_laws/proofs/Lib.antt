@@ -1,0 +1,4 @@
+pub mod OpenLemmas
+pub mod BirthLemmas
+pub mod KnownLemmas
+pub mod RefusedLemmas
