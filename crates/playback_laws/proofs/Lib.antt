@@ -1,0 +1,4 @@
+mod ListLemmas
+mod BoundLemmas
+mod MixLemmas
+mod PeriodLemmas

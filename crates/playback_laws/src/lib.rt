@@ -1,0 +1,5 @@
+//! Laws of the playback and the capture of a cycle, each as the contract of a function that does nothing.
+#![tactic(auto)]
+
+pub mod mixes;
+pub mod periods;
