@@ -1,0 +1,8 @@
+//! The recorders' part of a driver's cycle: what each client that records heard goes into its recorder's ring.
+#![tactic(auto)]
+
+mod finding;
+mod laying;
+mod sending;
+
+pub use sending::send_blocks;

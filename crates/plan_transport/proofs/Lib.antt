@@ -1,0 +1,5 @@
+mod MasterLemmas
+mod NodeLemmas
+mod RowLemmas
+mod ScriptLemmas
+mod AdoptLemmas

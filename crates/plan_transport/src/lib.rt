@@ -1,0 +1,14 @@
+//! The transport's step to a cycle of a plan.
+#![tactic(auto)]
+
+mod adopting;
+mod laws;
+mod slowness;
+mod stepping;
+#[cfg(test)]
+mod tests;
+mod transports;
+
+pub use laws::calls_have_targets;
+pub use stepping::step_by_plan;
+pub use transports::PlanTransport;
