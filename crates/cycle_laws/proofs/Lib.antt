@@ -1,0 +1,14 @@
+pub mod ListLemmas
+pub mod RowLemmas
+pub mod FrameLemmas
+pub mod RingLemmas
+pub mod SendLemmas
+pub mod BlockLemmas
+pub mod MayLemmas
+pub mod StepLemmas
+pub mod PartLemmas
+pub mod FrontLemmas
+pub mod SeenLemmas
+pub mod SettledLemmas
+pub mod PlayedLemmas
+pub mod MixLemmas

@@ -1,0 +1,123 @@
+-- What the calls of a cycle leave is one step of the driver.
+--     graph-is      its graph is the plan's
+--     puts      at each ring the blocks were put as by the driver
+--     frames-is      the frames of one cycle more
+--     StepsOnce-turned      it is a step
+use Rattle.std.proofs.Common.{◌≡◌, ℕ, ◌+◌, ◌*◌, ◌<◌, ◌≤◌, Bool, true, false, List, [], drop, length, position, slice_get, ℤ, Some, refl, sym, ◌∙◌, ap, ap₂, subst}
+use Rattle.std.proofs.lemmas.List.Elements.{All-nil}
+use Rattle.std.proofs.lemmas.Option.{get_or_from_slice_get, none-some, slice_get_within}
+use Rattle.jack_types.specs.declared.moments.Moment.{Moment}
+use Rattle.jack_types.specs.declared.replies.Underrun.{Underrun}
+use Rattle.session_model.specs.Courses.{players}
+use Rattle.session_model.specs.Kinds.{input_at}
+use Rattle.session_model.specs.Recorders.{is_tape}
+use Rattle.session_model.specs.Scripts.{Script}
+use Rattle.session_model.specs.State.{OpenClient, State}
+use Rattle.port_registry.specs.Registered.{open_clients}
+use Rattle.cycle_plan.specs.Plans.{Planned, state_of_plan}
+use Rattle.record_ring.specs.Rings.{Sending}
+use Rattle.bench_rack.specs.Racks.{bench_at as bench_of_rack}
+use Rattle.device_periods.specs.Captures.{Captured}
+use Rattle.driver_laws.specs.Cycling.{MayCycle, PutsOne, StepsOnce}
+use Rattle.driver_laws.specs.Drivers.{HasOwnRings, HasOwnRows, bench_at, block_in, channels_on, frames_read, frames_run, graph_now, has_tape, overruns_on, turn_of}
+use Rattle.recorder_rings.specs.Sending.{channels_at, no_ring, ring_at}
+use Rattle.cycle_blocks.specs.Blocks.{block_by, is_taped}
+use Rattle.cycle_laws.specs.Gears.{Gear, IsGear, driver_of}
+use Rattle.cycle_laws.specs.Turnings.{Turns}
+use Rattle.cycle_laws.proofs.BlockLemmas.{block-same, frames-of_freewheel, frames-of_run, left-read, left-rest, sounds-at}
+use Rattle.cycle_laws.proofs.FrameLemmas.{frames-after}
+use Rattle.cycle_laws.proofs.ListLemmas.{found-permuted}
+use Rattle.cycle_laws.proofs.RingLemmas.{HasOwnRings-next, block-length, grows, puts-same}
+use Rattle.cycle_laws.proofs.RowLemmas.{HasOwnRows-next, graph-planned}
+use Rattle.cycle_laws.proofs.SendLemmas.{channels-are}
+
+module _ (freewheel : Bool) (before after : Gear) (plan : Planned) (moment : Moment) (is : IsGear before) (may : MayCycle (driver_of before) freewheel) (turned : Turns freewheel before plan moment after) where
+  -- the graph of the cycle is the plan's
+  pub graph-is : graph_now (driver_of after) ≡ state_of_plan plan
+  graph-is = graph-planned (driver_of before) (driver_of after) turned.number turned.taken turned.takes turned.begins may.rows turned.numbers turned.script plan turned.content turned.base
+
+  own-rows : HasOwnRows (driver_of after)
+  own-rows = HasOwnRows-next (driver_of before) (driver_of after) turned.number turned.taken turned.takes turned.begins may.rows turned.numbers turned.script (ap (λ (p : Planned). p.changes) turned.plan_is ∙ turned.content)
+
+  pub frames-is : frames_run (driver_of after) ≡ frames_run (driver_of before) + before.set
+  frames-is = frames-after (driver_of before) may.left may.period_is (driver_of after) turned.number turned.script turned.numbers
+
+  taped : (recorder : ℕ) → is_taped (open_clients plan.nodes) recorder ≡ has_tape (graph_now (driver_of after)) recorder
+  taped recorder =
+      sym (found-permuted (λ (client : OpenClient). is_tape recorder client.kind) (players (state_of_plan plan)) (open_clients plan.nodes) turned.planned.moved)
+      ∙ ap (λ (state : State). has_tape state recorder) (sym graph-is)
+
+  nodes-are : open_clients plan.nodes ≡ open_clients after.stage.staged.nodes
+  nodes-are = ap open_clients (sym turned.stands.stands.nodes)
+
+  channels-is : (recorder : ℕ) → channels_at before.rings recorder ≡ channels_on after.script recorder
+  channels-is recorder =
+      channels-are before.rings (driver_of before) may.rings.own is.rings_channels recorder
+      ∙ ap (λ (s : Script). channels_on s recorder) (sym turned.script)
+
+  heard : (recorder : ℕ) → block_by after.stage.staged.racked (open_clients plan.nodes) before.set (channels_at before.rings recorder) recorder ≡ block_in (driver_of after) recorder
+  heard recorder =
+      block-same before.set after.set (channels_at before.rings recorder) (channels_on after.script recorder)
+      (λ n. (bench_of_rack after.stage.staged.racked n).kept.sounds) (λ n. (bench_at (driver_of after) n).sounds)
+      (position (λ (client : OpenClient). is_tape recorder client.kind) (open_clients plan.nodes)) (position (λ (client : OpenClient). is_tape recorder client.kind) (open_clients after.stage.staged.nodes))
+      (sym turned.set) (channels-is recorder) (λ n. sym (sounds-at after.stage.staged.owned.scores after.stage.staged.racked.benches n))
+      (ap (position (λ (client : OpenClient). is_tape recorder client.kind)) nodes-are)
+
+  -- at each ring the blocks were put as by the driver
+  pub puts : (recorder : ℕ) (ring ring_after : Sending) → slice_get before.rings.rings recorder ≡ Some ring → slice_get after.rings.rings recorder ≡ Some ring_after
+      → PutsOne (length before.numbers + 1) recorder (has_tape (graph_now (driver_of after)) recorder) (block_in (driver_of after) recorder) ring ring_after (overruns_on before.rings.overruns recorder) (overruns_on after.rings.overruns recorder)
+  puts recorder ring ring_after here there =
+      puts-same (length before.numbers + 1) recorder (is_taped (open_clients plan.nodes) recorder) (has_tape (graph_now (driver_of after)) recorder)
+      (block_by after.stage.staged.racked (open_clients plan.nodes) before.set (channels_at before.rings recorder) recorder) (block_in (driver_of after) recorder)
+      (ring_at before.rings recorder) ring (ring_at after.rings recorder) ring_after (overruns_on before.rings.overruns recorder) (overruns_on after.rings.overruns recorder)
+      (taped recorder) (heard recorder) (get_or_from_slice_get before.rings.rings recorder ring no_ring here) (get_or_from_slice_get after.rings.rings recorder ring_after no_ring there)
+      (turned.sends.each recorder (slice_get_within before.rings.rings recorder ring here))
+
+  block-fits : (recorder : ℕ) → length (block_in (driver_of after) recorder) ≤ before.set * channels_on before.script recorder
+  block-fits recorder =
+      subst (λ n. length (block_in (driver_of after) recorder) ≤ n)
+      (ap₂ (λ a b. a * b) turned.set (ap (λ (s : Script). channels_on s recorder) turned.script))
+      (block-length after.set (channels_on after.script recorder) (λ n. input_at after.set (bench_at (driver_of after) n).sounds) (position (λ (client : OpenClient). is_tape recorder client.kind) (open_clients after.stage.staged.nodes)))
+
+  own-rings : HasOwnRings (driver_of after)
+  own-rings = HasOwnRings-next (driver_of before) (driver_of after) may.rings turned.script frames-is turned.sends.as_many refl refl (turned.sends.counted may.rings.puts)
+      (block_in (driver_of after)) block-fits
+      (λ recorder ring ring_after here there. grows (length before.numbers + 1) recorder (has_tape (graph_now (driver_of after)) recorder) (block_in (driver_of after) recorder) ring ring_after
+      (overruns_on before.rings.overruns recorder) (overruns_on after.rings.overruns recorder) (puts recorder ring ring_after here there))
+
+  left-is : (left : List ℤ) → before.capture.reading.left ≡ Some left
+      → after.capture.reading.left ≡ Some (drop (frames_read (turn_of before.script (length before.numbers + 1)) * before.script.header.capture) left)
+  left-is left told = go freewheel refl
+    where
+      go : (b : Bool) → freewheel ≡ b → after.capture.reading.left ≡ Some (drop (frames_read (turn_of before.script (length before.numbers + 1)) * before.script.header.capture) left)
+      go true e = left-rest left before.capture.reading.left after.capture.reading.left before.script.header.capture (frames_read (turn_of before.script (length before.numbers + 1)))
+          (frames-of_freewheel (turn_of before.script (length before.numbers + 1)) (may.turn_is ∙ e))
+          (ap (λ (c : Captured). c.reading.left) (turned.rests e)) told
+      go false e = left-read left before.capture.reading.left after.capture.reading.left after.capture.channels before.capture.reading.format.channels before.script.header.capture
+          before.set (frames_read (turn_of before.script (length before.numbers + 1))) (turned.reads e) is.capture_channels
+          (sym (frames-of_run (turn_of before.script (length before.numbers + 1)) (may.turn_is ∙ e) ∙ may.period_is)) told
+
+  pub StepsOnce-turned : StepsOnce (driver_of before) (driver_of after)
+  StepsOnce-turned = record {
+    taken = turned.taken;
+    number = turned.number;
+    takes = turned.takes;
+    begins = turned.begins;
+    numbers = turned.numbers;
+    rings = puts;
+    as_many = turned.sends.as_many;
+    overruns = turned.sends.overruns;
+    more_overruns = turned.sends.more;
+    overruns_now = turned.sends.now;
+    disks = λ disk got got_after here there. absurd (none-some got here);
+    as_many_disks = refl;
+    underruns = [];
+    more_underruns = refl;
+    underruns_now = All-nil (λ (underrun : Underrun). (underrun.cycle ≡ length before.numbers + 1) × (underrun.disk < 0));
+    left = left-is;
+    own_rows = own-rows;
+    own_rings = own-rings;
+    script = turned.script;
+    scores = turned.scores;
+    set = turned.set;
+  }

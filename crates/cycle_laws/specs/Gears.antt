@@ -1,0 +1,95 @@
+-- What a driver is made of, as the contracts of its parts see them.
+--     Gear      its parts
+--     driver_of gear      the driver that they make
+--     IsServed script      a script of the words that are played yet
+--     IsGear gear      what is true of the parts between two cycles
+use Rattle.std.specs.Prelude.{◌≡◌, ℕ, ◌*◌, ◌≤◌, ◌<◌, Bool, false, List, [], length, map, All, Option}
+use Rattle.std.specs.List.Sorted.{IsPermutation}
+use Rattle.jack_types.specs.declared.files.Format.{Format}
+use Rattle.jack_types.specs.declared.moments.Moment.{Moment}
+use Rattle.session_model.specs.Grammar.{IsScript}
+use Rattle.session_model.specs.Scripts.{Script, turns}
+use Rattle.port_registry.specs.Registered.{open_clients}
+use Rattle.graph_word.specs.Publications.{Reading}
+use Rattle.transport.specs.Standings.{Standing}
+use Rattle.wave_write.specs.Tapes.{Tape}
+use Rattle.client_benches.specs.Seen.{Seen, bench_in}
+use Rattle.device_periods.specs.Captures.{Captured}
+use Rattle.driver_laws.specs.Drivers.{Driver, frames_run, greatest_period, turn_of}
+use Rattle.client_seats.specs.Moves.{kinds_of}
+use Rattle.client_seats.specs.Seatings.{memories}
+use Rattle.recorder_rings.specs.Sending.{Sent}
+use Rattle.task_laws.specs.Calls.{HasNoMidi, guests_needed, open_kinds}
+use Rattle.client_stage.specs.Standing.{OnStage, StandsOn}
+
+pub record Gear : Type 0 where
+  pub script : Script
+  pub reading : Reading
+  pub stage : OnStage
+  pub capture : Captured
+  pub transport : Standing
+  pub numbers : List ℕ
+  pub moments : List Moment
+  pub rings : Sent
+  pub playback : Option Tape
+  pub set : ℕ
+  pub failed : Bool
+
+-- what the last cycle took is the content of the plan that the stage played last; there are no disks
+abbrev pub driver_of : Gear → Driver
+driver_of gear = record {
+  script = gear.script;
+  scores = gear.stage.staged.owned.scores;
+  reading = gear.reading;
+  content = gear.stage.plan.changes;
+  left = gear.capture.reading.left;
+  numbers = gear.numbers;
+  moments = gear.moments;
+  transport = gear.transport.row;
+  overruns = gear.rings.overruns;
+  underruns = [];
+  rings = gear.rings.rings;
+  sent = gear.rings.sent;
+  disks = [];
+  played = [];
+  playback = gear.playback;
+  set = gear.set;
+  failed = gear.failed;
+  nodes = open_clients gear.stage.staged.nodes;
+  benches = map (λ (bench : Seen). bench_in gear.stage.staged.owned.scores bench.kept) gear.stage.staged.racked.benches;
+  memories = memories gear.stage.staged.racked gear.stage.staged.owned;
+}
+
+-- a lawful script before version 3, which registers no MIDI port
+pub record IsServed (script : Script) : Type 0 where
+  pub lawful : IsScript script
+  pub version : script.header.version < 3
+  pub no_midi : HasNoMidi script
+
+-- where no cycle failed, the parts stand behind the same cycles
+pub record IsInStep (gear : Gear) : Type 0 where
+  pub cycles : gear.transport.cycles ≡ length gear.numbers
+  pub frames : gear.transport.frames ≡ frames_run (driver_of gear)
+  pub period : gear.stage.staged.period ≡ (turn_of gear.script (length gear.numbers)).period
+  pub moments : length gear.moments ≡ length gear.numbers
+  pub capture : gear.capture.reading.failed ≡ false
+
+-- the parts are made for the script: its channels, its greatest period, a bench for each client that it may open, a ring for each recorder, and room for as many overruns as there may be
+pub record IsGear (gear : Gear) : Type 0 where
+  pub served : IsServed gear.script
+  pub stands : StandsOn gear.stage.staged gear.stage.plan
+  pub base : gear.stage.plan.base ≡ record { capture = gear.script.header.capture; playback = gear.script.header.playback }
+  pub kinds : IsPermutation (open_kinds gear.script) (kinds_of gear.stage.staged.racked)
+  pub guests : guests_needed gear.script ≤ length gear.stage.staged.owned.scores
+  pub room : gear.stage.staged.room ≡ greatest_period gear.script
+  pub capture_room : gear.capture.room ≡ greatest_period gear.script
+  pub capture_channels : gear.capture.reading.format.channels ≡ gear.script.header.capture
+  pub rate : gear.transport.rate ≡ gear.script.header.rate
+  pub rings_room : gear.rings.room ≡ greatest_period gear.script
+  pub rings_channels : gear.rings.channels ≡ map (λ (format : Format). format.channels) gear.script.header.recorders
+  pub as_many : length gear.rings.rings ≡ length gear.script.header.recorders
+  pub sent : All (λ sent. sent ≤ length gear.numbers) gear.rings.sent
+  pub overruns : length gear.rings.overruns ≤ length gear.numbers * length gear.rings.rings
+  pub losses : length (turns gear.script) * length gear.rings.rings ≤ gear.rings.losses
+  pub few : length gear.numbers ≤ length (turns gear.script)
+  pub in_step : gear.failed ≡ false → IsInStep gear

@@ -1,0 +1,2 @@
+pub mod Gears
+pub mod Turnings

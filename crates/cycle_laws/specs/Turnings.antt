@@ -1,0 +1,58 @@
+-- What the parts of a driver do in a cycle.
+--     Turns freewheel before plan moment after      what the calls left, in their order
+use Rattle.std.specs.Prelude.{◌≡◌, ℕ, ◌+◌, ◌<◌, Bool, true, false, List, [], ◌∷◌, ◌++◌, length, drop, replicate, All}
+use Rattle.std.specs.List.Sorted.{IsPermutation}
+use Rattle.jack_types.specs.declared.moments.Moment.{Moment}
+use Rattle.session_model.specs.Benches.{node_at}
+use Rattle.session_model.specs.Courses.{Course}
+use Rattle.session_model.specs.Cycles.{Settled, audio_outputs, midi_inputs, midi_outputs}
+use Rattle.session_model.specs.Samples.{silence}
+use Rattle.session_model.specs.State.{system_name}
+use Rattle.session_model.specs.Transport.{active_master, next_row, shown, slow_numbers, timeout_of}
+use Rattle.port_registry.specs.Registered.{open_clients}
+use Rattle.cycle_plan.specs.Plans.{IsPlanned, Planned, state_of_plan}
+use Rattle.graph_word.specs.Publications.{Begins, Reading, Takes}
+use Rattle.transport.specs.Standings.{HasTarget}
+use Rattle.wave_pcm.specs.Readings.{SameReading}
+use Rattle.device_periods.specs.Captures.{Reads}
+use Rattle.driver_laws.specs.Playing.{last_number}
+use Rattle.client_seats.specs.Moves.{kinds_of}
+use Rattle.task_laws.specs.Calls.{IsOldKind}
+use Rattle.stage_laws.specs.Plays.{IsSettledOn, PlaysPlan}
+use Rattle.client_stage.specs.Standing.{StandsOn}
+use Rattle.cycle_blocks.specs.Blocks.{Sends}
+use Rattle.cycle_laws.specs.Gears.{Gear, driver_of}
+
+-- the plan was taken and begun, the transport stepped, the capture read in a `run` cycle alone, the plan played, and the blocks put
+pub record Turns (freewheel : Bool) (before : Gear) (plan : Planned) (moment : Moment) (after : Gear) : Type 0 where
+  pub number : ℕ
+  pub taken : Reading
+  pub takes : Takes before.reading number taken
+  pub begins : Begins taken (length before.numbers + 1) after.reading
+  pub content : plan.changes ≡ taken.held
+  pub base : plan.base ≡ taken.base
+  pub planned : IsPlanned plan
+  pub numbers : after.numbers ≡ before.numbers ++ number ∷ []
+  pub moments : after.moments ≡ before.moments ++ moment ∷ []
+  pub standing : after.transport ≡ record { rate = before.transport.rate; cycles = before.transport.cycles + 1; frames = before.transport.frames + before.set; row = after.transport.row }
+  pub row : All HasTarget (drop (last_number (driver_of before)) plan.changes)
+      → after.transport.row ≡ next_row before.transport.row (drop (last_number (driver_of before)) plan.changes) (slow_numbers (state_of_plan plan)) (timeout_of (state_of_plan plan) before.transport.rate before.set) before.set
+  pub moment_is : moment ≡ shown after.transport.cycles after.transport.row before.transport.rate (active_master (state_of_plan plan))
+  pub rests : freewheel ≡ true → after.capture ≡ record before.capture { channels = replicate before.capture.reading.format.channels (silence before.set) }
+  pub reads : freewheel ≡ false → Reads before.capture.reading.left after.capture.reading.left after.capture.channels before.capture.reading.format.channels before.set
+  pub same_reading : SameReading before.capture.reading after.capture.reading
+  pub capture_room : after.capture.room ≡ before.capture.room
+  pub capture_sound : after.capture.reading.failed ≡ false
+  pub plan_is : after.stage.plan ≡ plan
+  pub period : after.stage.staged.period ≡ before.set
+  pub stands : StandsOn after.stage.staged plan
+  pub plays : (course : Course) (at : Settled) → before.stage.staged.is_staffed ≡ true → after.stage.staged.is_staffed ≡ true → IsSettledOn before.stage.staged before.stage.plan plan moment before.set after.capture.channels at
+      → course.scores ≡ before.stage.staged.owned.scores → ((name : List ℕ) → midi_inputs at.graph name ≡ []) → ((name : List ℕ) → midi_outputs at.graph name ≡ [])
+      → length after.capture.channels ≡ length (audio_outputs (state_of_plan plan) system_name) → ((n : ℕ) → n < length plan.nodes → IsOldKind (node_at (open_clients plan.nodes) n).kind)
+      → PlaysPlan course before.stage.staged plan at after.stage.staged
+  pub kinds : IsPermutation (kinds_of before.stage.staged.racked) (kinds_of after.stage.staged.racked)
+  pub scores : after.stage.staged.owned.scores ≡ before.stage.staged.owned.scores
+  pub room : after.stage.staged.room ≡ before.stage.staged.room
+  pub sends : Sends after.stage.staged.racked (open_clients plan.nodes) (length before.numbers + 1) before.set before.rings after.rings
+  pub script : after.script ≡ before.script
+  pub set : after.set ≡ before.set

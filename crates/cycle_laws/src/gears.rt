@@ -1,0 +1,78 @@
+//! Laws of a driver's parts: what their calls leave is one cycle of the driver.
+
+ghost use Rattle.std.specs.Prelude.{◌≡◌, ◌+◌, ◌<◌, ◌≤◌, Bool, List, Some, map, true, ℤ};
+ghost use Rattle.jack_types.specs.declared.moments.Moment.{Moment as MomentValue};
+ghost use Rattle.session_model.specs.Courses.{Course};
+ghost use Rattle.cycle_plan.specs.Plans.{Planned};
+ghost use Rattle.driver_laws.specs.Cycling.{MayCycle, StepsOnce};
+ghost use Rattle.driver_laws.specs.Keeping.{AreOfCalls, Fits, Keeps};
+ghost use Rattle.session_model.specs.Samples.{below, interleaved};
+ghost use Rattle.driver_laws.specs.Playing.{PlaysOwn, played_now};
+ghost use Rattle.playback_mix.specs.Mixes.{channel_mix};
+ghost use Rattle.cycle_blocks.specs.Blocks.{MaySend};
+ghost use Rattle.cycle_laws.specs.Gears.{Gear, IsGear, driver_of};
+ghost use Rattle.cycle_laws.specs.Turnings.{Turns};
+
+use client_wiring::laws::the_device_has_its_ports;
+use driver_laws::cycling::content_is_of_calls;
+use owner_laws::owning::a_plan_of_a_scripts_calls_is_not_refused;
+use plan_transport::calls_have_targets;
+use playback_laws::mixes::the_mix_is_played;
+use playback_laws::periods::a_period_is_what_the_capture_has;
+use script_needs::limits::{cycles_are_few, periods_are_in_range, samples_are_few};
+use task_laws::scripts::old_scripts_are_plain;
+
+/// Before a cycle the blocks may be put, and the numbers of the transport have room for one cycle more.
+pub fn a_cycle_may_be_played()
+    ensures sends { (gear : Gear) (freewheel : Bool) → IsGear gear → MayCycle (driver_of gear) freewheel → MaySend gear.rings gear.set }
+    ensures cycles { (gear : Gear) (freewheel : Bool) → IsGear gear → MayCycle (driver_of gear) freewheel → gear.transport.cycles < 1000000 }
+    ensures frames { (gear : Gear) (freewheel : Bool) → IsGear gear → MayCycle (driver_of gear) freewheel → gear.transport.frames + gear.set ≤ 500000000 }
+    ensures period { (gear : Gear) (freewheel : Bool) → IsGear gear → MayCycle (driver_of gear) freewheel → (4 ≤ gear.set) × (gear.set ≤ 4096) }
+{
+    cycles_are_few();
+    periods_are_in_range();
+    samples_are_few();
+}
+
+/// What the calls of a cycle leave is one step of the driver, whatever was played.
+pub fn a_cycle_is_a_step()
+    ensures { (freewheel : Bool) (before after : Gear) (plan : Planned) (moment : MomentValue) → IsGear before → MayCycle (driver_of before) freewheel → Turns freewheel before plan moment after → StepsOnce (driver_of before) (driver_of after) }
+{}
+
+/// Behind a cycle the parts are as before it.
+pub fn a_cycle_leaves_the_parts()
+    ensures { (freewheel : Bool) (before after : Gear) (plan : Planned) (moment : MomentValue) → IsGear before → MayCycle (driver_of before) freewheel → Turns freewheel before plan moment after → IsGear after }
+{}
+
+/// Where the changes are calls of the script, each client has its bench.
+pub fn all_have_their_benches()
+    ensures { (gear : Gear) → IsGear gear → AreOfCalls gear.script gear.stage.plan.changes → gear.stage.staged.is_staffed ≡ true }
+{
+    a_plan_of_a_scripts_calls_is_not_refused();
+}
+
+/// Where a course fits and was kept, the cycle played what is its own: from the samples that its capture has left, and from
+/// its benches.
+pub fn a_cycle_plays_its_own()
+    ensures { (freewheel : Bool) (before after : Gear) (plan : Planned) (moment : MomentValue) → IsGear before → MayCycle (driver_of before) freewheel → Turns freewheel before plan moment after
+        → (left : List ℤ) (course : Course) → Fits (driver_of after) course → Keeps (driver_of before) course → (driver_of before).left ≡ Some left → PlaysOwn (driver_of before) (driver_of after) left }
+{
+    a_cycle_is_a_step();
+    a_cycle_leaves_the_parts();
+    all_have_their_benches();
+    content_is_of_calls();
+    calls_have_targets();
+    a_period_is_what_the_capture_has();
+    the_device_has_its_ports();
+    old_scripts_are_plain();
+}
+
+/// What the playback mixes behind the cycle is what the definitions give it.
+pub fn a_mix_is_played()
+    ensures { (freewheel : Bool) (before after : Gear) (plan : Planned) (moment : MomentValue) → IsGear before → MayCycle (driver_of before) freewheel → Turns freewheel before plan moment after → (left : List ℤ) → (driver_of before).left ≡ Some left
+        → interleaved before.set (map (channel_mix before.set after.stage.staged.racked.benches after.capture.channels after.stage.staged.wiring.heard) (below before.script.header.playback)) ≡ played_now (driver_of before) (driver_of after) left }
+{
+    a_cycle_is_a_step();
+    the_mix_is_played();
+    a_period_is_what_the_capture_has();
+}
