@@ -1,0 +1,5 @@
+mod ResultLemmas
+mod FailedLemmas
+mod PlayedLemmas
+mod OpeningLemmas
+mod InsideLemmas

@@ -1,0 +1,148 @@
+-- A driver before its first cycle.
+--     kinds-new      new benches are of the kinds that they were made for
+--     zeros-few      nothing was put
+--     no-memories      nobody has played
+--     IsGear-new, IsNew-gear      the parts of a new driver
+use Rattle.std.proofs.Common.{◌≡◌, ℕ, zero, suc, ◌*◌, ◌<◌, ◌≤◌, false, List, [], ◌∷◌, length, map, replicate, slice_get, sum_by, take, ◌++◌, All, Option, Some, None, refl, sym, ◌∙◌, ap, subst, arith}
+use Rattle.std.specs.Prelude.{MatchOption, slice_index, slice_index_or}
+use Rattle.std.specs.List.Sorted.{IsPermutation}
+use Rattle.std.proofs.lemmas.List.{length-map}
+use Rattle.std.proofs.lemmas.List.Sorted.{IsPermutation-refl}
+use Rattle.std.proofs.lemmas.Option.{get_or_from_slice_get, slice_get_within}
+use Rattle.std.proofs.Math.ListN.{get_or-map}
+use Rattle.jack_types.specs.Recorders.{no_format}
+use Rattle.jack_types.specs.declared.files.Format.{Format}
+use Rattle.jack_types.specs.declared.kinds.Kind.{Kind}
+use Rattle.jack_types.specs.declared.kinds.Score.{Score}
+use Rattle.session_model.specs.Commands.{replay}
+use Rattle.session_model.specs.Scripts.{Turn, turns}
+use Rattle.session_model.specs.Transport.{first_row}
+use Rattle.port_registry.specs.Registered.{open_clients}
+use Rattle.cycle_plan.specs.Plans.{nodes_of, opening_of}
+use Rattle.transport.specs.Standings.{Standing}
+use Rattle.record_ring.specs.Rings.{Getting, IsOpening, Sending, items_of}
+use Rattle.client_benches.specs.Seen.{Seen, new_bench}
+use Rattle.client_seats.specs.Moves.{kinds_of}
+use Rattle.client_seats.specs.Owners.{Owned}
+use Rattle.client_seats.specs.Seatings.{memories, owned_memories}
+use Rattle.driver_laws.specs.Drivers.{IsOwnRing, Remembered, frames_run, channels_on, greatest_period, turn_of}
+use Rattle.driver_laws.specs.Openings.{IsNew}
+use Rattle.recorder_rings.specs.Sending.{no_ring}
+use Rattle.recorder_rings.specs.Openings.{IsNew as AreNew}
+use Rattle.task_laws.specs.Calls.{guests_needed, open_kinds}
+use Rattle.client_stage.specs.Standing.{StandsOn}
+use Rattle.cycle_laws.specs.Gears.{Gear, IsGear, IsServed, driver_of}
+
+none_below : {n : ℕ} → n < 0 → ⊥
+none_below p = omega arith
+
+kinds-new : (period : ℕ) (kinds : List Kind) → map (λ (bench : Seen). bench.kept.standing.kind) (map (λ kind. new_bench kind period) kinds) ≡ kinds
+kinds-new period [] = refl
+kinds-new period (kind ∷ kinds) = ap (λ (rest : List Kind). kind ∷ rest) (kinds-new period kinds)
+
+abbrev none_of : {X : Type 0} → X → ℕ
+none_of x = 0
+
+zeros-few : {X : Type 0} (most : ℕ) (xs : List X) → All (λ n. n ≤ most) (map none_of xs)
+zeros-few most [] i d h = absurd (none_below h)
+zeros-few most (x ∷ xs) zero d h = omega arith
+zeros-few most (x ∷ xs) (suc i) d h = zeros-few most xs i d (omega (arith, h))
+
+no-memories : (n : ℕ) (benches : List Seen) → owned_memories (replicate n None) benches ≡ []
+no-memories zero [] = refl
+no-memories zero (bench ∷ benches) = refl
+no-memories (suc n) [] = refl
+no-memories (suc n) (bench ∷ benches) = no-memories n benches
+
+opened-at : (out : Option Getting) (P : Getting → Type 0) → MatchOption out ⊥ P → (getting : Getting) × P getting
+opened-at None P never = absurd never
+opened-at (Some getting) P holds = (getting, holds)
+
+module _ (gear : Gear) (kinds : List Kind) (scores : List Score) (served : IsServed gear.script) (kinds_are : kinds ≡ open_kinds gear.script)
+    (benches : gear.stage.staged.racked.benches ≡ map (λ kind. new_bench kind (greatest_period gear.script)) kinds)
+    (owned : gear.stage.staged.owned ≡ record { births = replicate (length kinds) None; scores = scores; pool = map (λ score. Some score) scores; past = [] }) (guests : guests_needed gear.script ≤ length scores)
+    (room : gear.stage.staged.room ≡ greatest_period gear.script) (period : gear.stage.staged.period ≡ 0) (changes : gear.stage.plan.changes ≡ [])
+    (base : gear.stage.plan.base ≡ record { capture = gear.script.header.capture; playback = gear.script.header.playback }) (stands : StandsOn gear.stage.staged gear.stage.plan)
+    (transport : gear.transport ≡ record { rate = gear.script.header.rate; cycles = 0; frames = 0; row = first_row })
+    (rings : AreNew gear.script.header.recorders gear.script.header.ring (greatest_period gear.script) (length (turns gear.script) * length gear.script.header.recorders) gear.rings)
+    (numbers : gear.numbers ≡ []) (moments : gear.moments ≡ []) (capture_room : gear.capture.room ≡ greatest_period gear.script) (capture_channels : gear.capture.reading.format.channels ≡ gear.script.header.capture)
+    (capture_sound : gear.capture.reading.failed ≡ false) where
+  kinds-are : kinds_of gear.stage.staged.racked ≡ open_kinds gear.script
+  kinds-are = ap (map (λ (bench : Seen). bench.kept.standing.kind)) benches ∙ kinds-new (greatest_period gear.script) kinds ∙ kinds_are
+
+  as-many : length gear.rings.rings ≡ length gear.script.header.recorders
+  as-many = rings.opened.as_many ∙ ap length rings.channels ∙ length-map gear.script.header.recorders (λ (format : Format). format.channels)
+
+  pub IsGear-new : IsGear gear
+  IsGear-new = record {
+    served = served;
+    stands = stands;
+    base = base;
+    kinds = subst (IsPermutation (open_kinds gear.script)) (sym kinds-are) (IsPermutation-refl (open_kinds gear.script));
+    guests = subst (λ n. guests_needed gear.script ≤ n) (sym (ap (λ (o : Owned). length o.scores) owned)) guests;
+    room = room;
+    capture_room = capture_room;
+    capture_channels = capture_channels;
+    rate = ap (λ (t : Standing). t.rate) transport;
+    rings_room = rings.room;
+    rings_channels = rings.channels;
+    as_many = as-many;
+    sent = subst (All (λ sent. sent ≤ length gear.numbers)) (sym rings.sent) (zeros-few (length gear.numbers) gear.script.header.recorders);
+    overruns = subst (λ xs. length xs ≤ length gear.numbers * length gear.rings.rings) (sym rings.overruns) (omega arith);
+    losses = subst (λ n. length (turns gear.script) * n ≤ gear.rings.losses) (sym as-many) rings.losses_kept;
+    few = subst (λ xs. length xs ≤ length (turns gear.script)) (sym numbers) (omega arith);
+    in_step = λ sound. record {
+      cycles = ap (λ (t : Standing). t.cycles) transport ∙ sym (ap length numbers);
+      frames = ap (λ (t : Standing). t.frames) transport ∙ sym (ap (λ (xs : List ℕ). sum_by (λ (turn : Turn). turn.period) (take (length xs) (turns gear.script))) numbers);
+      period = period ∙ sym (ap (λ (xs : List ℕ). (turn_of gear.script (length xs)).period) numbers);
+      moments = ap length moments ∙ sym (ap length numbers);
+      capture = capture_sound;
+    };
+  }
+
+  no-disks : gear.script.header.disks ≡ []
+  no-disks = (served.lawful.old served.version).1
+
+  channels-at : (recorder : ℕ) → slice_index gear.rings.channels recorder ≡ channels_on gear.script recorder
+  channels-at recorder = ap (λ cs. slice_index cs recorder) rings.channels ∙ get_or-map (λ (format : Format). format.channels) gear.script.header.recorders recorder no_format
+
+  own : (recorder : ℕ) (ring : Sending) → slice_get gear.rings.rings recorder ≡ Some ring → IsOwnRing (driver_of gear) recorder ring
+  own recorder ring here = record {
+    samples = ap (λ (s : Sending). s.samples) ring-is ∙ ap (λ n. greatest_period gear.script * n) (channels-at recorder);
+    most = ap (λ (s : Sending). s.most) ring-is;
+    items = subst (λ blocks. items_of blocks ≤ frames_run (driver_of gear) * channels_on gear.script recorder) (sym (ap (λ (s : Sending). s.put) ring-is)) (omega arith);
+  }
+    where
+      low : recorder < length gear.rings.channels
+      low = let within : recorder < length gear.rings.rings = slice_get_within gear.rings.rings recorder ring here in let as_many = rings.opened.as_many in omega (arith, within, as_many)
+
+      opened : (getting : Getting) × IsOpening gear.script.header.ring (greatest_period gear.script * slice_index gear.rings.channels recorder) 500000000 (slice_index_or gear.rings.rings recorder no_ring) getting
+      opened = opened-at (slice_index_or gear.rings.out recorder None) (IsOpening gear.script.header.ring (greatest_period gear.script * slice_index gear.rings.channels recorder) 500000000 (slice_index_or gear.rings.rings recorder no_ring)) (rings.opened.each recorder low)
+
+      ring-is : ring ≡ record { table = (slice_index_or gear.rings.rings recorder no_ring).table; capacity = gear.script.header.ring; samples = greatest_period gear.script * slice_index gear.rings.channels recorder; most = 500000000; put = []; looks = []; least = 0; ended = false }
+      ring-is = sym (get_or_from_slice_get gear.rings.rings recorder ring no_ring here) ∙ opened.1.sending_is
+
+  pub IsNew-gear : gear.reading.rows ≡ [] → gear.playback ≡ None → gear.set ≡ gear.script.header.period → gear.failed ≡ false → IsNew gear.script scores (driver_of gear)
+  IsNew-gear rows playback set failed = record {
+    script_is = refl;
+    scores_are = ap (λ (o : Owned). o.scores) owned;
+    rows = rows;
+    content = changes;
+    numbers = numbers;
+    moments = moments;
+    transport = ap (λ (t : Standing). t.row) transport;
+    overruns = rings.overruns;
+    underruns = refl;
+    as_many = as-many;
+    rings = rings.empty;
+    own_rings = own;
+    sent = rings.sent;
+    as_many_disks = sym (ap length no-disks);
+    disks = λ i d h. absurd (none_below h);
+    played = sym (ap (map (λ _. 0)) no-disks);
+    playback = playback;
+    set = set;
+    failed = failed;
+    nodes = ap open_clients stands.stands.nodes ∙ stands.stands.planned.nodes ∙ ap (λ cs. nodes_of (replay (opening_of gear.stage.plan.base) cs)) changes;
+    memories = ap (λ (o : Owned). memories gear.stage.staged.racked o) owned ∙ ap (λ (xs : List Remembered). xs ++ []) (no-memories (length kinds) gear.stage.staged.racked.benches);
+  }
