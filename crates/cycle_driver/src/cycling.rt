@@ -20,7 +20,8 @@ use std::thread::Threads;
 impl<S: Source, W: Store, G: Guest + Send> Driver<S, W, G> {
     ghost use Rattle.std.specs.Prelude.{◌≡◌, IfOk, IsErrOf, Some};
     ghost use Rattle.jack_host.specs.Causes.{Rose};
-    ghost use Rattle.wave_write.specs.Tapes.{Tape};
+    ghost use Rattle.wave_pcm.specs.Readings.{SameReading};
+    ghost use Rattle.wave_write.specs.Tapes.{SameFile, Tape};
     ghost use Rattle.driver_laws.specs.Cycling.{CyclesOnce, FailsAtRead, FailsAtWrite, MayCycle};
     ghost use Rattle.cycle_laws.specs.Gears.{driver_of};
 
@@ -39,7 +40,8 @@ impl<S: Source, W: Store, G: Guest + Send> Driver<S, W, G> {
         ensures read { IsErrOf result CycleFault.Read → FailsAtRead (driver_of self.old) (driver_of self.new) }
         ensures write { IsErrOf result CycleFault.Write → FailsAtWrite (driver_of self.old) (driver_of self.new) }
         ensures read_cause { IsErrOf result CycleFault.Read → Rose self.old.capture.reading.faults self.new.capture.reading.faults }
-        ensures write_cause { IsErrOf result CycleFault.Write → (file after : Tape) → self.old.playback ≡ Some file → self.new.playback ≡ Some after → Rose file.faults after.faults }
+        ensures write_cause { IsErrOf result CycleFault.Write → (file : Tape) × (after : Tape) × (self.old.playback ≡ Some file) × (self.new.playback ≡ Some after) × SameFile file after × Rose file.faults after.faults }
+        ensures capture { SameReading self.old.capture.reading self.new.capture.reading }
     {
         a_cycle_may_be_played();
         a_cycle_is_a_step();

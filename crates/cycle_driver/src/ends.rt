@@ -1,4 +1,4 @@
-//! What a driver lends, and what it is told between two cycles.
+//! What a driver lends and hands out, and what it is told between two cycles.
 
 use crate::driver::Driver;
 use client_kinds::Guest;

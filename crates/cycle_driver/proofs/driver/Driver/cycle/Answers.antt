@@ -9,7 +9,7 @@ use Rattle.cycle_plan.specs.Plans.{Planned}
 use Rattle.client_wiring.specs.declared.joints.Heard.{Heard}
 use Rattle.bench_rack.specs.Racks.{Racked}
 use Rattle.playback_mix.specs.Mixes.{channel_mix}
-use Rattle.wave_write.specs.Tapes.{HasFront, HasSamples, Tape}
+use Rattle.wave_write.specs.Tapes.{HasFront, HasSamples}
 use Rattle.driver_laws.specs.Cycling.{CyclesOnce, FailsAtRead, FailsAtWrite, MayCycle, StepsOnce}
 use Rattle.driver_laws.specs.Drivers.{frames_run}
 use Rattle.driver_laws.specs.Keeping.{Fits, HasTape, Keeps}
@@ -20,7 +20,7 @@ use Rattle.cycle_laws.proofs.MayLemmas.{later}
 use Rattle.cycle_laws.proofs.StepLemmas.{frames-is}
 use Rattle.cycle_driver.specs.Insides.{FailsToRead, IsOwnFile, gear_of, script_in, seen_of}
 use Rattle.cycle_driver.proofs.FailedLemmas.{IsGear-failed, failed-at-read}
-use Rattle.cycle_driver.proofs.PlayedLemmas.{file-fits, file-next, file-stays, some_is, wide-of, writes-file, writes-nothing}
+use Rattle.cycle_driver.proofs.PlayedLemmas.{file-fits, file-next, file-stays, wide-of, writes-file, writes-nothing}
 use Rattle.cycle_driver.proofs.ResultLemmas.{err-held, if-some, ok-held}
 use Rattle.cycle_driver.proofs.driver.Driver.cycle.Goals as goal
 
@@ -218,9 +218,14 @@ returns-then-is_err-2-clause-write g c is_write = subst (λ gear. FailsAtWrite (
     front = err-held c.play_back-played.result ((samples : List ℤ) → HasSamples c.in-Some.file samples → HasFront c.in-Some.file.format (samples ++ interleaved c.turn.new.works.set (map (channel_mix c.turn.new.works.set c.benches.result.now c.turn.new.works.capture.channels c.heard.result.now) (below c.self.inside.mix.channels))) c.play_back-played.new.file.bytes) c.if-is_err-2.ensures.value c.play_back-played.ensures.front
 
 pub returns-then-is_err-2-clause-write_cause : goal.returns-then-is_err-2-clause-write_cause
-returns-then-is_err-2-clause-write_cause g c is_write file after was is =
-    subst (λ (tape : Tape). Rose tape.faults after.faults) (some_is (sym c.in-Some.is ∙ ap (λ (gear : Gear). gear.playback) c.self.view_is ∙ was))
-    (subst (λ (tape : Tape). Rose c.in-Some.file.faults tape.faults) (some_is is) (err-held c.play_back-played.result (Rose c.in-Some.file.faults c.play_back-played.new.file.faults) c.if-is_err-2.ensures.value c.play_back-played.ensures.cause.failed))
+returns-then-is_err-2-clause-write_cause g c is_write = (
+  c.in-Some.file,
+  c.play_back-played.new.file,
+  ap (λ (gear : Gear). gear.playback) (sym c.self.view_is) ∙ c.in-Some.is,
+  refl,
+  c.play_back-played.ensures.file,
+  err-held c.play_back-played.result (Rose c.in-Some.file.faults c.play_back-played.new.file.faults) c.if-is_err-2.ensures.value c.play_back-played.ensures.cause.failed,
+)
 
 pub invariant_of-self-else-is_err-2 : goal.invariant_of-self-else-is_err-2
 invariant_of-self-else-is_err-2 g c = record {
