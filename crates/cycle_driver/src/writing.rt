@@ -4,7 +4,7 @@ ghost use Rattle.std.specs.Prelude.{◌≡◌, ◌*◌, ◌+◌, ◌≤◌, ◌+
 ghost use Rattle.jack_host.specs.Causes.{HasCause};
 ghost use Rattle.session_model.specs.Samples.{below, interleaved, width};
 ghost use Rattle.playback_mix.specs.Mixes.{channel_mix};
-ghost use Rattle.wave_write.specs.Tapes.{HasFront, HasSamples, SameFile};
+ghost use Rattle.wave_write.specs.Tapes.{HasSamples, HasUnfinished, SameFile};
 
 use client_benches::ClientBench;
 use client_kinds::Guest;
@@ -28,7 +28,7 @@ pub(crate) fn play_back<S: Source, W: Store, G: Guest>(
     requires going { file.old.stopped ≡ false }
     requires room { file.old.written + period * mix.old.channels * width file.old.format.bits ≤ 4294967000 }
     ensures samples { OnOk result ((before : List ℤ) → HasSamples file.old before → HasSamples file.new (before ++ interleaved period (map (channel_mix period benches.now capture.now.channels heard.now) (below mix.old.channels)))) }
-    ensures front { OnErr result ((before : List ℤ) → HasSamples file.old before → HasFront file.old.format (before ++ interleaved period (map (channel_mix period benches.now capture.now.channels heard.now) (below mix.old.channels))) file.new.bytes) }
+    ensures front { OnErr result ((before : List ℤ) → HasSamples file.old before → HasUnfinished file.old.format (before ++ interleaved period (map (channel_mix period benches.now capture.now.channels heard.now) (below mix.old.channels))) file.new.bytes) }
     ensures written { OnOk result (file.new.written ≡ file.old.written + period * mix.old.channels * width file.old.format.bits) }
     ensures stopped { file.new.stopped ≡ is_err result }
     ensures file { SameFile file.old file.new }

@@ -7,7 +7,7 @@ use Rattle.session_model.specs.Rings.{RingBlock}
 use Rattle.session_model.specs.Samples.{width, bytes_of}
 use Rattle.session_model.specs.WaveFiles.{IsFormat, is_width}
 use Rattle.record_ring.specs.Rings.{Getting, items_of}
-use Rattle.wave_write.specs.Tapes.{Tape, HasSamples, HasFront, Gained, SameFile}
+use Rattle.wave_write.specs.Tapes.{Tape, HasSamples, HasUnfinished, Gained, SameFile}
 use Rattle.disk_recorder.specs.Recordings.{samples_of_blocks, MayWrite, SameEnds, Writes, Fails}
 use Rattle.disk_recorder.proofs.Fronts.{front_append, samples_more}
 
@@ -26,7 +26,7 @@ abbrev pub behind : Getting → RingBlock → ℕ → Getting
 behind g block found = record g { got = g.got ++ block ∷ []; finds = g.finds ++ found ∷ []; least = found }
 
 ends : (g : Getting) (t t' : Tape) (block : RingBlock) (found : ℕ) → g.least ≤ found → SameFile t t' → SameEnds g t (behind g block found) t'
-ends g t t' block found least same = record { table = refl; room = refl; most = refl; format = same.format; name = same.name; later = same.later; least = least }
+ends g t t' block found least same = record { table = refl; room = refl; most = refl; format = same.format; name = same.name; tells = same.tells; later = same.later; least = least }
 
 pub wrote : (g g' : Getting) (t t' : Tape) (block : RingBlock) (found : ℕ) → MayWrite g t → g' ≡ behind g block found → g.least ≤ found → items_of g'.got ≤ g'.most → Gained t t' (bytes_of t.format.bits block.samples) → SameFile t t' → t'.stopped ≡ false
     → ((before : List ℤ) → HasSamples t before → HasSamples t' (before ++ block.samples)) → Writes 1 g t g' t'
@@ -50,11 +50,11 @@ wrote g g' t t' block found may is least few gained same going samples = subst (
 }
 
 pub broke : (g g' : Getting) (t t' : Tape) (block : RingBlock) (found : ℕ) → g' ≡ behind g block found → g.least ≤ found → SameFile t t' → t'.stopped ≡ true
-    → ((before : List ℤ) → HasSamples t before → HasFront t.format (before ++ block.samples) t'.bytes) → Fails g t g' t'
+    → ((before : List ℤ) → HasSamples t before → HasUnfinished t.format (before ++ block.samples) t'.bytes) → Fails g t g' t'
 broke g g' t t' block found is least same stopped front = subst (λ (u : Getting). Fails g t u t') (sym is) record {
   same = ends g t t' block found least same;
   longer = front_append g.got (block ∷ []);
   stopped = stopped;
-  front = λ before has. subst (λ f. HasFront f (before ++ samples_of_blocks (g.got ++ block ∷ [])) t'.bytes) (sym same.format)
-      (subst (λ (l : List ℤ). HasFront t.format l t'.bytes) (samples_more before g.got block) (front (before ++ samples_of_blocks g.got) has));
+  front = λ before has. subst (λ f. HasUnfinished f (before ++ samples_of_blocks (g.got ++ block ∷ [])) t'.bytes) (sym same.format)
+      (subst (λ (l : List ℤ). HasUnfinished t.format l t'.bytes) (samples_more before g.got block) (front (before ++ samples_of_blocks g.got) has));
 }

@@ -1,17 +1,19 @@
 -- Blocks after blocks.
-use Rattle.std.proofs.Common.{◌≡◌, ℕ, ◌+◌, ◌≤◌, true, [], ◌∷◌, ◌++◌, length, sym, refl, ◌∙◌, subst, le_trans, le_refl, arith}
-use Rattle.std.specs.Prelude.{Bool}
+use Rattle.std.proofs.Common.{◌≡◌, ℕ, ◌+◌, ◌≤◌, true, List, [], ◌∷◌, ◌++◌, length, sym, refl, ◌∙◌, subst, le_trans, le_refl, arith}
+use Rattle.std.specs.Prelude.{Bool, ℤ, Option}
+use Rattle.jack_types.specs.declared.files.Format.{Format}
 use Rattle.record_ring.specs.Rings.{Getting, Gets}
 use Rattle.record_ring.specs.declared.consumer.Got.TheVariants.{Empty, Ended}
 use Rattle.session_model.specs.Rings.{RingBlock}
-use Rattle.wave_write.specs.Tapes.{Tape}
-use Rattle.disk_recorder.specs.Recordings.{MayWrite, SameEnds, Writes, Fails}
+use Rattle.wave_write.specs.Tapes.{Tape, HasFront, HasUnfinished}
+use Rattle.wave_write.proofs.TapeLemmas.{unfinished-front}
+use Rattle.disk_recorder.specs.Recordings.{MayWrite, SameEnds, Writes, Fails, Breaks, samples_of_blocks}
 use Rattle.disk_recorder.specs.Passing.{Passes}
 use Rattle.disk_recorder.proofs.Fronts.{front_on, front_itself}
 
 pub starts : (g : Getting) (t : Tape) → MayWrite g t → Writes 0 g t g t
 starts g t may = record {
-  same = record { table = refl; room = refl; most = refl; format = refl; name = refl; later = le_refl t.faults; least = le_refl g.least };
+  same = record { table = refl; room = refl; most = refl; format = refl; name = refl; tells = refl; later = le_refl t.faults; least = le_refl g.least };
   longer = front_itself g.got;
   count_is = omega arith;
   samples = λ before has. has;
@@ -21,7 +23,7 @@ starts g t may = record {
 -- no block was there
 idle : (g : Getting) (t : Tape) (found : ℕ) (done : Bool) → MayWrite g t → g.least ≤ found → Writes 0 g t (record g { finds = g.finds ++ found ∷ []; least = found; done = done }) t
 idle g t found done may least = record {
-  same = record { table = refl; room = refl; most = refl; format = refl; name = refl; later = le_refl t.faults; least = least };
+  same = record { table = refl; room = refl; most = refl; format = refl; name = refl; tells = refl; later = le_refl t.faults; least = least };
   longer = front_itself g.got;
   count_is = omega arith;
   samples = λ before has. has;
@@ -41,6 +43,7 @@ ends_on g g₁ g₂ t t₁ t₂ a b = record {
   most = b.most ∙ a.most;
   format = b.format ∙ a.format;
   name = b.name ∙ a.name;
+  tells = b.tells ∙ a.tells;
   later = le_trans a.later b.later;
   least = le_trans a.least b.least;
 }
@@ -72,3 +75,14 @@ passes_empty m g g₁ g₂ t t₁ t₂ sent taken a b = (writes_none m g g₁ g�
 
 pub passes_end : (m : ℕ) (g g₁ g₂ : Getting) (t t₁ t₂ : Tape) → Writes m g t g₁ t₁ → Passes g₁ t₁ g₂ t₂ Ended → Writes m g t g₂ t₂ × (g₂.least ≡ length g₂.got) × (g₂.done ≡ true)
 passes_end m g g₁ g₂ t t₁ t₂ a b = (writes_none m g g₁ g₂ t t₁ t₂ a b.0, b.1, b.2)
+
+-- a file that is stopped behind a failure hands its bytes back
+pub fails_break : (g g' : Getting) (t t' : Tape) (bytes : Option (List ℕ)) → bytes ≡ t'.bytes → Fails g t g' t' → Breaks g t g' bytes
+fails_break g g' t t' bytes same fails = record {
+  longer = fails.longer;
+  least = fails.same.least;
+  front = λ before has.
+      let all : List ℤ = before ++ samples_of_blocks g'.got in
+      subst (λ (told : Option (List ℕ)). HasFront t.format all told) (sym same)
+      (unfinished-front t.format all t'.bytes (subst (λ (f : Format). HasUnfinished f all t'.bytes) fails.same.format (fails.front before has)));
+}

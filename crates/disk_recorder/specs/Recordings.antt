@@ -2,12 +2,12 @@
 --     MayWrite getting tape      when they may be called
 --     Drains, Serves, Finishes      what they did
 --     Fails      what stands behind a failed put
-use Rattle.std.specs.Prelude.{◌≡◌, ℕ, ◌+◌, ◌*◌, ◌<◌, ◌≤◌, true, false, List, ◌++◌, length, take, flat_map, ℤ, Option, IfSome}
+use Rattle.std.specs.Prelude.{◌≡◌, ℕ, ◌+◌, ◌*◌, ◌<◌, ◌≤◌, true, false, List, ◌++◌, length, take, flat_map, ℤ, Option, IfSome, is_some}
 use Rattle.session_model.specs.Rings.{RingBlock}
 use Rattle.session_model.specs.Samples.{width}
 use Rattle.session_model.specs.WaveFiles.{IsFormat, wave_text}
 use Rattle.record_ring.specs.Rings.{Getting, items_of}
-use Rattle.wave_write.specs.Tapes.{Tape, HasSamples, HasFront}
+use Rattle.wave_write.specs.Tapes.{Tape, HasSamples, HasFront, HasUnfinished}
 
 abbrev pub samples_of_blocks : List RingBlock → List ℤ
 samples_of_blocks blocks = flat_map (λ (block : RingBlock). block.samples) blocks
@@ -27,6 +27,7 @@ pub record SameEnds (getting : Getting) (tape : Tape) (getting_after : Getting) 
   pub most : getting_after.most ≡ getting.most
   pub format : tape_after.format ≡ tape.format
   pub name : tape_after.name ≡ tape.name
+  pub tells : is_some tape_after.bytes ≡ is_some tape.bytes
   pub later : tape.faults ≤ tape_after.faults
   pub least : getting.least ≤ getting_after.least
 
@@ -50,12 +51,12 @@ pub record Serves (count : ℕ) (getting : Getting) (tape : Tape) (getting_after
   pub done : getting_after.done ≡ true
   pub all : getting_after.least ≡ length getting_after.got
 
--- a put failed: the file holds a front of the header and of the samples of the blocks got
+-- a put failed: the file, whose sizes are not written, holds a front of its header and of the samples of the blocks got
 pub record Fails (getting : Getting) (tape : Tape) (getting_after : Getting) (tape_after : Tape) : Type 0 where
   pub same : SameEnds getting tape getting_after tape_after
   pub longer : getting.got ≡ take (length getting.got) getting_after.got
   pub stopped : tape_after.stopped ≡ true
-  pub front : (samples : List ℤ) → HasSamples tape (samples ++ samples_of_blocks getting.got) → HasFront tape_after.format (samples ++ samples_of_blocks getting_after.got) tape_after.bytes
+  pub front : (samples : List ℤ) → HasSamples tape (samples ++ samples_of_blocks getting.got) → HasUnfinished tape_after.format (samples ++ samples_of_blocks getting_after.got) tape_after.bytes
 
 -- all blocks that were found, and then the file is finished
 pub record Finishes (count : ℕ) (getting : Getting) (tape : Tape) (getting_after : Getting) (bytes : Option (List ℕ)) : Type 0 where

@@ -24,6 +24,7 @@ pub fn drain<W: Store>(
     requires may { MayWrite consumer.old out.old }
     ensures ok { IfOk result (λ count. Drains most count consumer.old out.old consumer.new out.new) }
     ensures err { OnErr result (Fails consumer.old out.old consumer.new out.new) }
+    ensures few { IfOk result (λ count. 0 < count → length consumer.new.got < 2 ^ 63) }
     ensures spare { block.new.samples.room ≡ block.old.samples.room }
     ensures cause { HasCause out.old.faults out.new.faults result }
 {

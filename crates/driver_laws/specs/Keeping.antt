@@ -20,7 +20,7 @@ use Rattle.session_model.specs.Soundness.{Apart}
 use Rattle.session_model.specs.Transport.{moment, row}
 use Rattle.graph_word.specs.declared.view.TakenRow.{TakenRow}
 use Rattle.record_ring.specs.Rings.{Sending, Getting}
-use Rattle.wave_write.specs.Tapes.{Tape, HasSamples, HasFront}
+use Rattle.wave_write.specs.Tapes.{Tape, HasSamples, HasUnfinished}
 use Rattle.driver_laws.specs.Drivers.{Driver, run, overruns_on, underruns_on, bench_at, memory_in}
 
 -- the changes are commands of calls of the script, each call taken at most once
@@ -109,7 +109,7 @@ HasTape playback samples = IfSome playback (λ tape. HasSamples tape samples)
 
 -- or what a failed put leaves of them
 abbrev pub HasTapeFront : Option Tape → List ℤ → Type 0
-HasTapeFront playback samples = IfSome playback (λ tape. HasFront tape.format samples tape.bytes)
+HasTapeFront playback samples = IfSome playback (λ tape. HasUnfinished tape.format samples tape.bytes)
 
 -- the rings of the recorders are those of the course
 abbrev pub KeepsRings : Driver → Course → Type 0

@@ -1,8 +1,8 @@
 -- What stands of a file that was written, or behind a fault.
-use Rattle.std.proofs.Common.{◌≡◌, ◌∙◌, ◌⊎◌, ◌++◌, ℕ, ℤ, List, [], None, Some, Ok, Err, Bool, true, false, cond, inl, inr, refl, sym, ap, subst, take, drop, length, append-nil}
+use Rattle.std.proofs.Common.{◌≡◌, ◌∙◌, ◌⊎◌, ◌++◌, ℕ, ℤ, List, [], None, Some, Ok, Err, Bool, true, false, cond, inl, inr, refl, sym, ap, subst, take, drop, length, append-nil, true≢false}
 use Rattle.std.proofs.Math.Seq.{take-length}
 use Rattle.std.proofs.lemmas.List.{take-append-drop}
-use Rattle.std.specs.Prelude.{IfSome, is_some, OnErr, OnOk, Option, Result}
+use Rattle.std.specs.Prelude.{IfSome, is_err, is_some, OnErr, OnOk, Option, Result}
 use Rattle.std.specs.Str.{bytes_eq}
 use Rattle.jack_types.specs.declared.files.Format.{Format}
 use Rattle.jack_host.specs.Bytes.{Gains}
@@ -11,6 +11,11 @@ use Rattle.jack_host.specs.Told.{TellsAs}
 use Rattle.session_model.specs.WaveFiles.{wave_text}
 use Rattle.wave_write.specs.Tapes.{HasFront, IsCut}
 use Rattle.jack_control.specs.Plays.{Files, Stays}
+
+-- what holds where there is an error
+pub err-held : {T E : Type 0} (result : Result T E) (P : Type 0) → true ≡ is_err result → OnErr result P → P
+err-held (Ok x) P is holds = absurd (true≢false is)
+err-held (Err e) P is holds = holds
 
 pub cut-front : (format : Format) (samples : List ℤ) (told : Option (List ℕ)) → IfSome told (IsCut format) → HasFront format samples told
 cut-front format samples None h = tt

@@ -1,3 +1,3 @@
 mod Between
 mod FinishingLemmas
-mod TapeLemmas
+pub mod TapeLemmas

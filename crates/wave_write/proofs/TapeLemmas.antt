@@ -1,10 +1,12 @@
 -- A file that is written: what it keeps, what it has after one piece and after several, and what it is in the end.
-use Rattle.std.proofs.Common.{◌≡◌, ℕ, zero, suc, ◌+◌, ◌-◌, ◌*◌, ◌/◌, ◌%◌, ◌<◌, ◌≤◌, List, [], ◌∷◌, ◌++◌, length, take, drop, Some, None, inl, inr, Bool, true, false, refl, sym, ap, subst, ◌∙◌, arith, length-append, append_assoc, append-nil, ℤ}
+use Rattle.std.proofs.Common.{◌≡◌, ℕ, zero, suc, ◌+◌, ◌-◌, ◌*◌, ◌/◌, ◌%◌, ◌<◌, ◌≤◌, List, [], ◌∷◌, ◌++◌, length, take, drop, Some, None, ◌⊎◌, inl, inr, min, Bool, true, false, refl, sym, ap, subst, ◌∙◌, arith, length-append, append_assoc, append-nil, ℤ}
 use Rattle.std.specs.Prelude.{All, IfSome, map, Option, Result, Ok, Err, OnOk, OnErr, replicate, slice_range}
 use Rattle.std.specs.Option.{ForSome}
 use Rattle.std.specs.Int.{w32}
 use Rattle.std.specs.Int.RustNames.{FitsSigned}
-use Rattle.std.proofs.lemmas.List.{take_all, take-append-le, take-append-drop, length-take-le}
+use Rattle.std.proofs.Math.Nat.{min-le_right}
+use Rattle.std.proofs.lemmas.Bool.{cases_lt}
+use Rattle.std.proofs.lemmas.List.{take_all, take-append-le, take-append-drop, length-take, length-take-le}
 use Rattle.std.proofs.lemmas.List.Concat.{flat_map-append}
 use Rattle.std.proofs.lemmas.Nat.{mul-le}
 use Rattle.jack_types.specs.declared.files.Format.{Format}
@@ -13,7 +15,7 @@ use Rattle.session_model.specs.Samples.{bytes_of, storing, width, up, down}
 use Rattle.session_model.specs.WaveFiles.{IsFormat, IsWave, is_width, opening_text, file_text, wave_text}
 use Rattle.session_laws.proofs.WaveSamples.{by_width, length-bytes_of}
 use Rattle.session_laws.proofs.WaveWritten.{wave_text-wave}
-use Rattle.wave_write.specs.Tapes.{Tape, HasSamples, HasFront, AreInOrder, IsCut, IsHeaded, Gained, GainedPart, SameFile, IsKept}
+use Rattle.wave_write.specs.Tapes.{Tape, HasSamples, HasFront, HasUnfinished, AreInOrder, IsCut, IsHeaded, Gained, GainedPart, SameFile, IsKept}
 use Rattle.wave_write.specs.Finishing.{Opens, Finished, FinishedPart}
 use Rattle.wave_write.proofs.FinishingLemmas.{put_at_end, header-between, between-opens, none_is_not_some, opens, riff_of, size_of, take_past}
 
@@ -183,42 +185,104 @@ samples_more (Ok v) a b samples same gained going = λ before has.
         ∙ ap (λ (x : List ℕ). opening_text a.format ++ x) (sym (flat_map-append (λ x. storing a.format.bits (down a.format.bits x)) before samples))
         ∙ ap (λ (f : Format). opening_text f ++ bytes_of f.bits (before ++ samples)) (sym same.format)
 
-pub front_more : {T E : Type 0} (r : Result T E) (a b : Tape) (samples : List ℤ) → OnErr r (GainedPart a b (bytes_of a.format.bits samples))
-    → OnErr r ((before : List ℤ) → HasSamples a before → HasFront a.format (before ++ samples) b.bytes)
-front_more (Ok v) a b samples part = tt
-front_more (Err e) a b samples part = λ before has. go a.bytes b.bytes before part.2 has.bytes
+-- a front is no longer than the whole
+front-short : (whole front : List ℕ) → front ≡ take (length front) whole → length front ≤ length whole
+front-short whole front is =
+    let short : length front ≡ min (length front) (length whole) = ap length is ∙ length-take (length front) whole in
+    subst (λ n. n ≤ length whole) (sym short) (min-le_right (length front) (length whole))
+
+-- behind a put that failed
+pub unfinished_more : {T E : Type 0} (r : Result T E) (a b : Tape) (samples : List ℤ) → OnErr r (GainedPart a b (bytes_of a.format.bits samples))
+    → OnErr r ((before : List ℤ) → HasSamples a before → HasUnfinished a.format (before ++ samples) b.bytes)
+unfinished_more (Ok v) a b samples part = tt
+unfinished_more (Err e) a b samples part = λ before has. go a.bytes b.bytes before part.2 has.bytes
   where
     go : (told now : Option (List ℕ)) (before : List ℤ) → Gains told now (take part.0 (bytes_of a.format.bits samples)) → IfSome told (λ bytes. bytes ≡ opening_text a.format ++ bytes_of a.format.bits before)
-        → HasFront a.format (before ++ samples) now
+        → HasUnfinished a.format (before ++ samples) now
     go None None before f h = tt
     go None (Some ys) before f h = absurd f
     go (Some xs) None before f h = absurd f
-    go (Some xs) (Some ys) before f h =
-        inr (
-          opening_text a.format,
-          length one + part.0,
-          header-between a.format body opens opens (between-opens (riff_of body) refl) (between-opens (size_of body) refl),
-          f ∙ ap (λ (x : List ℕ). x ++ take part.0 two) h ∙ append_assoc (opening_text a.format) one (take part.0 two)
-              ∙ ap (λ (x : List ℕ). opening_text a.format ++ x) (sym cut),
-        )
+    go (Some xs) (Some ys) before f h = subst (λ (bytes : List ℕ). bytes ≡ take (length bytes) all) (sym is) front
       where
         one : List ℕ
-        one = bytes_of a.format.bits before
+        one = opening_text a.format ++ bytes_of a.format.bits before
 
         two : List ℕ
         two = bytes_of a.format.bits samples
 
-        body : List ℕ
-        body = bytes_of a.format.bits (before ++ samples)
+        all : List ℕ
+        all = opening_text a.format ++ bytes_of a.format.bits (before ++ samples)
 
-        cut : take (length one + part.0) (drop 44 (wave_text a.format (before ++ samples))) ≡ one ++ take part.0 two
-        cut =
-            take-append-le (length one + part.0) body (replicate (length body % 2) 0) (omega (arith, ap length split, length-append one two, part.1))
-            ∙ ap (take (length one + part.0)) split
-            ∙ take_past one two part.0
-          where
-            split : body ≡ one ++ two
-            split = flat_map-append (λ x. storing a.format.bits (down a.format.bits x)) before samples
+        is : ys ≡ one ++ take part.0 two
+        is = f ∙ ap (λ (x : List ℕ). x ++ take part.0 two) h
+
+        all-is : all ≡ one ++ two
+        all-is = ap (λ (x : List ℕ). opening_text a.format ++ x) (flat_map-append (λ x. storing a.format.bits (down a.format.bits x)) before samples)
+            ∙ sym (append_assoc (opening_text a.format) (bytes_of a.format.bits before) two)
+
+        front : one ++ take part.0 two ≡ take (length (one ++ take part.0 two)) all
+        front =
+            sym (take_past one two part.0)
+            ∙ ap (λ n. take n (one ++ two)) (sym (length-append one (take part.0 two) ∙ ap (λ n. length one + n) (length-take-le part.0 two part.1)))
+            ∙ ap (take (length (one ++ take part.0 two))) (sym all-is)
+
+-- a file that has samples is not finished
+pub samples-unfinished : (tape : Tape) (samples : List ℤ) → HasSamples tape samples → HasUnfinished tape.format samples tape.bytes
+samples-unfinished tape samples has = go tape.bytes has.bytes
+  where
+    go : (told : Option (List ℕ)) → IfSome told (λ bytes. bytes ≡ opening_text tape.format ++ bytes_of tape.format.bits samples) → HasUnfinished tape.format samples told
+    go None h = tt
+    go (Some bytes) h = sym (ap (take (length bytes)) (sym h) ∙ take_all (length bytes) bytes (omega arith))
+
+-- a front of an unfinished file is one of each longer one
+pub unfinished-longer : (format : Format) (samples more : List ℤ) (told : Option (List ℕ)) → HasUnfinished format samples told → HasUnfinished format (samples ++ more) told
+unfinished-longer format samples more None h = tt
+unfinished-longer format samples more (Some bytes) h = h ∙ sym (ap (take (length bytes)) all-is ∙ take-append-le (length bytes) one two short)
+  where
+    one : List ℕ
+    one = opening_text format ++ bytes_of format.bits samples
+
+    two : List ℕ
+    two = bytes_of format.bits more
+
+    all-is : opening_text format ++ bytes_of format.bits (samples ++ more) ≡ one ++ two
+    all-is = ap (λ (x : List ℕ). opening_text format ++ x) (flat_map-append (λ x. storing format.bits (down format.bits x)) samples more)
+        ∙ sym (append_assoc (opening_text format) (bytes_of format.bits samples) two)
+
+    short : length bytes ≤ length one
+    short = front-short one bytes h
+
+-- and it is one of the finished file
+pub unfinished-front : (format : Format) (samples : List ℤ) (told : Option (List ℕ)) → HasUnfinished format samples told → HasFront format samples told
+unfinished-front format samples None h = tt
+unfinished-front format samples (Some bytes) h = go (cases_lt (length bytes) 44)
+  where
+    opening : List ℕ
+    opening = opening_text format
+
+    body : List ℕ
+    body = bytes_of format.bits samples
+
+    pad : List ℕ
+    pad = replicate (length body % 2) 0
+
+    opening-long : length opening ≡ 44
+    opening-long = refl
+
+    short : length bytes ≤ 44 + length body
+    short = let low = front-short (opening ++ body) bytes h in omega (arith, low, length-append opening body, opening-long)
+
+    go : (length bytes < 44) ⊎ (44 ≤ length bytes) → IsCut format bytes ⊎ IsHeaded opening (wave_text format samples) bytes
+    go (inl low) = inl (h ∙ take-append-le (length bytes) opening body (omega (arith, low, opening-long)))
+    go (inr high) =
+        let split : length bytes ≡ length opening + (length bytes - 44) = omega (arith, high, opening-long) in
+        inr (
+          opening,
+          length bytes - 44,
+          header-between format body opens opens (between-opens (riff_of body) refl) (between-opens (size_of body) refl),
+          h ∙ ap (λ n. take n (opening ++ body)) split ∙ take_past opening body (length bytes - 44)
+              ∙ ap (λ (x : List ℕ). opening ++ x) (sym (take-append-le (length bytes - 44) body pad (omega (arith, short, high)))),
+        )
 
 -- ---- the finished file
 

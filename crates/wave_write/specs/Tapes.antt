@@ -2,6 +2,7 @@
 --     Tape      a file that is written: its format, its store's name and bytes where these are told, and how far it came
 --     HasSamples tape samples      it holds the unfinished header and the bytes of these samples
 --     HasFront format samples told      what a store holds behind a fault, if it tells
+--     HasUnfinished format samples told      what it holds behind a put that failed: sizes are not written yet
 --     Gained old new bytes, GainedPart old new bytes      all of the bytes were appended, or a front of them
 use Rattle.std.specs.Prelude.{◌≡◌, ℕ, ◌+◌, ◌≤◌, ◌⊎◌, Bool, false, List, ◌++◌, length, take, drop, slice_get, slice_range, ℤ, Option, IfSome, is_some}
 use Rattle.std.specs.Option.{ForSome}
@@ -46,6 +47,10 @@ AreInOrder opening final bytes = (slice_range bytes 40 44 ≡ slice_range openin
 -- the pad byte counted to them
 abbrev pub HasFront : Format → List ℤ → Option (List ℕ) → Type 0
 HasFront format samples told = IfSome told (λ bytes. IsCut format bytes ⊎ IsHeaded (opening_text format) (wave_text format samples) bytes)
+
+-- behind a put that failed a store that tells holds a front of the unfinished file, whose sizes are those of the opening
+abbrev pub HasUnfinished : Format → List ℤ → Option (List ℕ) → Type 0
+HasUnfinished format samples told = IfSome told (λ bytes. bytes ≡ take (length bytes) (opening_text format ++ bytes_of format.bits samples))
 
 -- one file, before and after: its count of faults never falls, and it tells its bytes afterwards where it did before
 pub record SameFile (old new : Tape) : Type 0 where

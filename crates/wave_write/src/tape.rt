@@ -5,7 +5,7 @@ ghost use Rattle.std.specs.Int.RustNames.{FitsSigned};
 ghost use Rattle.jack_host.specs.Causes.{HasCause, Rose};
 ghost use Rattle.session_model.specs.Samples.{bytes_of, down, up, width};
 ghost use Rattle.session_model.specs.WaveFiles.{IsFormat, IsWave, opening_text, wave_text};
-ghost use Rattle.wave_write.specs.Tapes.{AreInOrder, Gained, GainedPart, HasFront, HasSamples, IsCut, SameFile};
+ghost use Rattle.wave_write.specs.Tapes.{AreInOrder, Gained, GainedPart, HasFront, HasSamples, HasUnfinished, IsCut, SameFile};
 
 use crate::finishing::{complete, write};
 use crate::header::opening;
@@ -79,7 +79,7 @@ impl<W: Store> WaveOut<W> {
 
         // The samples go behind whatever samples the file had.
         ensures samples { OnOk result ((before : List ℤ) → HasSamples self.old before → HasSamples self.new (before ++ samples.now)) }
-        ensures front { OnErr result ((before : List ℤ) → HasSamples self.old before → HasFront self.old.format (before ++ samples.now) self.new.bytes) }
+        ensures front { OnErr result ((before : List ℤ) → HasSamples self.old before → HasUnfinished self.old.format (before ++ samples.now) self.new.bytes) }
 
         ensures file { SameFile self.old self.new }
         ensures cause { HasCause self.old.faults self.new.faults result }

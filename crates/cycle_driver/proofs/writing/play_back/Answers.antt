@@ -5,7 +5,7 @@ use Rattle.session_model.specs.Samples.{below, bytes_of, width}
 use Rattle.session_laws.proofs.SequentialLemmas.{length-below}
 use Rattle.session_laws.proofs.WaveSamples.{length-bytes_of}
 use Rattle.playback_mix.specs.Mixes.{channel_mix}
-use Rattle.wave_write.specs.Tapes.{Gained, HasFront, HasSamples}
+use Rattle.wave_write.specs.Tapes.{Gained, HasSamples, HasUnfinished}
 use Rattle.cycle_laws.proofs.ListLemmas.{interleaved-length}
 use Rattle.cycle_driver.proofs.ResultLemmas.{on-ok}
 use Rattle.cycle_driver.proofs.writing.play_back.Goals as goal
@@ -22,7 +22,7 @@ pub returns-clause-samples : goal.returns-clause-samples
 returns-clause-samples g c = subst (λ xs. OnOk c.put.result ((before : List ℤ) → HasSamples c.args.file.now before → HasSamples c.put.new.self (before ++ xs))) (c.block.ensures ∙ c.mix.ensures.block) c.put.ensures.samples
 
 pub returns-clause-front : goal.returns-clause-front
-returns-clause-front g c = subst (λ xs. OnErr c.put.result ((before : List ℤ) → HasSamples c.args.file.now before → HasFront c.args.file.now.format (before ++ xs) c.put.new.self.bytes)) (c.block.ensures ∙ c.mix.ensures.block) c.put.ensures.front
+returns-clause-front g c = subst (λ xs. OnErr c.put.result ((before : List ℤ) → HasSamples c.args.file.now before → HasUnfinished c.args.file.now.format (before ++ xs) c.put.new.self.bytes)) (c.block.ensures ∙ c.mix.ensures.block) c.put.ensures.front
 
 pub returns-clause-written : goal.returns-clause-written
 returns-clause-written g c = on-ok c.put.result (Gained c.args.file.now c.put.new.self (bytes_of c.args.file.now.format.bits c.block.result.now)) (c.put.new.self.written ≡ c.args.file.now.written + c.args.period * c.args.mix.now.channels * width c.args.file.now.format.bits)

@@ -1,10 +1,11 @@
-use Rattle.std.proofs.Common.{◌≡◌}
+use Rattle.std.proofs.Common.{◌≡◌, ◌<◌, ◌^◌, length}
 use Rattle.disk_recorder.specs.Recordings.{Writes}
 use Rattle.disk_recorder.proofs.writing.drain.Given as goal
 
 abbrev pub invariant-loop-count : goal.invariant-loop-count
 invariant-loop-count g l = record {
   writes : Writes l.count l.initial.consumer l.initial.out l.consumer l.out;
+  few : 0 < l.count → length l.consumer.got < 2 ^ 63;
   room : l.block.samples.room ≡ l.consumer.samples;
   spare : l.block.samples.room ≡ l.initial.block.samples.room;
 }

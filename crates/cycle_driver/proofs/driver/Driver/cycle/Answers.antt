@@ -9,7 +9,7 @@ use Rattle.cycle_plan.specs.Plans.{Planned}
 use Rattle.client_wiring.specs.declared.joints.Heard.{Heard}
 use Rattle.bench_rack.specs.Racks.{Racked}
 use Rattle.playback_mix.specs.Mixes.{channel_mix}
-use Rattle.wave_write.specs.Tapes.{HasFront, HasSamples}
+use Rattle.wave_write.specs.Tapes.{HasSamples, HasUnfinished}
 use Rattle.driver_laws.specs.Cycling.{CyclesOnce, FailsAtRead, FailsAtWrite, MayCycle, StepsOnce}
 use Rattle.driver_laws.specs.Drivers.{frames_run}
 use Rattle.driver_laws.specs.Keeping.{Fits, HasTape, Keeps}
@@ -178,7 +178,7 @@ returns-then-is_err-2-clause-write g c is_write = subst (λ gear. FailsAtWrite (
       plays left course fits keeps told,
       record {
         in_run = may.turn_is ∙ c.if-freewheel.false;
-        front = λ samples has. subst (λ xs. HasFront c.play_back-played.new.file.format (samples ++ xs) c.play_back-played.new.file.bytes) (mixed left told) (subst (λ format. HasFront format (samples ++ interleaved c.turn.new.works.set (map (channel_mix c.turn.new.works.set c.benches.result.now c.turn.new.works.capture.channels c.heard.result.now) (below c.self.inside.mix.channels))) c.play_back-played.new.file.bytes) (sym c.play_back-played.ensures.file.format) (front samples (subst (λ o. HasTape o samples) was has)));
+        front = λ samples has. subst (λ xs. HasUnfinished c.play_back-played.new.file.format (samples ++ xs) c.play_back-played.new.file.bytes) (mixed left told) (subst (λ format. HasUnfinished format (samples ++ interleaved c.turn.new.works.set (map (channel_mix c.turn.new.works.set c.benches.result.now c.turn.new.works.capture.channels c.heard.result.now) (below c.self.inside.mix.channels))) c.play_back-played.new.file.bytes) (sym c.play_back-played.ensures.file.format) (front samples (subst (λ o. HasTape o samples) was has)));
       },
     )))
   where
@@ -214,8 +214,8 @@ returns-then-is_err-2-clause-write g c is_write = subst (λ gear. FailsAtWrite (
     was : c.self.inside.playback ≡ Some c.in-Some.file
     was = c.in-Some.is
 
-    front : (samples : List ℤ) → HasSamples c.in-Some.file samples → HasFront c.in-Some.file.format (samples ++ interleaved c.turn.new.works.set (map (channel_mix c.turn.new.works.set c.benches.result.now c.turn.new.works.capture.channels c.heard.result.now) (below c.self.inside.mix.channels))) c.play_back-played.new.file.bytes
-    front = err-held c.play_back-played.result ((samples : List ℤ) → HasSamples c.in-Some.file samples → HasFront c.in-Some.file.format (samples ++ interleaved c.turn.new.works.set (map (channel_mix c.turn.new.works.set c.benches.result.now c.turn.new.works.capture.channels c.heard.result.now) (below c.self.inside.mix.channels))) c.play_back-played.new.file.bytes) c.if-is_err-2.ensures.value c.play_back-played.ensures.front
+    front : (samples : List ℤ) → HasSamples c.in-Some.file samples → HasUnfinished c.in-Some.file.format (samples ++ interleaved c.turn.new.works.set (map (channel_mix c.turn.new.works.set c.benches.result.now c.turn.new.works.capture.channels c.heard.result.now) (below c.self.inside.mix.channels))) c.play_back-played.new.file.bytes
+    front = err-held c.play_back-played.result ((samples : List ℤ) → HasSamples c.in-Some.file samples → HasUnfinished c.in-Some.file.format (samples ++ interleaved c.turn.new.works.set (map (channel_mix c.turn.new.works.set c.benches.result.now c.turn.new.works.capture.channels c.heard.result.now) (below c.self.inside.mix.channels))) c.play_back-played.new.file.bytes) c.if-is_err-2.ensures.value c.play_back-played.ensures.front
 
 pub returns-then-is_err-2-clause-write_cause : goal.returns-then-is_err-2-clause-write_cause
 returns-then-is_err-2-clause-write_cause g c is_write = (
