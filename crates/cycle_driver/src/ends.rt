@@ -11,7 +11,7 @@ use wave_pcm::Wave;
 use wave_write::WaveOut;
 
 impl<S: Source, W: Store, G: Guest> Driver<S, W, G> {
-    ghost use Rattle.std.specs.Prelude.{◌≡◌, ◌<◌, ◌≤◌, [], IfErr, IfSome, None, OnErr, OnOk, Some, is_some, length, slice_set};
+    ghost use Rattle.std.specs.Prelude.{◌≡◌, ◌<◌, ◌≤◌, [], false, IfErr, IfSome, None, OnErr, OnOk, Some, is_some, length, slice_set};
     ghost use Rattle.std.specs.Borrow.{sem, Lends};
     ghost use Rattle.graph_word.specs.contracts.reader.Reader.{the_row as the_reader};
     ghost use Rattle.cycle_plan.specs.contracts.plan.Plan.{the_row as the_plan};
@@ -61,9 +61,10 @@ impl<S: Source, W: Store, G: Guest> Driver<S, W, G> {
         &self.works.numbers
     }
 
-    /// What the transport showed in each cycle run.
+    /// What the transport showed in each cycle run: as many as there are numbers, where nothing failed.
     pub fn moments(&self) -> &[Moment]
-        ensures { result.now ≡ self.now.moments }
+        ensures value { result.now ≡ self.now.moments }
+        ensures count { self.now.failed ≡ false → length self.now.moments ≡ length self.now.numbers }
     {
         &self.works.moments
     }

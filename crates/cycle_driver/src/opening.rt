@@ -171,6 +171,7 @@ fn assemble<S: Source, W: Store, G: Guest>(
     ensures new { IsNew script.now made.stage.staged.owned.scores (driver_of result) }
     ensures capture { result.capture ≡ capture }
     ensures reader { result.reading ≡ reader.0 }
+    ensures rings { result.rings ≡ made.rings }
 {
     let header = script.header();
     Driver {
@@ -197,8 +198,11 @@ fn assemble<S: Source, W: Store, G: Guest>(
 }
 
 impl<S: Source, W: Store, G: Guest> Driver<S, W, G> {
-    ghost use Rattle.std.specs.Prelude.{◌≡◌, ◌≤◌, [], IfErr, IfOk, false, length, map};
+    ghost use Rattle.std.specs.Prelude.{◌≡◌, ◌*◌, ◌≤◌, [], IfErr, IfOk, false, length, map};
+    ghost use Rattle.session_model.specs.Scripts.{turns};
+    ghost use Rattle.driver_laws.specs.Drivers.{greatest_period};
     ghost use Rattle.driver_laws.specs.Openings.{IsNew};
+    ghost use Rattle.recorder_rings.specs.Openings.{IsNew as AreNew};
     ghost use Rattle.task_laws.specs.Calls.{guests_needed};
     ghost use Rattle.cycle_laws.specs.Gears.{IsServed, driver_of};
 
@@ -218,6 +222,7 @@ impl<S: Source, W: Store, G: Guest> Driver<S, W, G> {
         ensures new { IfOk result (λ driver. IsNew script.now (map G.score guests.items) (driver_of driver)) }
         ensures capture { IfOk result (λ driver. driver.capture.reading ≡ capture) }
         ensures reader { IfOk result (λ driver. driver.reading ≡ reader.0) }
+        ensures rings { IfOk result (λ driver. AreNew script.now.header.recorders script.now.header.ring (greatest_period script.now) (length (turns script.now) * length script.now.header.recorders) driver.rings) }
         ensures back { IfErr result (λ refused. refused.0 ≡ capture) }
     {
         let made = match make(alloc, script, guests) {
