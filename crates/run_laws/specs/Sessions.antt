@@ -20,15 +20,8 @@ use Rattle.control_desk.specs.Desks.{Desk, IsDesk}
 use Rattle.driver_laws.specs.Drivers.{Driver, HasOwnRings, HasOwnRows, overruns_on, run, underruns_on}
 use Rattle.driver_laws.specs.Keeping.{Fits, Keeps}
 
--- where a session is: stores are attached, it was run, it was ended, or something failed
-pub data Standing : Type 0 where
-  Attaching : Standing
-  WasRun : Standing
-  WasEnded : Standing
-  HasFailed : Standing
-
 -- `getting`, `tapes` and `counts` are each recorder's consumer, its file in the making and how many blocks were written into it; `putting` and `sources` are each disk's
--- producer and what its source tells to be left; `playback_file` and `record_files` are what the finished files tell; `attached` is how many stores are attached
+-- producer and what its source tells to be left; `playback_file` and `record_files` are what the stores tell that came back
 pub record Session : Type 0 where
   pub script : Script
   pub desk : Desk
@@ -40,8 +33,6 @@ pub record Session : Type 0 where
   pub sources : List (Option (List ℤ))
   pub playback_file : Option (List ℕ)
   pub record_files : List (Option (List ℕ))
-  pub attached : ℕ
-  pub standing : Standing
 
 -- what its report says: the desk's history, and the driver's numbers, overruns and underruns
 abbrev pub printed_of : Session → Printed

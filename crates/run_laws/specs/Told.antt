@@ -26,7 +26,7 @@ use Rattle.wave_write.specs.Tapes.{HasFront}
 use Rattle.control_desk.specs.Desks.{IsNewDesk, base_of}
 use Rattle.driver_laws.specs.Drivers.{Driver, log_in, overruns_on, peak_in, run, underruns_on}
 use Rattle.driver_laws.specs.Openings.{IsNew as IsNewDriver}
-use Rattle.run_laws.specs.Sessions.{Session, Attaching, IsGiven, IsOne, KeepsGiven, course_in, printed_of}
+use Rattle.run_laws.specs.Sessions.{Session, IsGiven, IsOne, KeepsGiven, course_in, printed_of}
 use Rattle.run_laws.specs.Runs.{AtPhase, RanPhases}
 
 -- behind `new`: nothing was published, run, put, got or attached
@@ -39,8 +39,6 @@ pub record IsNew (session : Session) : Type 0 where
   pub no_puts : All (λ (ring : Sending). ring.put ≡ []) session.putting
   pub counts : session.counts ≡ map (λ _. 0) session.script.header.recorders
   pub no_tapes : session.tapes ≡ []
-  pub none : session.attached ≡ 0
-  pub standing : session.standing ≡ Attaching
 
 -- the history is legal and the numbers are within their bounds
 pub record HasLists (session : Session) : Type 0 where
