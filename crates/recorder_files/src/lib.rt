@@ -1,0 +1,8 @@
+//! A recorder of a session: the end of its ring that gets, and the file that is filled from it.
+#![tactic(auto)]
+
+mod recorder;
+#[cfg(test)]
+mod tests;
+
+pub use recorder::Recorder;
