@@ -1,0 +1,199 @@
+-- A serial session before its first phase.
+--     IsOne-bare      files are no matter of whether its parts belong together
+--     KeepsAny-bare      nor of what is kept, where the playback's has no samples
+--     HaveMet-opening      the ends of a new publication have met
+--     IsSound-new, SerialBehind-new, SerialKept-new      where a new session stands whose files are begun
+use Rattle.std.proofs.Common.{◌≡◌, ℕ, ◌<◌, ◌≤◌, false, List, [], length, take, slice_get, All, IsNone, Some, None, refl, sym, ◌∙◌, ap, subst}
+use Rattle.std.specs.Prelude.{Contains}
+use Rattle.std.proofs.lemmas.List.Elements.{All-weaker}
+use Rattle.std.proofs.lemmas.Option.{get_or_from_slice_get, slice_get_within}
+use Rattle.jack_types.specs.declared.replies.Overrun.{Overrun}
+use Rattle.jack_types.specs.declared.replies.Underrun.{Underrun}
+use Rattle.session_model.specs.Courses.{Course}
+use Rattle.session_model.specs.Explanations.{Given}
+use Rattle.session_model.specs.Histories.{accepted}
+use Rattle.session_model.specs.Publication.{SeenPair}
+use Rattle.session_model.specs.Rings.{RingBlock}
+use Rattle.session_model.specs.Serial.{counts, serial_course, serial_history, serial_numbers}
+use Rattle.graph_word.specs.declared.plans.Base.{Base}
+use Rattle.graph_word.specs.declared.view.TakenRow.{TakenRow}
+use Rattle.graph_word.specs.Publications.{HaveMet, IsFront, IsOpening, Publishing, Reading, last_row}
+use Rattle.record_ring.specs.Rings.{Getting, Sending}
+use Rattle.control_desk.specs.Desks.{base_of}
+use Rattle.driver_laws.specs.Drivers.{Driver, HasOwnRings, HasOwnRows, overruns_on, run, turn_of}
+use Rattle.driver_laws.specs.Keeping.{Fits, HasTape, Keeps, played_so_far}
+use Rattle.driver_laws.specs.Openings.{IsEmptyRing}
+use Rattle.driver_laws.proofs.PlaceLemmas.{none_below}
+use Rattle.serial_lanes.specs.Laws.{BehindNone}
+use Rattle.run_laws.specs.Runs.{HasFiles, MissesInRun}
+use Rattle.run_laws.specs.SerialRuns.{HasCounts, RingSerial, SerialBehind, SerialKept}
+use Rattle.run_laws.specs.Sessions.{IsGiven, IsMet, IsOne, KeepsAny, Session}
+use Rattle.run_laws.specs.Told.{IsNew}
+use Rattle.serial_laws.specs.Openings.{AreFresh, bare}
+use Rattle.serial_laws.specs.Steps.{IsSound}
+
+-- all items of an empty list are anything
+all-none : {X : Type 0} (P : X → Type 0) (xs : List X) → xs ≡ [] → All P xs
+all-none P xs none k d h = absurd (none_below (subst (λ ys. k < length ys) none h))
+
+contains-none : {X : Type 0} (xs : List X) (x : X) → xs ≡ [] → Contains xs x → ⊥
+contains-none xs x none there = none_below (subst (λ ys. there.0 < length ys) none there.1)
+
+nothing_there : {X : Type 0} (xs : List X) (k : ℕ) (x : X) → xs ≡ [] → slice_get xs k ≡ Some x → ⊥
+nothing_there xs k x none here = none_below (subst (λ ys. k < length ys) none (slice_get_within xs k x here))
+
+-- what holds of all items holds of the one at a place
+all-there : {X : Type 0} (P : X → Type 0) (xs : List X) (k : ℕ) (x : X) → All P xs → slice_get xs k ≡ Some x → P x
+all-there P xs k x all here = subst P (get_or_from_slice_get xs k x x here) (all k x (slice_get_within xs k x here))
+
+HasOwnRows-bare : (driver : Driver) → HasOwnRows (record driver { playback = None }) → HasOwnRows driver
+HasOwnRows-bare driver rows = record { cycles = rows.cycles; numbers = rows.numbers; last = rows.last; place = rows.place; base = rows.base }
+
+HasOwnRings-bare : (driver : Driver) → HasOwnRings (record driver { playback = None }) → HasOwnRings driver
+HasOwnRings-bare driver rings = record {
+  recorders = rings.recorders;
+  disks = rings.disks;
+  puts = rings.puts;
+  gets = rings.gets;
+  own = λ recorder ring here. record { samples = (rings.own recorder ring here).samples; most = (rings.own recorder ring here).most; items = (rings.own recorder ring here).items };
+}
+
+pub IsOne-bare : (session : Session) → IsOne (bare session) → IsOne session
+IsOne-bare session one = record {
+  lawful = one.lawful;
+  desk_script = one.desk_script;
+  driver_script = one.driver_script;
+  desk = one.desk;
+  table = one.table;
+  base = one.base;
+  rows = HasOwnRows-bare session.driver one.rows;
+  rings = HasOwnRings-bare session.driver one.rings;
+  own_recorders = one.own_recorders;
+  own_disks = one.own_disks;
+  capacity = one.capacity;
+  recorder_ends = one.recorder_ends;
+  recorder_pairs = one.recorder_pairs;
+  disk_ends = one.disk_ends;
+  disk_pairs = one.disk_pairs;
+}
+
+-- a playback is no matter of what fits
+Fits-bare : (driver : Driver) (course : Course) → Fits driver course → Fits (record driver { playback = None }) course
+Fits-bare driver course fits = record {
+  script = fits.script;
+  scores = fits.scores;
+  channels = fits.channels;
+  of_calls = fits.of_calls;
+  numbers = fits.numbers;
+  rows = fits.rows;
+  underruns = fits.underruns;
+  disks = fits.disks;
+}
+
+-- before the first cycle nothing was played
+Keeps-bare : (driver : Driver) (course : Course) → run driver ≡ 0 → HasTape driver.playback [] → Keeps (record driver { playback = None }) course → Keeps driver course
+Keeps-bare driver course none tape keeps = record {
+  moments = keeps.moments;
+  transport = keeps.transport;
+  rings = keeps.rings;
+  disks = keeps.disks;
+  left = keeps.left;
+  playback = subst (λ n. HasTape driver.playback (played_so_far course n)) (sym none) tape;
+  driven = keeps.driven;
+}
+
+pub KeepsAny-bare : (given : Given) (driver : Driver) → run driver ≡ 0 → HasTape driver.playback [] → KeepsAny given (record driver { playback = None }) → KeepsAny given driver
+KeepsAny-bare given driver none tape keeps course over fits = Keeps-bare driver course none tape (keeps course over (Fits-bare driver course fits))
+
+-- before any commit, take or look both ends know nothing
+pub HaveMet-opening : (base : Base) (publisher : Publishing) (reader : Reading) → IsOpening base publisher reader → HaveMet publisher reader
+HaveMet-opening base publisher reader new = record {
+  one = sym (ap (λ (r : Reading). r.table) new.reader_is);
+  same_base = ap (λ (p : Publishing). p.base) new.publisher_is ∙ sym (ap (λ (r : Reading). r.base) new.reader_is);
+  reads = all-none (λ number. number ≤ length publisher.all) reader.reads (ap (λ (r : Reading). r.reads) new.reader_is);
+  held = subst (λ held. IsFront held publisher.all) (sym (ap (λ (r : Reading). r.held) new.reader_is)) refl;
+  rows = all-none (λ (row : TakenRow). IsFront row.changes publisher.all) reader.rows (ap (λ (r : Reading). r.rows) new.reader_is);
+  seen = all-none (λ (pair : SeenPair). pair.cycle ≤ last_row reader.rows) publisher.pairs none_seen;
+  bounded = λ pair row seen begun early. absurd (contains-none publisher.pairs pair none_seen seen);
+}
+  where
+    none_seen : publisher.pairs ≡ []
+    none_seen = ap (λ (p : Publishing). p.pairs) new.publisher_is
+
+module _ (session : Session) (new : IsNew (bare session)) where
+  none_run : run session.driver ≡ 0
+  none_run = ap length new.new_driver.numbers
+
+  one : IsOne session
+  one = IsOne-bare session new.one
+
+  misses : MissesInRun session
+  misses = record {
+    overruns = all-none (λ (overrun : Overrun). (turn_of session.script overrun.cycle).is_freewheel ≡ false) session.driver.overruns new.new_driver.overruns;
+    underruns = all-none (λ (underrun : Underrun). (turn_of session.script underrun.cycle).is_freewheel ≡ false) session.driver.underruns new.new_driver.underruns;
+  }
+
+  met : IsMet session
+  met = record {
+    met = HaveMet-opening (base_of session.script) session.desk.publishing session.driver.reading new.opening;
+    reader = ap (λ (r : Reading). r.least) new.opening.reader_is ∙ sym (ap (λ (p : Publishing). length p.all) new.opening.publisher_is);
+    publisher = ap (λ (p : Publishing). p.least) new.opening.publisher_is ∙ sym none_run;
+  }
+
+  empty_ring : (recorder : ℕ) (ring : Sending) → slice_get session.driver.rings recorder ≡ Some ring → IsEmptyRing session.script.header.ring ring
+  empty_ring recorder ring here = all-there (IsEmptyRing session.script.header.ring) session.driver.rings recorder ring new.new_driver.rings here
+
+  pub IsSound-new : IsNone session.script.header.threads → session.putting ≡ [] → HasFiles session → IsSound session
+  IsSound-new serial no_disks files = record {
+    one = one;
+    serial = serial;
+    misses = misses;
+    files = files;
+    no_end = All-weaker (IsEmptyRing session.script.header.ring) (λ (ring : Sending). ring.ended ≡ false) (λ ring empty. empty.ended) session.driver.rings new.new_driver.rings;
+    no_disks = no_disks;
+  }
+
+  pub SerialBehind-new : BehindNone → IsNone session.script.header.threads → session.putting ≡ [] → HasFiles session → SerialBehind session 0
+  SerialBehind-new none serial no_disks files = record {
+    so_far = record {
+      one = one;
+      serial = serial;
+      numbers = new.new_driver.numbers ∙ ap (λ n. take n (serial_numbers session.script)) (sym none_run);
+      rows = all-none (λ (row : TakenRow). IsFront row.changes (accepted (serial_history session.script))) session.driver.reading.rows new.new_driver.rows;
+      met = met;
+      misses = misses;
+      files = files;
+    };
+    desk = none session.script session.desk.publishing session.desk new.new_desk;
+    cycles_are = none_run;
+  }
+
+  -- no block was put or got, and each end's next look may find as many
+  ring_serial : AreFresh session → (recorder : ℕ) (ring : Sending) (got : Getting) → slice_get session.driver.rings recorder ≡ Some ring → slice_get session.getting recorder ≡ Some got → RingSerial session recorder ring got
+  ring_serial fresh recorder ring got ring_there got_there = record {
+    counted = subst (λ n. HasCounts ring got (counts (serial_course session.script) recorder n)) (sym none_run) (record {
+      sent = ap length put;
+      taken = ap length none_got;
+      front = none_got ∙ ap (λ (bs : List RingBlock). take (length bs) ring.put) (sym none_got);
+      looks = all-there (λ (r : Sending). r.least ≡ 0) session.driver.rings recorder ring fresh.rings ring_there ∙ sym (ap length none_got);
+      finds = all-there (λ (g : Getting). g.least ≡ 0) session.getting recorder got fresh.getting got_there ∙ sym (ap length put);
+      open_ended = (empty_ring recorder ring ring_there).ended;
+    });
+    losses = ap (λ (os : List Overrun). overruns_on os recorder) new.new_driver.overruns ∙ ap (λ n. (counts (serial_course session.script) recorder n).losses) (sym none_run);
+  }
+    where
+      put : ring.put ≡ []
+      put = (empty_ring recorder ring ring_there).put
+
+      none_got : got.got ≡ []
+      none_got = all-there (λ (g : Getting). g.got ≡ []) session.getting recorder got new.no_gets got_there
+
+  pub SerialKept-new : ((session : Session) (given : Given) → IsNew session → IsGiven session given → KeepsAny given session.driver) → (given : Given)
+      → session.putting ≡ [] → HasTape session.driver.playback [] → AreFresh session → IsGiven session given → SerialKept given session
+  SerialKept-new keeps given no_disks tape fresh is_given = record {
+    own = is_given.own;
+    keeps = KeepsAny-bare given session.driver none_run tape (keeps (bare session) given new (record { own = record { script = is_given.own.script; scores = is_given.own.scores; channels = is_given.own.channels }; capture = is_given.capture; disks = is_given.disks }));
+    rings = ring_serial fresh;
+    disks = λ disk ring here. absurd (nothing_there session.putting disk ring no_disks here);
+    turned = λ course over fits disk ring here. absurd (nothing_there session.putting disk ring no_disks here);
+  }

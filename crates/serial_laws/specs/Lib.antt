@@ -1,0 +1,4 @@
+pub mod Steps
+pub mod Faults
+pub mod Endings
+pub mod Openings

@@ -1,0 +1,77 @@
+//! What stands behind a fault of a serial session.
+
+ghost use Rattle.std.specs.Prelude.{◌≡◌, ◌+◌, ◌<◌, ◌≤◌, ℕ, Bool, List, Option, Some, length, slice_get, suc, take};
+ghost use Rattle.jack_types.specs.declared.files.Format.{Format as FormatValue};
+ghost use Rattle.jack_types.specs.declared.replies.Overrun.{Overrun as OverrunValue};
+ghost use Rattle.session_model.specs.Courses.{Course};
+ghost use Rattle.session_model.specs.Explanations.{Given};
+ghost use Rattle.session_model.specs.Playback.{played_back};
+ghost use Rattle.session_model.specs.Recorders.{recorded};
+ghost use Rattle.session_model.specs.Rings.{RingBlock};
+ghost use Rattle.session_model.specs.Scripts.{turns};
+ghost use Rattle.record_ring.specs.Rings.{Getting, Sending};
+ghost use Rattle.wave_write.specs.Tapes.{HasFront, HasUnfinished};
+ghost use Rattle.disk_recorder.specs.Recordings.{samples_of_blocks};
+ghost use Rattle.driver_laws.specs.Drivers.{run, turn_of};
+ghost use Rattle.driver_laws.specs.Keeping.{kept_blocks, played_so_far};
+ghost use Rattle.driver_laws.specs.Segments.{cycles_before};
+ghost use Rattle.serial_lanes.specs.Lanes.{SerialDesk};
+ghost use Rattle.run_laws.specs.SerialRuns.{RingSerial, SerialBehind, SerialKept};
+ghost use Rattle.run_laws.specs.Sessions.{Session};
+ghost use Rattle.session_model.specs.Scripts.{Phase, phases};
+ghost use Rattle.serial_laws.specs.Endings.{EndFails};
+ghost use Rattle.serial_laws.specs.Faults.{StandsInSerial, TurnFails, told};
+ghost use Rattle.serial_laws.specs.Steps.{AreExact, IsSound, KeepsOwn};
+
+use control_desk::laws::accepted_of_legal;
+use driver_laws::courses::a_meeting_changes_nothing;
+use driver_laws::cycling::graph_is_of_the_row;
+use driver_laws::endings::{all_is_played_back, blocks_kept_are_recorded};
+use run_laws::serial::{
+    all_phases_end, drains_are_counted, puts_are_counted, recorders_are_active_as_in_serial_mode,
+    serial_run_is_kept,
+};
+use serial_lanes::laws::{cycles_of_phases, front_of_history, number_before_cycle};
+use session_laws::serial::serial_meaning_is_legal;
+
+/// A front of what was played so far is one of the playback, and a front of the blocks that were kept so far is one of the
+/// recorder's file.
+pub fn fronts_of_so_far_are_fronts()
+    ensures playback { (course : Course) (n : ℕ) (format : FormatValue) (bytes : Option (List ℕ)) → n ≤ length (turns course.script) → HasUnfinished format (played_so_far course n) bytes → HasFront format (played_back course) bytes }
+    ensures records { (course : Course) (losses : List OverrunValue) (recorder n : ℕ) (format : FormatValue) (blocks : List RingBlock) (bytes : Option (List ℕ)) → n ≤ length (turns course.script)
+        → blocks ≡ take (length blocks) (kept_blocks course losses recorder n) → HasUnfinished format (samples_of_blocks blocks) bytes → HasFront format (recorded course losses recorder) bytes }
+{
+    all_is_played_back();
+    blocks_kept_are_recorded();
+}
+
+/// Behind a cycle that failed each file has a front of what serial mode gives it.
+pub fn a_turn_that_fails_leaves_fronts()
+    ensures { (given : Given) (freewheel : Bool) (session after : Session) (done t : ℕ) (phase : Phase) → slice_get (phases session.script) done ≡ Some phase → t < phase.cycles
+        → run session.driver ≡ cycles_before session.script done + t → IsSound session → SerialDesk session.desk done (suc t) → AreExact session → KeepsOwn given session
+        → (turn_of session.script (run session.driver + 1)).is_freewheel ≡ freewheel
+        → ((recorder : ℕ) (ring : Sending) (got : Getting) → slice_get session.driver.rings recorder ≡ Some ring → slice_get session.getting recorder ≡ Some got → RingSerial session recorder ring got)
+        → TurnFails freewheel session after → StandsInSerial given (told after) }
+{
+    a_meeting_changes_nothing();
+    accepted_of_legal();
+    front_of_history();
+    fronts_of_so_far_are_fronts();
+    graph_is_of_the_row();
+    number_before_cycle();
+    drains_are_counted();
+    puts_are_counted();
+    recorders_are_active_as_in_serial_mode();
+    serial_meaning_is_legal();
+}
+
+/// So it has behind an end that failed.
+pub fn an_end_that_fails_leaves_fronts()
+    ensures { (given : Given) (session after : Session) → IsSound session → SerialBehind session (length (phases session.script)) → SerialKept given session → EndFails session after → StandsInSerial given after }
+{
+    all_is_played_back();
+    blocks_kept_are_recorded();
+    cycles_of_phases();
+    all_phases_end();
+    serial_run_is_kept();
+}
