@@ -1,0 +1,210 @@
+-- A session whose stores are attached, and what its run leaves.
+--     on-ok_all      what follows from three clauses of an answer
+--     begun-files      its files are begun, each of its format, and have no sample
+--     whole works playback attached      the parts of the fields of a session
+--     ready-sound, ready-behind, ready-files      it may run its phases
+--     ready-kept      and keeps what it is given
+--     run-whole, run-kept, run-fails      what the run of its phases leaves of it
+use Rattle.std.proofs.Common.{◌≡◌, ℕ, zero, suc, ◌<◌, ◌≤◌, true, List, [], ◌∷◌, length, map, filter_map, slice_get, Contains, Option, Some, None, IsNone, Result, Ok, Err, OnOk, refl, sym, ◌∙◌, ap, ap₂, subst, arith}
+use Rattle.std.specs.List.{cons_option}
+use Rattle.std.specs.Prelude.{IfSome}
+use Rattle.std.proofs.lemmas.Option.{same_Some, slice_get_within}
+use Rattle.jack_types.specs.declared.files.Format.{Format}
+use Rattle.session_model.specs.Explanations.{Given}
+use Rattle.session_model.specs.Grammar.{IsFormat as IsRecorderFormat}
+use Rattle.session_model.specs.Scripts.{phases}
+use Rattle.session_model.specs.WaveFiles.{IsFormat, is_width}
+use Rattle.record_ring.specs.Rings.{Getting, Sending, items_of}
+use Rattle.wave_write.specs.Tapes.{HasSamples, Tape}
+use Rattle.disk_recorder.specs.Recordings.{MayWrite, samples_of_blocks}
+use Rattle.driver_laws.specs.Keeping.{HasTape}
+use Rattle.cycle_driver.specs.Openings.{playback_format}
+use Rattle.recorder_files.specs.Recorders.{Recording, Stored}
+use Rattle.recorder_files.proofs.Reels.{begun-may}
+use Rattle.run_laws.specs.Runs.{HasFiles}
+use Rattle.run_laws.specs.SerialRuns.{SerialBehind, SerialKept}
+use Rattle.run_laws.specs.Sessions.{IsGiven, Session}
+use Rattle.run_laws.specs.Told.{IsNew, Runs}
+use Rattle.run_laws.proofs.PlaceLemmas.{mapped_there, some_at}
+use Rattle.serial_laws.specs.Faults.{StandsInSerial}
+use Rattle.serial_laws.specs.Openings.{AreFresh, bare}
+use Rattle.serial_laws.specs.Steps.{IsSound}
+use Rattle.session_run.specs.Insides.{Stays, parts_of, seen}
+use Rattle.session_run.specs.Parts.{Parts, bytes_of, session_of, told_of}
+use Rattle.session_run.specs.Standings.{HasOpenFiles, IsBegun, IsReady}
+use Rattle.session_run.specs.declared.works.Works.{Works}
+use Rattle.session_run.proofs.ReelLemmas.{all-there, picked_from}
+
+pub on-ok_all : {T E : Type 0} (r : Result T E) {P Q R K : Type 0} → (P → Q → R → K) → OnOk r P → OnOk r Q → OnOk r R → OnOk r K
+on-ok_all (Ok x) f p q k = f p q k
+on-ok_all (Err e) f p q k = tt
+
+-- ---- files that are begun
+
+-- each recorder has a begun file of its format
+abbrev AreBegun : List Recording → Type 0
+AreBegun recordings = (i : ℕ) (r : Recording) → slice_get recordings i ≡ Some r → (tape : Tape) × (r.tape ≡ Some tape) × IsBegun r.format tape
+
+begun-files : (parts : Parts) → IsReady parts → AreBegun parts.recorders
+begun-files parts ready i r there = (ready.0.records i r there).begun (let all = ready.1 in let low = slice_get_within parts.recorders i r there in omega (arith, all, low))
+
+begun-playback : (parts : Parts) → IsReady parts → (tape : Tape) × (parts.gear.playback ≡ Some tape) × IsBegun (playback_format parts.gear.script) tape
+begun-playback parts ready = ready.0.playback.begun (let all = ready.1 in omega (arith, all))
+
+formats-begun : (recordings : List Recording) → AreBegun recordings → map (λ (tape : Tape). tape.format) (filter_map (λ (r : Recording). r.tape) recordings) ≡ map (λ (r : Recording). r.format) recordings
+formats-begun [] begun = refl
+formats-begun (one ∷ others) begun =
+    let file = begun 0 one refl in
+    let rest = formats-begun others (λ i r e. begun (suc i) r e) in
+    subst (λ (t : Option Tape). map (λ (tape : Tape). tape.format) (cons_option t (filter_map (λ (r : Recording). r.tape) others)) ≡ map (λ (r : Recording). r.format) (one ∷ others)) (sym file.1)
+    (ap₂ (λ (f : Format) (fs : List Format). f ∷ fs) file.2.format_is rest)
+
+none-got : (getting : List Getting) (formats : List Format) → length getting ≡ length formats → ((i : ℕ) (got : Getting) → slice_get getting i ≡ Some got → got.got ≡ [])
+    → map (λ (got : Getting). length got.got) getting ≡ map (λ _. 0) formats
+none-got [] [] same none = refl
+none-got [] (f ∷ formats) same none = absurd (omega (arith, same))
+none-got (got ∷ getting) [] same none = absurd (omega (arith, same))
+none-got (got ∷ getting) (f ∷ formats) same none =
+    ap₂ (λ (n : ℕ) (ns : List ℕ). n ∷ ns) (ap length (none 0 got refl)) (none-got getting formats (omega (arith, same)) (λ i g e. none (suc i) g e))
+
+wide-of : (bits : ℕ) → Contains (8 ∷ 16 ∷ 24 ∷ 32 ∷ []) bits → is_width bits ≡ true
+wide-of bits (zero, low, e) = ap is_width (sym e)
+wide-of bits (suc zero, low, e) = ap is_width (sym e)
+wide-of bits (suc (suc zero), low, e) = ap is_width (sym e)
+wide-of bits (suc (suc (suc zero)), low, e) = ap is_width (sym e)
+wide-of bits (suc (suc (suc (suc n))), low, e) = absurd (omega (arith, low))
+
+written-format : (rate : ℕ) (format : Format) → 8000 ≤ rate → rate ≤ 192000 → IsRecorderFormat rate format → IsFormat format
+written-format rate format low high is =
+    let rate_is : format.rate ≡ rate = is.rate_is in
+    let least = is.channels.0 in
+    let most = is.channels.1 in
+    record {
+      least_channels = least;
+      most_channels = omega (arith, most);
+      least_rate = omega (arith, low, rate_is);
+      most_rate = omega (arith, high, rate_is);
+      bits = wide-of format.bits is.bits;
+    }
+
+-- what a recorder has at its place: what it got, its file and its ring
+module _ (parts : Parts) (ready : IsReady parts) (recorder : ℕ) (got : Getting) (tape : Tape) (got_there : slice_get (session_of parts).getting recorder ≡ Some got)
+    (tape_there : slice_get (session_of parts).tapes recorder ≡ Some tape) where
+  recording : (r : Recording) × (slice_get parts.recorders recorder ≡ Some r) × (r.tape ≡ Some tape)
+  recording = picked_from (λ (r : Recording). r.tape) parts.recorders recorder tape (λ i r e. let file = begun-files parts ready i r e in (file.0, file.1)) tape_there
+
+  begun : IsBegun recording.0.format tape
+  begun =
+      let file = begun-files parts ready recorder recording.0 recording.1 in
+      subst (λ (t : Tape). IsBegun recording.0.format t) (same_Some file.0 tape (sym file.1 ∙ recording.2)) file.2
+
+  no_blocks : got.got ≡ []
+  no_blocks = all-there (λ (g : Getting). g.got ≡ []) (session_of parts).getting recorder got ready.0.new.no_gets got_there
+
+  samples-begun : HasSamples tape (samples_of_blocks got.got)
+  samples-begun = subst (λ blocks. HasSamples tape (samples_of_blocks blocks)) (sym no_blocks) begun.samples
+
+  ring : (s : Sending) × (slice_get parts.gear.rings.rings recorder ≡ Some s)
+  ring =
+      let one = ready.0.new.one in
+      let low = slice_get_within (session_of parts).getting recorder got got_there in
+      some_at parts.gear.rings.rings recorder (subst (λ n. recorder < n) (one.recorder_ends ∙ sym one.rings.recorders) low)
+
+  most_got : got.most ≡ 500000000
+  most_got =
+      let one = ready.0.new.one in
+      sym (one.recorder_pairs recorder ring.0 got ring.1 got_there).same_most ∙ (one.rings.own recorder ring.0 ring.1).most
+
+  may-begun : MayWrite got tape
+  may-begun =
+      let header = ready.0.new.one.lawful.header in
+      let there : slice_get parts.gear.script.header.recorders recorder ≡ Some recording.0.format = ap (λ (fs : List Format). slice_get fs recorder) (sym ready.0.formats) ∙ mapped_there (λ (r : Recording). r.format) parts.recorders recorder recording.0 recording.1 in
+      let lawful : IsRecorderFormat parts.gear.script.header.rate recording.0.format = all-there (IsRecorderFormat parts.gear.script.header.rate) parts.gear.script.header.recorders recorder recording.0.format header.recorders there in
+      let most = most_got in
+      let none : items_of got.got ≡ 0 = ap items_of no_blocks in
+      begun-may got tape (subst IsFormat (sym begun.format_is) (written-format parts.gear.script.header.rate recording.0.format header.rate.0 header.rate.1 lawful))
+      (omega (arith, most)) (omega (arith, most, none)) begun.samples.going begun.written
+
+files-begun : (parts : Parts) → IsReady parts → HasFiles (session_of parts)
+files-begun parts ready =
+    let file = begun-playback parts ready in
+    let new = ready.0.new in
+    record {
+      playback = record { tape = file.0; attached = file.1; going = file.2.samples.going };
+      playback_format = subst (λ (t : Option Tape). IfSome t (λ (tape : Tape). tape.format ≡ playback_format parts.gear.script)) (sym file.1) file.2.format_is;
+      sound = new.new_driver.failed;
+      formats = formats-begun parts.recorders (begun-files parts ready) ∙ ready.0.formats;
+      may = λ recorder got tape there here. may-begun parts ready recorder got tape there here;
+      samples = λ recorder got tape there here. samples-begun parts ready recorder got tape there here;
+      counted = none-got (session_of parts).getting parts.gear.script.header.recorders new.one.recorder_ends (λ i got there. all-there (λ (g : Getting). g.got ≡ []) (session_of parts).getting i got new.no_gets there) ∙ sym new.counts;
+    }
+
+-- ---- the laws of a run
+
+abbrev pub SoundAtFirst : Type 0
+SoundAtFirst = (session : Session) → IsNew (bare session) → IsNone session.script.header.threads → session.putting ≡ [] → HasFiles session → IsSound session
+
+abbrev pub BehindAtFirst : Type 0
+BehindAtFirst = (session : Session) → IsNew (bare session) → IsNone session.script.header.threads → session.putting ≡ [] → HasFiles session → SerialBehind session 0
+
+abbrev pub KeptAtFirst : Type 0
+KeptAtFirst =
+    (session : Session) (given : Given) → IsNew (bare session) → IsNone session.script.header.threads → session.putting ≡ [] → HasFiles session
+    → HasTape session.driver.playback [] → AreFresh session → IsGiven session given → SerialKept given session
+
+abbrev pub RunsWhole : Type 0
+RunsWhole =
+    (before after : Session) → IsNone before.script.header.threads → after.script ≡ before.script → IsSound after → SerialBehind after (length (phases after.script))
+    → ((given : Given) → IsGiven before given → SerialKept given after) → Runs before after
+
+-- ---- the fields of a session
+
+module _ {S W G : Type 0} where
+  abbrev pub whole : Works S W G → Option Stored → ℕ → Parts
+  whole works playback attached = record { desk = works.desk; gear = works.driver; recorders = works.recorders.items; playback = playback; attached = attached }
+
+  session-whole : (works : Works S W G) (playback : Option Stored) (attached : ℕ) → playback ≡ None → session_of (whole works playback attached) ≡ seen works
+  session-whole works playback attached = ap (λ (s : Option Stored). record (seen works) { playback_file = bytes_of s })
+
+  told-whole : (works : Works S W G) (playback : Option Stored) (attached : ℕ) → playback ≡ None → told_of (whole works playback attached) ≡ told_of (parts_of works)
+  told-whole works playback attached = ap (λ (s : Option Stored). told_of (whole works s attached))
+
+  module _ (now : Parts) (works : Works S W G) (playback : Option Stored) (attached : ℕ) (view : whole works playback attached ≡ now) (ready : IsReady now) where
+    none_held : playback ≡ None
+    none_held = ap (λ (p : Parts). p.playback) view ∙ ready.0.no_playback
+
+    seen_is : session_of now ≡ seen works
+    seen_is = sym (ap session_of view) ∙ session-whole works playback attached none_held
+
+    pub ready-sound : SoundAtFirst → IsSound (seen works)
+    ready-sound law = subst (λ (s : Session). IsSound s) seen_is (law (session_of now) ready.0.new ready.0.serial refl (files-begun now ready))
+
+    pub ready-behind : BehindAtFirst → SerialBehind (seen works) 0
+    ready-behind law = subst (λ (s : Session). SerialBehind s 0) seen_is (law (session_of now) ready.0.new ready.0.serial refl (files-begun now ready))
+
+    pub ready-files : HasOpenFiles (parts_of works)
+    ready-files =
+        subst (λ (p : Parts). HasOpenFiles (record { desk = p.desk; gear = p.gear; recorders = p.recorders; playback = None; attached = 0 })) (sym view)
+        (record { tapes = λ i r there. let file = begun-files now ready i r there in (file.0, file.1); no_playback = refl; no_stores = ready.0.no_stores })
+
+    pub ready-kept : KeptAtFirst → (given : Given) → IsGiven (session_of now) given → SerialKept given (seen works)
+    ready-kept law given is =
+        let file = begun-playback now ready in
+        subst (λ (s : Session). SerialKept given s) seen_is
+        (law (session_of now) given ready.0.new ready.0.serial refl (files-begun now ready) (subst (λ (t : Option Tape). HasTape t []) (sym file.1) file.2.samples) ready.0.fresh is)
+
+    module _ (after : Works S W G) where
+      after_is : session_of (whole after playback attached) ≡ seen after
+      after_is = session-whole after playback attached none_held
+
+      pub run-kept : KeptAtFirst → ((given : Given) → SerialKept given (seen works) → SerialKept given (seen after)) → (given : Given) → IsGiven (session_of now) given → SerialKept given (session_of (whole after playback attached))
+      run-kept law keeps given is = subst (λ (s : Session). SerialKept given s) (sym after_is) (keeps given (ready-kept law given is))
+
+      pub run-whole : KeptAtFirst → RunsWhole → Stays works after → IsSound (seen after) → SerialBehind (seen after) (length (phases after.driver.script))
+          → ((given : Given) → SerialKept given (seen works) → SerialKept given (seen after)) → Runs (session_of now) (session_of (whole after playback attached))
+      run-whole kept law stays sound behind keeps =
+          subst (λ (s : Session). Runs (session_of now) s) (sym after_is)
+          (law (session_of now) (seen after) ready.0.serial (stays.script ∙ ap (λ (p : Parts). p.gear.script) view) sound behind (λ given is. keeps given (ready-kept kept given is)))
+
+      pub run-fails : KeptAtFirst → ((given : Given) → SerialKept given (seen works) → StandsInSerial given (told_of (parts_of after))) → (given : Given) → IsGiven (session_of now) given → StandsInSerial given (told_of (whole after playback attached))
+      run-fails law fails given is = subst (λ (s : Session). StandsInSerial given s) (sym (told-whole after playback attached none_held)) (fails given (ready-kept law given is))

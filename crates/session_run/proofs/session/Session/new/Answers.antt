@@ -1,0 +1,35 @@
+use Rattle.std.proofs.Common.{◌≡◌, [], map, None, refl, sym, subst}
+use Rattle.graph_word.specs.Publications.{IsOpening as IsPublication, Reading}
+use Rattle.session_model.specs.Scripts.{Script}
+use Rattle.control_desk.specs.Desks.{base_of}
+use Rattle.cycle_laws.specs.Gears.{Gear}
+use Rattle.session_run.specs.Parts.{stores_in}
+use Rattle.session_run.specs.Standings.{IsAttaching}
+use Rattle.session_run.proofs.OpeningLemmas.{IsAttaching-opened, IsOpened, no-stores}
+use Rattle.session_run.proofs.session.Session.new.Goals as goal
+
+pub returns-in-Ok-make_recorders-clause-new : goal.returns-in-Ok-make_recorders-clause-new
+returns-in-Ok-make_recorders-clause-new g c =
+    let desk = c.in-Ok-open_desk.made.0 in
+    let gear = c.in_ok-driver.driver in
+    let made = c.in-Ok-make_recorders.recorders.items in
+    let out = c.make_recorders.new.driver.rings.out in
+    let opened : IsOpened c.args.script.now _ desk gear made = record {
+      served = c.requires.served;
+      serial = c.requires.serial;
+      desk_is = c.in-Ok-open_desk.ensures.desk;
+      desk_kept = c.in-Ok-open_desk.ensures.kept;
+      opening = subst (λ (r : Reading). IsPublication (base_of c.args.script.now) desk.publishing r) (sym c.in_ok-driver.ensures.reader) c.in-Ok-open_desk.ensures.opening;
+      new = c.in_ok-driver.ensures.new;
+      period = _;
+      losses = _;
+      rings = c.in_ok-driver.ensures.rings;
+      formats = c.in-Ok-make_recorders.ensures.formats;
+      bare_made = c.in-Ok-make_recorders.ensures.bare;
+      over = c.in-Ok-make_recorders.ensures.pairs;
+    } in
+    let own = subst (λ (s : Script). IsOpened s (map g.G.Guest.score c.args.guests.items) desk gear made) (sym c.in_ok-driver.ensures.new.script_is) opened in (
+      subst (λ (seen : Gear). IsAttaching (record { desk = desk; gear = seen; recorders = made; playback = None; attached = 0 })) (sym c.make_recorders.ensures.driver) (IsAttaching-opened _ desk gear made out own),
+      refl,
+      subst (λ (seen : Gear). stores_in (record { desk = desk; gear = seen; recorders = made; playback = None; attached = 0 }) ≡ []) (sym c.make_recorders.ensures.driver) (no-stores _ desk gear made out own),
+    )

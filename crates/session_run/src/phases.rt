@@ -1,0 +1,102 @@
+//! The phases of a session's run.
+
+ghost use Rattle.std.specs.Prelude.{◌≡◌, ◌<◌, ◌≤◌, IsErrOf, OnErr, OnOk, Some, length, slice_get, suc};
+ghost use Rattle.jack_host.specs.Causes.{Rose};
+ghost use Rattle.session_model.specs.Explanations.{Given};
+ghost use Rattle.session_model.specs.Scripts.{phases as the_phases};
+ghost use Rattle.control_desk.specs.Desks.{cycles_before};
+ghost use Rattle.run_laws.specs.SerialRuns.{SerialBehind, SerialKept};
+ghost use Rattle.script_segments.specs.Segments.{segments as the_segments};
+ghost use Rattle.serial_laws.specs.Faults.{StandsInSerial};
+ghost use Rattle.serial_laws.specs.Steps.{IsSound};
+ghost use Rattle.session_run.specs.Insides.{Stays, held, parts_of, seen};
+ghost use Rattle.session_run.specs.Parts.{OneRose, told_of};
+ghost use Rattle.session_run.specs.Standings.{HasOpenFiles};
+
+use crate::faults::SessionFault;
+use crate::steps::begin;
+use crate::turning::{Limits, turn};
+use crate::works::Works;
+use client_kinds::Guest;
+use jack_host::{Gate, Source, Store};
+use run_laws::serial::a_phase_ends;
+use script_segments::Segment;
+use script_segments::laws::segments_are_the_phases;
+use serial_laws::cycles::{a_cycle_goes_on, a_phase_begins};
+use serial_laws::faults::a_turn_that_fails_leaves_fronts;
+use serial_laws::numbers::cycles_of_a_phase;
+use serial_laws::parts::{a_turn_leaves_the_parts, desks_leave_the_parts};
+use std::thread::Threads;
+
+/// Runs a phase: its `do` calls, and the cycles of its segment with the lanes' rounds around them.
+pub(crate) fn run_phase<S: Source, W: Store, G: Guest + Send, T: Threads + Sync, K: Gate>(
+    works: &mut Works<S, W, G>,
+    threads: &T,
+    gate: &K,
+    phase: u32,
+    base: u32,
+    segment: Segment,
+    limits: Limits,
+) -> Result<(), SessionFault>
+    requires there { slice_get (the_segments works.old.driver.script) phase ≡ Some segment }
+    requires base { base ≡ cycles_before works.old.driver.script phase }
+    requires sound { IsSound (seen works.old) }
+    requires behind { SerialBehind (seen works.old) phase }
+    requires files { HasOpenFiles (parts_of works.old) }
+    requires ring { limits.ring ≡ works.old.driver.script.header.ring }
+    requires drain { limits.drain ≡ works.old.driver.script.header.drain }
+    ensures sound { OnOk result (IsSound (seen works.new)) }
+    ensures behind { OnOk result (SerialBehind (seen works.new) (suc phase)) }
+    ensures kept { OnOk result ((given : Given) → SerialKept given (seen works.old) → SerialKept given (seen works.new)) }
+    ensures fault { OnErr result ((given : Given) → SerialKept given (seen works.old) → StandsInSerial given (told_of (parts_of works.new))) }
+    ensures stays { Stays works.old works.new }
+    ensures read { IsErrOf result SessionFault.Read → Rose works.old.driver.capture.reading.faults works.new.driver.capture.reading.faults }
+    ensures write { IsErrOf result SessionFault.Write → OneRose (held works.old) (held works.new) }
+{
+    segments_are_the_phases();
+    desks_leave_the_parts();
+    a_phase_begins();
+    cycles_of_a_phase();
+    a_cycle_goes_on();
+    a_turn_leaves_the_parts();
+    a_turn_that_fails_leaves_fronts();
+    a_phase_ends();
+    begin(works, phase, base);
+    works.driver.period(segment.period);
+    for _ in 0..segment.cycles {
+        turn(works, threads, gate, segment.is_freewheel, limits)?;
+    }
+    Ok(())
+}
+
+/// Runs all phases.
+pub(crate) fn run_phases<S: Source, W: Store, G: Guest + Send, T: Threads + Sync, K: Gate>(
+    works: &mut Works<S, W, G>,
+    threads: &T,
+    gate: &K,
+    segments: &[Segment],
+    limits: Limits,
+) -> Result<(), SessionFault>
+    requires segments { segments.now ≡ the_segments works.old.driver.script }
+    requires sound { IsSound (seen works.old) }
+    requires behind { SerialBehind (seen works.old) 0 }
+    requires files { HasOpenFiles (parts_of works.old) }
+    requires ring { limits.ring ≡ works.old.driver.script.header.ring }
+    requires drain { limits.drain ≡ works.old.driver.script.header.drain }
+    ensures sound { OnOk result (IsSound (seen works.new)) }
+    ensures behind { OnOk result (SerialBehind (seen works.new) (length (the_phases works.new.driver.script))) }
+    ensures kept { OnOk result ((given : Given) → SerialKept given (seen works.old) → SerialKept given (seen works.new)) }
+    ensures fault { OnErr result ((given : Given) → SerialKept given (seen works.old) → StandsInSerial given (told_of (parts_of works.new))) }
+    ensures stays { Stays works.old works.new }
+    ensures read { IsErrOf result SessionFault.Read → Rose works.old.driver.capture.reading.faults works.new.driver.capture.reading.faults }
+    ensures write { IsErrOf result SessionFault.Write → OneRose (held works.old) (held works.new) }
+{
+    segments_are_the_phases();
+    let mut base = 0;
+    for phase in 0..segments.len() {
+        let segment = segments[phase];
+        run_phase(works, threads, gate, phase as u32, base, segment, limits)?;
+        base += segment.cycles;
+    }
+    Ok(())
+}
