@@ -1,27 +1,28 @@
 -- A script has one fault or none, and so has a capture: which status a play must end with.
-use Rattle.std.proofs.Common.{◌≡◌, ◌∙◌, ◌⊎◌, ℕ, ℤ, List, Some, None, true, inl, inr, refl, sym, ap, subst, take, arith}
-use Rattle.std.proofs.lemmas.List.{take_all}
-use Rattle.std.specs.Prelude.{◌==◌, Bool, false, not, if◌then◌else◌, Option}
-use Rattle.jack_types.specs.declared.files.Format.{Format}
+use Rattle.std.proofs.Common.{◌≡◌, ◌∙◌, ◌⊎◌, ℕ, ℤ, List, Some, None, inl, inr, refl, sym, ap, subst, take}
+use Rattle.std.specs.Prelude.{Option}
 use Rattle.jack_types.specs.declared.files.WaveFault.{WaveFault}
+use Rattle.jack_types.specs.declared.kinds.Score.{Score}
 use Rattle.jack_types.specs.declared.scripts.Header.{Header}
 use Rattle.jack_types.specs.declared.scripts.ScriptFault.{ScriptFault}
-use Rattle.jack_host.specs.Files.{bytes_under, IsThere}
+use Rattle.jack_host.specs.Files.{IsThere}
 use Rattle.session_model.specs.Explanations.{Given}
 use Rattle.session_model.specs.Grammar.{Spells}
 use Rattle.session_model.specs.Reading.{fault_of, script_fault}
 use Rattle.session_model.specs.Scripts.{Script}
 use Rattle.session_model.specs.WaveOpening.{Opened}
 use Rattle.session_laws.proofs.GrammarLaws.{read}
-use Rattle.straight_session.specs.declared.wires.Wire.{Wire}
+use Rattle.play_words.specs.Words.{Play}
 use Rattle.jack_control.specs.declared.status.Difference.{Difference}
-use Rattle.jack_control.specs.declared.status.What.TheVariants.{Channels, Rate}
 use Rattle.jack_control.specs.declared.status.Status.{Status}
 use Rattle.jack_control.specs.declared.status.Status.TheVariants.{Ok, NoMemory, Words, ReadFault, BadWave, BadScript, WriteFault, Differs, Wrong}
-use Rattle.jack_control.specs.Exact.{HasGiven, HasRefusal}
-use Rattle.jack_control.specs.Plays.{CanPlay, Cuts, difference_in, Files, IfBytes, IfCapture, IsBadScript, IsBadWave, IsCapture, IsCut, IsDifferent, IsGiven, IsOther, IsPlayed, IsSession, LacksInput, Plays}
-use Rattle.jack_control.specs.Tops.{PlayStatus}
-use Rattle.jack_control.proofs.FileLemmas.{if_bytes_elim, if_bytes_map}
+use Rattle.jack_control.specs.Answers.{HasInput, HasRefusal, IfCapture, IfScript, IsFirstDifference, LacksInput, PlayStatus}
+use Rattle.jack_control.specs.Inputs.{Files, IfBytes, IsBadScript, IsBadWave, IsCapture, IsDifferent, IsPlayed, IsScriptOf, difference_in}
+use Rattle.jack_control.specs.Openings.{IfInput}
+use Rattle.jack_control.specs.Plays.{IsExplained}
+use Rattle.jack_control.proofs.OpeningLemmas.{differs}
+
+-- ---- a script
 
 -- bytes spell one script
 one_script : (bytes : List ℕ) (a b : Script) → Spells bytes a → Spells bytes b → a ≡ b
@@ -31,20 +32,18 @@ one_script bytes a b ha hb = cc (read bytes a ha, read bytes b hb)
 no_fault : (bytes : List ℕ) (script : Script) → Spells bytes script → script_fault bytes ≡ None
 no_fault bytes script h = ap fault_of (read bytes script h)
 
-read_part : (whole : List ℕ) (script : Script) → Spells whole script → Spells (take 1048577 whole) script
-read_part whole script h = subst (λ (bytes : List ℕ). Spells bytes script) (sym (take_all 1048577 whole (omega (arith, h.0)))) h
-
 some_none : {X : Type 0} (o : Option X) (x : X) → o ≡ Some x → o ≡ None → ⊥
 some_none None x e f = cc
 some_none (Some y) x e f = cc
 
--- a script that can be played has no fault
-good_script : (whole : List ℕ) (script : Script) (wires : List Wire) (cycles : ℕ) (fault : ScriptFault) → IsSession whole script wires cycles → IsBadScript whole fault → ⊥
-good_script whole script wires cycles fault is (inl found) =
-    some_none (script_fault (take 1048577 whole)) fault found (no_fault (take 1048577 whole) script (read_part whole script is.spelled))
-good_script whole script wires cycles fault is (inr other) =
-    let same = one_script (take 1048577 whole) other.1.0 script other.1.1 (read_part whole script is.spelled) in
-    subst (λ (s : Script). IsOther s) same other.1.2 wires cycles is.straight
+one_some : {X : Type 0} (o : Option X) (x y : X) → o ≡ Some x → o ≡ Some y → x ≡ y
+one_some o x y e f = cc
+
+-- a script that is played has no fault
+good_script : (whole : List ℕ) (script : Script) (fault : ScriptFault) → IsScriptOf whole script → IsBadScript whole fault → ⊥
+good_script whole script fault is (inl found) = some_none (script_fault (take 1048577 whole)) fault found (no_fault (take 1048577 whole) script is.spelled)
+good_script whole script fault is (inr other) =
+    other.1.2 (subst (λ (s : Script). IsPlayed s) (one_script (take 1048577 whole) script other.1.0 is.spelled other.1.1) is.played)
 
 -- and a script has one fault
 one_fault : (whole : List ℕ) (a b : ScriptFault) → IsBadScript whole a → IsBadScript whole b → a ≡ b
@@ -53,82 +52,19 @@ one_fault whole a b (inl x) (inr y) = absurd (some_none (script_fault (take 1048
 one_fault whole a b (inr x) (inl y) = absurd (some_none (script_fault (take 1048577 whole)) b y (no_fault (take 1048577 whole) x.1.0 x.1.1))
 one_fault whole a b (inr x) (inr y) = x.0 ∙ sym y.0
 
--- ---- what is known of a name's bytes
-
--- a name has one list of bytes
-both : (files : Files) (name : List ℕ) (P Q : List ℕ → Type 0) (R : Type 0) → ((bytes : List ℕ) → P bytes → Q bytes → R) → IfBytes (Some files) name P → IfBytes (Some files) name Q → R
-both files name P Q R f p q =
-    let same : q.0 ≡ p.0 = cc (p.1, q.1) in
-    f p.0 p.2 (subst Q same q.2)
-
-is_there : (files : Files) (name : List ℕ) (P : List ℕ → Type 0) → IfBytes (Some files) name P → IsThere (Some files) name
-is_there files name P p = rw p.1 refl
-
--- the parts of a fact of a capture
-in_session : {A B C : Type 0} {D : A → B → C → Type 0} {E : A → Type 0} (R : Type 0) → ((a : A) (b : B) (c : C) → D a b c → E a → R) → (a : A) × (b : B) × (c : C) × D a b c × E a → R
-in_session R f t = f t.0 t.1 t.2 t.3 t.4
-
-abbrev pub Session : Files → List ℕ → (Header → List ℕ → Type 0) → List ℕ → Type 0
-Session files capture P bytes = (found : Script) × (wires : List Wire) × (cycles : ℕ) × IsSession bytes found wires cycles × IfBytes (Some files) capture (P found.header)
-
-can_play : (files : Files) (script capture : List ℕ) (P : Header → List ℕ → Type 0) → IfCapture (Some files) script capture P → IfBytes (Some files) script CanPlay
-can_play files script capture P =
-    if_bytes_map (Some files) script (Session files capture P) CanPlay
-    (λ bytes t. in_session {D = λ found wires cycles. IsSession bytes found wires cycles} {E = λ found. IfBytes (Some files) capture (P found.header)} (CanPlay bytes) (λ found wires cycles is held. (found, wires, cycles, is)) t)
-
-has_capture : (files : Files) (script capture : List ℕ) (P : Header → List ℕ → Type 0) → IfCapture (Some files) script capture P → IsThere (Some files) capture
-has_capture files script capture P =
-    if_bytes_elim files script (Session files capture P) (IsThere (Some files) capture)
-    (λ bytes e t. in_session {D = λ found wires cycles. IsSession bytes found wires cycles} {E = λ found. IfBytes (Some files) capture (P found.header)} (IsThere (Some files) capture)
-    (λ found wires cycles is held. is_there files capture (P found.header) held) t)
-
--- two facts of one capture
-two : (files : Files) (script capture : List ℕ) (P Q : Header → List ℕ → Type 0) (R : Type 0) → ((header : Header) (bytes : List ℕ) → P header bytes → Q header bytes → R)
-    → IfCapture (Some files) script capture P → IfCapture (Some files) script capture Q → R
-two files script capture P Q R f =
-    both files script (Session files capture P) (Session files capture Q) R
-    (λ bytes x y.
-    in_session {D = λ found wires cycles. IsSession bytes found wires cycles} {E = λ found. IfBytes (Some files) capture (P found.header)} R
-    (λ found wires cycles is held.
-    in_session {D = λ other wires cycles. IsSession bytes other wires cycles} {E = λ other. IfBytes (Some files) capture (Q other.header)} R
-    (λ other more count has kept.
-    both files capture (P found.header) (Q found.header) R (f found.header) held
-    (subst (λ (script_found : Script). IfBytes (Some files) capture (Q script_found.header)) (one_script bytes other found has.spelled is.spelled) kept))
-    y)
-    x)
-
--- a script that can be played, beside one that can't
-bad-and-good : (files : Files) (script : List ℕ) (fault : ScriptFault) → IfBytes (Some files) script (λ bytes. IsBadScript bytes fault) → IfBytes (Some files) script CanPlay → ⊥
-bad-and-good files script fault =
-    both files script (λ bytes. IsBadScript bytes fault) CanPlay ⊥ (λ bytes x y. good_script bytes y.0 y.1 y.2 fault y.3 x)
-
 -- ---- a capture
 
--- the capture is a wave that fits the script
-abbrev pub Fits : Header → List ℕ → Type 0
-Fits header bytes = (samples : List ℤ) × IsCapture bytes header samples
+-- it is a wave that fits the script
+abbrev pub Fits : Script → List ℕ → Type 0
+Fits script bytes = (samples : List ℤ) × IsCapture bytes script.header samples
 
-no_difference : (header : Header) (format : Format) → header.rate ≡ format.rate → header.capture ≡ format.channels → difference_in header format ≡ None
-no_difference header format rate channels =
-    go (header.rate == format.rate) (header.capture == format.channels) (record { what = Rate; script = header.rate; given = format.rate }) (record { what = Channels; script = header.capture; given = format.channels })
-    (same header.rate format.rate rate) (same header.capture format.channels channels)
-  where
-    same : (a b : ℕ) → a ≡ b → (a == b) ≡ true
-    same a b e = grind arith
+fits-no_fault : (script : Script) (bytes : List ℕ) (fault : WaveFault) → Fits script bytes → IsBadWave bytes fault → ⊥
+fits-no_fault script bytes fault fits bad = cc (fits.1.opens, bad.0)
 
-    go : (a b : Bool) (x y : Difference) → a ≡ true → b ≡ true → (if not a then Some x else if not b then Some y else None) ≡ None
-    go true true x y e f = refl
-    go true false x y e f = cc
-    go false b x y e f = cc
-
-fits-no_fault : (header : Header) (bytes : List ℕ) (fault : WaveFault) → Fits header bytes → IsBadWave bytes fault → ⊥
-fits-no_fault header bytes fault fits bad = cc (fits.1.opens, bad.0)
-
-fits-no_difference : (header : Header) (bytes : List ℕ) (difference : Difference) → Fits header bytes → IsDifferent bytes header difference → ⊥
-fits-no_difference header bytes difference fits other =
+fits-no_difference : (script : Script) (bytes : List ℕ) (difference : Difference) → Fits script bytes → IsDifferent bytes script.header difference → ⊥
+fits-no_difference script bytes difference fits other =
     let same : other.0 ≡ fits.1.told = cc (other.1, fits.1.opens) in
-    some_none (difference_in header fits.1.told.format) difference (subst (λ (told : Opened). difference_in header told.format ≡ Some difference) same other.2)
-    (no_difference header fits.1.told.format (sym fits.1.rate) (sym fits.1.channels))
+    some_none (difference_in script.header fits.1.told.format) difference (subst (λ (told : Opened). difference_in script.header told.format ≡ Some difference) same other.2) fits.1.fits
 
 bad-no_difference : (header : Header) (bytes : List ℕ) (fault : WaveFault) (difference : Difference) → IsBadWave bytes fault → IsDifferent bytes header difference → ⊥
 bad-no_difference header bytes fault difference bad other = cc (bad.0, other.1)
@@ -139,166 +75,203 @@ one_bad bytes a b x y = cc (x.0, y.0)
 one_difference : (header : Header) (bytes : List ℕ) (a b : Difference) → IsDifferent bytes header a → IsDifferent bytes header b → a ≡ b
 one_difference header bytes a b x y =
     let same : y.0 ≡ x.0 = cc (x.1, y.1) in
-    let other : difference_in header x.0.format ≡ Some b = subst (λ (told : Opened). difference_in header told.format ≡ Some b) same y.2 in
-    cc (x.2, other)
+    one_some (difference_in header x.0.format) a b x.2 (subst (λ (told : Opened). difference_in header told.format ≡ Some b) same y.2)
 
--- ---- what was played, or cut, was given
+module _ (files : Files) (scores : List Score) (play : Play) where
+  -- ---- what is known of a name's bytes
 
-given-fits : (files : Files) (script capture script_bytes capture_bytes : List ℕ) (given : Given) → bytes_under files script ≡ Some script_bytes → bytes_under files capture ≡ Some capture_bytes
-    → IsGiven script_bytes capture_bytes given → IfCapture (Some files) script capture Fits
-given-fits files script capture script_bytes capture_bytes given s c is =
-    (script_bytes, s, (given.script, is.wires, is.cycles, is.session, (capture_bytes, c, (given.capture, is.capture))))
+  -- a name has one list of bytes
+  both : (name : List ℕ) (P Q : List ℕ → Type 0) (R : Type 0) → ((bytes : List ℕ) → P bytes → Q bytes → R) → IfBytes (Some files) name P → IfBytes (Some files) name Q → R
+  both name P Q R f p q =
+      let same : q.0 ≡ p.0 = cc (p.1, q.1) in
+      f p.0 p.2 (subst Q same q.2)
 
-has_given-fits : (files : Files) (script capture : List ℕ) → HasGiven (Some files) script capture → IfCapture (Some files) script capture Fits
-has_given-fits files script capture =
-    if_bytes_elim files script (λ script_bytes. IfBytes (Some files) capture (λ capture_bytes. (given : Given) × IsGiven script_bytes capture_bytes given)) (IfCapture (Some files) script capture Fits)
-    (λ script_bytes s. if_bytes_elim files capture (λ capture_bytes. (given : Given) × IsGiven script_bytes capture_bytes given) (IfCapture (Some files) script capture Fits)
-    (λ capture_bytes c has. given-fits files script capture script_bytes capture_bytes has.0 s c has.1))
+  is_there : (name : List ℕ) (P : List ℕ → Type 0) → IfBytes (Some files) name P → IsThere (Some files) name
+  is_there name P p = rw p.1 refl
 
-pub played-fits : (files : Files) (new : Option Files) (out out_after : Option (List ℕ)) (script capture playback : List ℕ) → Plays files new out out_after script capture playback → IfCapture (Some files) script capture Fits
-played-fits files new out out_after script capture playback is =
-    given-fits files script capture is.script_bytes is.capture_bytes is.given is.script_is is.capture_is is.is_given
+  abbrev Of : (Script → Type 0) → List ℕ → Type 0
+  Of P bytes = (script : Script) × IsScriptOf bytes script × P script
 
-pub cut-fits : (files : Files) (new : Option Files) (out out_after : Option (List ℕ)) (faults faults_after : ℕ) (script capture playback : List ℕ) → Cuts files new out out_after faults faults_after script capture playback
-    → IfCapture (Some files) script capture Fits
-cut-fits files new out out_after faults faults_after script capture playback is =
-    given-fits files script capture is.script_bytes is.capture_bytes is.given is.script_is is.capture_is is.is_given
+  -- two facts of one script
+  of_one : (P Q : Script → Type 0) (R : Type 0) → ((script : Script) → P script → Q script → R) → IfScript (Some files) play P → IfScript (Some files) play Q → R
+  of_one P Q R f =
+      both play.script (Of P) (Of Q) R (λ bytes x y. f x.0 x.2 (subst Q (one_script (take 1048577 bytes) y.0 x.0 y.1.spelled x.1.spelled) y.2))
 
--- where the files are told
-abbrev pub IfTold : Option Files → (Files → Type 0) → Type 0
-IfTold None P = Unit {0}
-IfTold (Some files) P = P files
+  abbrev Fitting : (Script → List ℕ → Type 0) → Script → Type 0
+  Fitting P script = (differs script scores play ≡ None) × IfBytes (Some files) play.capture (P script)
 
--- ---- the answers
+  -- two facts of one capture
+  of_capture : (P Q : Script → List ℕ → Type 0) (R : Type 0) → ((script : Script) (bytes : List ℕ) → P script bytes → Q script bytes → R)
+      → IfCapture (Some files) scores play P → IfCapture (Some files) scores play Q → R
+  of_capture P Q R f = of_one (Fitting P) (Fitting Q) R (λ script x y. both play.capture (P script) (Q script) R (f script) x.1 y.1)
 
--- a refusal, beside a script and a capture that fit
-refused-fits : (files : Files) (script capture : List ℕ) (status : Status) → HasRefusal (Some files) script capture status → IfCapture (Some files) script capture Fits → ⊥
-refused-fits files script capture Ok h fits = h
-refused-fits files script capture NoMemory h fits = h
-refused-fits files script capture Words h fits = h
-refused-fits files script capture ReadFault h fits = h
-refused-fits files script capture (BadWave fault) h fits = two files script capture Fits (λ header bytes. IsBadWave bytes fault) ⊥ (λ header bytes x y. fits-no_fault header bytes fault x y) fits h
-refused-fits files script capture (BadScript fault) h fits = bad-and-good files script fault h (can_play files script capture Fits fits)
-refused-fits files script capture WriteFault h fits = h
-refused-fits files script capture (Differs difference) h fits =
-    two files script capture Fits (λ header bytes. IsDifferent bytes header difference) ⊥ (λ header bytes x y. fits-no_difference header bytes difference x y) fits h
-refused-fits files script capture (Wrong row) h fits = h
+  -- a script that is played, beside one that can't be
+  bad-and-good : (fault : ScriptFault) (P : Script → Type 0) → IfBytes (Some files) play.script (λ bytes. IsBadScript bytes fault) → IfScript (Some files) play P → ⊥
+  bad-and-good fault P = both play.script (λ bytes. IsBadScript bytes fault) (Of P) ⊥ (λ bytes x y. good_script bytes y.0 fault y.1 x)
 
--- a refusal, beside a name that is missing where it is opened
-refused-there : (files : Files) (script capture : List ℕ) (status : Status) → HasRefusal (Some files) script capture status → LacksInput (Some files) script capture → ⊥
-refused-there files script capture Ok h lacks = h
-refused-there files script capture NoMemory h lacks = h
-refused-there files script capture Words h lacks = h
-refused-there files script capture ReadFault h lacks = h
-refused-there files script capture (BadWave fault) h (inl none) = none (is_there files script CanPlay (can_play files script capture (λ header bytes. IsBadWave bytes fault) h))
-refused-there files script capture (BadWave fault) h (inr none) = none.1 (has_capture files script capture (λ header bytes. IsBadWave bytes fault) h)
-refused-there files script capture (BadScript fault) h (inl none) = none (is_there files script (λ bytes. IsBadScript bytes fault) h)
-refused-there files script capture (BadScript fault) h (inr none) = bad-and-good files script fault h none.0
-refused-there files script capture WriteFault h lacks = h
-refused-there files script capture (Differs difference) h (inl none) = none (is_there files script CanPlay (can_play files script capture (λ header bytes. IsDifferent bytes header difference) h))
-refused-there files script capture (Differs difference) h (inr none) = none.1 (has_capture files script capture (λ header bytes. IsDifferent bytes header difference) h)
-refused-there files script capture (Wrong row) h lacks = h
+  has_capture : (P : Script → List ℕ → Type 0) → IfCapture (Some files) scores play P → IsThere (Some files) play.capture
+  has_capture P h = is_there play.capture (P h.2.0) h.2.2.1
 
--- of two refusals of the same bytes
-same_refusal : (files : Files) (script capture : List ℕ) (status fault : Status) → HasRefusal (Some files) script capture fault → HasRefusal (Some files) script capture status → status ≡ fault
-same_refusal files script capture (BadWave a) (BadWave b) h k =
-    ap BadWave (two files script capture (λ header bytes. IsBadWave bytes a) (λ header bytes. IsBadWave bytes b) (a ≡ b) (λ header bytes x y. one_bad bytes a b x y) k h)
-same_refusal files script capture (BadWave a) (BadScript b) h k = absurd (bad-and-good files script b h (can_play files script capture (λ header bytes. IsBadWave bytes a) k))
-same_refusal files script capture (BadWave a) (Differs b) h k =
-    absurd (two files script capture (λ header bytes. IsBadWave bytes a) (λ header bytes. IsDifferent bytes header b) ⊥ (λ header bytes x y. bad-no_difference header bytes a b x y) k h)
-same_refusal files script capture (BadScript a) (BadWave b) h k = absurd (bad-and-good files script a k (can_play files script capture (λ header bytes. IsBadWave bytes b) h))
-same_refusal files script capture (BadScript a) (BadScript b) h k =
-    ap BadScript (both files script (λ bytes. IsBadScript bytes a) (λ bytes. IsBadScript bytes b) (a ≡ b) (λ bytes x y. one_fault bytes a b x y) k h)
-same_refusal files script capture (BadScript a) (Differs b) h k = absurd (bad-and-good files script a k (can_play files script capture (λ header bytes. IsDifferent bytes header b) h))
-same_refusal files script capture (Differs a) (BadWave b) h k =
-    absurd (two files script capture (λ header bytes. IsBadWave bytes b) (λ header bytes. IsDifferent bytes header a) ⊥ (λ header bytes x y. bad-no_difference header bytes b a x y) h k)
-same_refusal files script capture (Differs a) (BadScript b) h k = absurd (bad-and-good files script b h (can_play files script capture (λ header bytes. IsDifferent bytes header a) k))
-same_refusal files script capture (Differs a) (Differs b) h k =
-    ap Differs (two files script capture (λ header bytes. IsDifferent bytes header a) (λ header bytes. IsDifferent bytes header b) (a ≡ b) (λ header bytes x y. one_difference header bytes a b x y) k h)
-same_refusal files script capture Ok fault h k = absurd k
-same_refusal files script capture NoMemory fault h k = absurd k
-same_refusal files script capture Words fault h k = absurd k
-same_refusal files script capture ReadFault fault h k = absurd k
-same_refusal files script capture WriteFault fault h k = absurd k
-same_refusal files script capture (Wrong row) fault h k = absurd k
-same_refusal files script capture (BadWave a) Ok h k = absurd h
-same_refusal files script capture (BadScript a) Ok h k = absurd h
-same_refusal files script capture (Differs a) Ok h k = absurd h
-same_refusal files script capture (BadWave a) NoMemory h k = absurd h
-same_refusal files script capture (BadScript a) NoMemory h k = absurd h
-same_refusal files script capture (Differs a) NoMemory h k = absurd h
-same_refusal files script capture (BadWave a) Words h k = absurd h
-same_refusal files script capture (BadScript a) Words h k = absurd h
-same_refusal files script capture (Differs a) Words h k = absurd h
-same_refusal files script capture (BadWave a) ReadFault h k = absurd h
-same_refusal files script capture (BadScript a) ReadFault h k = absurd h
-same_refusal files script capture (Differs a) ReadFault h k = absurd h
-same_refusal files script capture (BadWave a) WriteFault h k = absurd h
-same_refusal files script capture (BadScript a) WriteFault h k = absurd h
-same_refusal files script capture (Differs a) WriteFault h k = absurd h
-same_refusal files script capture (BadWave a) (Wrong row) h k = absurd h
-same_refusal files script capture (BadScript a) (Wrong row) h k = absurd h
-same_refusal files script capture (Differs a) (Wrong row) h k = absurd h
+  -- a difference that needs no capture, beside none
+  first-and-none : (difference : Difference) (P : Script → Type 0) → IfScript (Some files) play (λ script. differs script scores play ≡ Some difference)
+      → IfScript (Some files) play (λ script. (differs script scores play ≡ None) × P script) → ⊥
+  first-and-none difference P =
+      of_one (λ script. differs script scores play ≡ Some difference) (λ script. (differs script scores play ≡ None) × P script) ⊥ (λ script x y. some_none (differs script scores play) difference x y.0)
+
+  -- ---- the answers
+
+  input-fits : HasInput (Some files) scores play → IfCapture (Some files) scores play Fits
+  input-fits h =
+      let is = h.2.2.1 in
+      let given : Given = h.2.2.0 in
+      (h.0, h.1, (given.script, is.script, (is.fits, (h.2.0, h.2.1, (given.capture, is.capture)))))
+
+  -- a refusal, beside files that fit
+  refused-fits : (status : Status) → HasRefusal (Some files) scores play status → IfCapture (Some files) scores play Fits → ⊥
+  refused-fits Ok h fits = h
+  refused-fits NoMemory h fits = h
+  refused-fits Words h fits = h
+  refused-fits ReadFault h fits = h
+  refused-fits (BadWave fault) h fits = of_capture Fits (λ script bytes. IsBadWave bytes fault) ⊥ (λ script bytes x y. fits-no_fault script bytes fault x y) fits h
+  refused-fits (BadScript fault) h fits = bad-and-good fault (Fitting Fits) h fits
+  refused-fits WriteFault h fits = h
+  refused-fits (Differs difference) (inl first) fits = first-and-none difference (λ script. IfBytes (Some files) play.capture (Fits script)) first fits
+  refused-fits (Differs difference) (inr later) fits =
+      of_capture Fits (λ script bytes. IsDifferent bytes script.header difference) ⊥ (λ script bytes x y. fits-no_difference script bytes difference x y) fits later
+  refused-fits (Wrong row) h fits = h
+
+  script_lacks : (P : Script → Type 0) → IfScript (Some files) play P → ¬ IsThere (Some files) play.script → ⊥
+  script_lacks P h none = none (is_there play.script (Of P) h)
+
+  capture_lacks : (P : Script → List ℕ → Type 0) → IfCapture (Some files) scores play P → LacksInput (Some files) scores play → ⊥
+  capture_lacks P h (inl none) = script_lacks (Fitting P) h none
+  capture_lacks P h (inr none) = none.1 (has_capture P h)
+
+  -- a refusal, beside a name that is missing where it is opened
+  refused-there : (status : Status) → HasRefusal (Some files) scores play status → LacksInput (Some files) scores play → ⊥
+  refused-there Ok h lacks = h
+  refused-there NoMemory h lacks = h
+  refused-there Words h lacks = h
+  refused-there ReadFault h lacks = h
+  refused-there (BadWave fault) h lacks = capture_lacks (λ script bytes. IsBadWave bytes fault) h lacks
+  refused-there (BadScript fault) h (inl none) = none (is_there play.script (λ bytes. IsBadScript bytes fault) h)
+  refused-there (BadScript fault) h (inr none) = bad-and-good fault (λ script. differs script scores play ≡ None) h none.0
+  refused-there WriteFault h lacks = h
+  refused-there (Differs difference) (inl first) (inl none) = script_lacks (λ script. differs script scores play ≡ Some difference) first none
+  refused-there (Differs difference) (inl first) (inr none) =
+      of_one (λ script. differs script scores play ≡ Some difference) (λ script. differs script scores play ≡ None) ⊥ (λ script x y. some_none (differs script scores play) difference x y) first none.0
+  refused-there (Differs difference) (inr later) lacks = capture_lacks (λ script bytes. IsDifferent bytes script.header difference) later lacks
+  refused-there (Wrong row) h lacks = h
+
+  -- a bad wave is no difference, and a difference that needs no capture is none that needs one
+  wave-or-differs : (fault : WaveFault) (difference : Difference) → IfCapture (Some files) scores play (λ script bytes. IsBadWave bytes fault) → IsFirstDifference (Some files) scores play difference → ⊥
+  wave-or-differs fault difference h (inl first) = first-and-none difference (λ script. IfBytes (Some files) play.capture (λ bytes. IsBadWave bytes fault)) first h
+  wave-or-differs fault difference h (inr later) =
+      of_capture (λ script bytes. IsBadWave bytes fault) (λ script bytes. IsDifferent bytes script.header difference) ⊥ (λ script bytes x y. bad-no_difference script.header bytes fault difference x y) h later
+
+  script-or-differs : (fault : ScriptFault) (difference : Difference) → IfBytes (Some files) play.script (λ bytes. IsBadScript bytes fault) → IsFirstDifference (Some files) scores play difference → ⊥
+  script-or-differs fault difference h (inl first) = bad-and-good fault (λ script. differs script scores play ≡ Some difference) h first
+  script-or-differs fault difference h (inr later) = bad-and-good fault (Fitting (λ script bytes. IsDifferent bytes script.header difference)) h later
+
+  one_first : (a b : Difference) → IsFirstDifference (Some files) scores play a → IsFirstDifference (Some files) scores play b → a ≡ b
+  one_first a b (inl x) (inl y) =
+      of_one (λ script. differs script scores play ≡ Some a) (λ script. differs script scores play ≡ Some b) (a ≡ b) (λ script p q. one_some (differs script scores play) a b p q) x y
+  one_first a b (inl x) (inr y) = absurd (first-and-none a (λ script. IfBytes (Some files) play.capture (λ bytes. IsDifferent bytes script.header b)) x y)
+  one_first a b (inr x) (inl y) = absurd (first-and-none b (λ script. IfBytes (Some files) play.capture (λ bytes. IsDifferent bytes script.header a)) y x)
+  one_first a b (inr x) (inr y) =
+      of_capture (λ script bytes. IsDifferent bytes script.header a) (λ script bytes. IsDifferent bytes script.header b) (a ≡ b) (λ script bytes p q. one_difference script.header bytes a b p q) x y
+
+  -- of two refusals of the same bytes
+  same_refusal : (status fault : Status) → HasRefusal (Some files) scores play fault → HasRefusal (Some files) scores play status → status ≡ fault
+  same_refusal (BadWave a) (BadWave b) h k =
+      ap BadWave (of_capture (λ script bytes. IsBadWave bytes a) (λ script bytes. IsBadWave bytes b) (a ≡ b) (λ script bytes x y. one_bad bytes a b x y) k h)
+  same_refusal (BadWave a) (BadScript b) h k = absurd (bad-and-good b (Fitting (λ script bytes. IsBadWave bytes a)) h k)
+  same_refusal (BadWave a) (Differs b) h k = absurd (wave-or-differs a b k h)
+  same_refusal (BadScript a) (BadWave b) h k = absurd (bad-and-good a (Fitting (λ script bytes. IsBadWave bytes b)) k h)
+  same_refusal (BadScript a) (BadScript b) h k =
+      ap BadScript (both play.script (λ bytes. IsBadScript bytes a) (λ bytes. IsBadScript bytes b) (a ≡ b) (λ bytes x y. one_fault bytes a b x y) k h)
+  same_refusal (BadScript a) (Differs b) h k = absurd (script-or-differs a b k h)
+  same_refusal (Differs a) (BadWave b) h k = absurd (wave-or-differs b a h k)
+  same_refusal (Differs a) (BadScript b) h k = absurd (script-or-differs b a h k)
+  same_refusal (Differs a) (Differs b) h k = ap Differs (one_first a b k h)
+  same_refusal Ok fault h k = absurd k
+  same_refusal NoMemory fault h k = absurd k
+  same_refusal Words fault h k = absurd k
+  same_refusal ReadFault fault h k = absurd k
+  same_refusal WriteFault fault h k = absurd k
+  same_refusal (Wrong row) fault h k = absurd k
+  same_refusal (BadWave a) Ok h k = absurd h
+  same_refusal (BadScript a) Ok h k = absurd h
+  same_refusal (Differs a) Ok h k = absurd h
+  same_refusal (BadWave a) NoMemory h k = absurd h
+  same_refusal (BadScript a) NoMemory h k = absurd h
+  same_refusal (Differs a) NoMemory h k = absurd h
+  same_refusal (BadWave a) Words h k = absurd h
+  same_refusal (BadScript a) Words h k = absurd h
+  same_refusal (Differs a) Words h k = absurd h
+  same_refusal (BadWave a) ReadFault h k = absurd h
+  same_refusal (BadScript a) ReadFault h k = absurd h
+  same_refusal (Differs a) ReadFault h k = absurd h
+  same_refusal (BadWave a) WriteFault h k = absurd h
+  same_refusal (BadScript a) WriteFault h k = absurd h
+  same_refusal (Differs a) WriteFault h k = absurd h
+  same_refusal (BadWave a) (Wrong row) h k = absurd h
+  same_refusal (BadScript a) (Wrong row) h k = absurd h
+  same_refusal (Differs a) (Wrong row) h k = absurd h
 
 -- where the bytes have a refusal, a play that ended early ended with it
-pub exact-err : (files : Option Files) (script capture : List ℕ) (fault status : Status) (reads : Type 0) → HasRefusal files script capture fault → PlayStatus files script capture status
-    → (status ≡ ReadFault → reads ⊎ LacksInput files script capture) → (status ≡ WriteFault → IfTold files (λ told. IfCapture (Some told) script capture Fits)) → ¬ reads
+pub exact-err : (files : Option Files) (scores : List Score) (play : Play) (fault status : Status) (reads : Type 0) → HasRefusal files scores play fault → PlayStatus files scores play status
+    → (status ≡ ReadFault → reads ⊎ LacksInput files scores play) → (status ≡ WriteFault → IfInput files scores play) → ¬ reads
     → (status ≡ fault) ⊎ (status ≡ NoMemory)
-exact-err None script capture fault status reads h is lacks cut none = absurd h
-exact-err (Some files) script capture fault Ok reads h is lacks cut none = absurd is
-exact-err (Some files) script capture fault NoMemory reads h is lacks cut none = inr refl
-exact-err (Some files) script capture fault Words reads h is lacks cut none = absurd is
-exact-err (Some files) script capture fault ReadFault reads h is lacks cut none = absurd (go (lacks refl))
+exact-err None scores play fault status reads h is lacks input none = absurd h
+exact-err (Some files) scores play fault Ok reads h is lacks input none = absurd is
+exact-err (Some files) scores play fault NoMemory reads h is lacks input none = inr refl
+exact-err (Some files) scores play fault Words reads h is lacks input none = absurd is
+exact-err (Some files) scores play fault ReadFault reads h is lacks input none = absurd (go (lacks refl))
   where
-    go : reads ⊎ LacksInput (Some files) script capture → ⊥
+    go : reads ⊎ LacksInput (Some files) scores play → ⊥
     go (inl rose) = none rose
-    go (inr missing) = refused-there files script capture fault h missing
-exact-err (Some files) script capture fault (BadWave a) reads h is lacks cut none = inl (same_refusal files script capture (BadWave a) fault h is)
-exact-err (Some files) script capture fault (BadScript a) reads h is lacks cut none = inl (same_refusal files script capture (BadScript a) fault h is)
-exact-err (Some files) script capture fault WriteFault reads h is lacks cut none = absurd (refused-fits files script capture fault h (cut refl))
-exact-err (Some files) script capture fault (Differs a) reads h is lacks cut none = inl (same_refusal files script capture (Differs a) fault h is)
-exact-err (Some files) script capture fault (Wrong row) reads h is lacks cut none = absurd is
+    go (inr missing) = refused-there files scores play fault h missing
+exact-err (Some files) scores play fault (BadWave a) reads h is lacks input none = inl (same_refusal files scores play (BadWave a) fault h is)
+exact-err (Some files) scores play fault (BadScript a) reads h is lacks input none = inl (same_refusal files scores play (BadScript a) fault h is)
+exact-err (Some files) scores play fault WriteFault reads h is lacks input none = absurd (refused-fits files scores play fault h (input-fits files scores play (input refl)))
+exact-err (Some files) scores play fault (Differs a) reads h is lacks input none = inl (same_refusal files scores play (Differs a) fault h is)
+exact-err (Some files) scores play fault (Wrong row) reads h is lacks input none = absurd is
 
-pub exact-ok : (files : Option Files) (new : Option Files) (out out_after : Option (List ℕ)) (script capture playback : List ℕ) (fault : Status) → HasRefusal files script capture fault
-    → IsPlayed files new out out_after script capture playback → ⊥
-exact-ok None new out out_after script capture playback fault h is = h
-exact-ok (Some files) new out out_after script capture playback fault h is = refused-fits files script capture fault h (played-fits files new out out_after script capture playback is)
+-- what was played has no refusal
+pub exact-ok : (files new : Option Files) (out out_after : Option (List ℕ)) (scores : List Score) (play : Play) (fault : Status) → HasRefusal files scores play fault
+    → IsExplained files new out out_after scores play → ⊥
+exact-ok None new out out_after scores play fault h is = h
+exact-ok (Some files) None out out_after scores play fault h is = is
+exact-ok (Some files) (Some new) out out_after scores play fault h is =
+    refused-fits files scores play fault h (input-fits files scores play (is.script_bytes, is.script_is, (is.capture_bytes, is.capture_is, (is.given, is.input))))
 
-pub cut-told : (files : Option Files) (new : Option Files) (out out_after : Option (List ℕ)) (faults faults_after : ℕ) (script capture playback : List ℕ) → IsCut files new out out_after faults faults_after script capture playback
-    → IfTold files (λ told. IfCapture (Some told) script capture Fits)
-cut-told None new out out_after faults faults_after script capture playback is = tt
-cut-told (Some files) new out out_after faults faults_after script capture playback is = cut-fits files new out out_after faults faults_after script capture playback is
-
--- a script and a capture that fit are played, if nothing outside fails and memory is found
-pub complete-err : (files : Option Files) (script capture : List ℕ) (status : Status) (reads writes puts : Type 0) → HasGiven files script capture → PlayStatus files script capture status
-    → (status ≡ ReadFault → reads ⊎ LacksInput files script capture) → (status ≡ WriteFault → writes ⊎ puts) → ¬ reads → ¬ writes → ¬ puts
+-- files that fit are played, if nothing outside fails and memory is found
+pub complete-err : (files : Option Files) (scores : List Score) (play : Play) (status : Status) (reads writes puts : Type 0) → HasInput files scores play → PlayStatus files scores play status
+    → (status ≡ ReadFault → reads ⊎ LacksInput files scores play) → (status ≡ WriteFault → writes ⊎ puts) → ¬ reads → ¬ writes → ¬ puts
     → (status ≡ Ok) ⊎ (status ≡ NoMemory)
-complete-err None script capture status reads writes puts h is lacks cut no_read no_write no_put = absurd h
-complete-err (Some files) script capture status reads writes puts h is lacks cut no_read no_write no_put = go status is lacks cut
+complete-err None scores play status reads writes puts h is lacks cut no_read no_write no_put = absurd h
+complete-err (Some files) scores play status reads writes puts h is lacks cut no_read no_write no_put = go status is lacks cut
   where
-    fits : IfCapture (Some files) script capture Fits
-    fits = has_given-fits files script capture h
+    fits : IfCapture (Some files) scores play Fits
+    fits = input-fits files scores play h
 
-    there : LacksInput (Some files) script capture → ⊥
-    there (inl none) = none (is_there files script CanPlay (can_play files script capture Fits fits))
-    there (inr none) = none.1 (has_capture files script capture Fits fits)
-
-    read_or : reads ⊎ LacksInput (Some files) script capture → ⊥
+    read_or : reads ⊎ LacksInput (Some files) scores play → ⊥
     read_or (inl rose) = no_read rose
-    read_or (inr missing) = there missing
+    read_or (inr missing) = capture_lacks files scores play Fits fits missing
 
     write_or : writes ⊎ puts → ⊥
     write_or (inl rose) = no_write rose
     write_or (inr rose) = no_put rose
 
-    go : (status : Status) → PlayStatus (Some files) script capture status → (status ≡ ReadFault → reads ⊎ LacksInput (Some files) script capture) → (status ≡ WriteFault → writes ⊎ puts)
+    go : (status : Status) → PlayStatus (Some files) scores play status → (status ≡ ReadFault → reads ⊎ LacksInput (Some files) scores play) → (status ≡ WriteFault → writes ⊎ puts)
         → (status ≡ Ok) ⊎ (status ≡ NoMemory)
     go Ok is lacks cut = absurd is
     go NoMemory is lacks cut = inr refl
     go Words is lacks cut = absurd is
     go ReadFault is lacks cut = absurd (read_or (lacks refl))
-    go (BadWave fault) is lacks cut = absurd (refused-fits files script capture (BadWave fault) is fits)
-    go (BadScript fault) is lacks cut = absurd (refused-fits files script capture (BadScript fault) is fits)
+    go (BadWave fault) is lacks cut = absurd (refused-fits files scores play (BadWave fault) is fits)
+    go (BadScript fault) is lacks cut = absurd (refused-fits files scores play (BadScript fault) is fits)
     go WriteFault is lacks cut = absurd (write_or (cut refl))
-    go (Differs difference) is lacks cut = absurd (refused-fits files script capture (Differs difference) is fits)
+    go (Differs difference) is lacks cut = absurd (refused-fits files scores play (Differs difference) is fits)
     go (Wrong row) is lacks cut = absurd is

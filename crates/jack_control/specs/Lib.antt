@@ -1,10 +1,10 @@
 pub mod Statuses
 pub mod FaultLines
-pub mod Words
+pub mod Inputs
 pub mod Plays
-pub mod Sessions
+pub mod Answers
+pub mod Scripts
 pub mod Captures
-pub mod Rooms
-pub mod Preparing
-pub mod Tops
-pub mod Exact
+pub mod Openings
+pub mod Files
+pub mod Performances

@@ -2,16 +2,15 @@
 #![tactic(auto)]
 
 mod captures;
+mod comparing;
 mod fault_lines;
-mod preparing;
+mod files;
+mod opening;
+mod playing;
 mod reading;
-mod sessions;
+mod scripts;
 mod status;
-#[cfg(test)]
-mod tests;
 mod top;
-mod words;
-mod writing;
 
 pub use status::{Difference, Status, What};
 pub use top::jackd;

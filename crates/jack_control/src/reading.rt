@@ -3,7 +3,7 @@
 ghost use Rattle.std.specs.Prelude.{◌≡◌, ◌^◌, ◌<◌, ◌≤◌, ◌⊎◌, IfOk, IfSome, IsErrOf, take, vec_len};
 ghost use Rattle.jack_host.specs.Causes.{Rose};
 ghost use Rattle.jack_host.specs.Files.{IsThere, SameFiles};
-ghost use Rattle.jack_control.specs.Plays.{IfBytes};
+ghost use Rattle.jack_control.specs.Inputs.{IfBytes};
 
 use jack_host::{Failed, Host, Source};
 use std::alloc::{AllocError, Global};

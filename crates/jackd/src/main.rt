@@ -1,10 +1,12 @@
 //! The program: the real files, standard output and the exit code.
 #![tactic(auto)]
 
+mod handed;
 mod usage;
 
+use crate::handed::hand_in;
 use jack_control::{Status, jackd};
-use jack_host::{FileHost, WriterSink};
+use jack_host::{FileHost, FreeGate, WriterSink};
 use std::alloc::Global;
 use std::env::Env;
 use std::process::ExitCode;
@@ -49,9 +51,20 @@ fn main(rt: HostRuntime) -> ExitCode {
     if is_alone(&words, "--version") {
         return code_of(usage::print_version(&rt));
     }
+    let Ok(guests) = hand_in(rt.alloc()) else {
+        return ExitCode::from(Status::NoMemory.code());
+    };
     let mut host = FileHost::new(&rt);
     let mut out = WriterSink::new(io::writer(&rt));
-    let status = jackd(rt.alloc(), &words, &mut host, &mut out);
+    let status = jackd(
+        &rt,
+        rt.alloc(),
+        &words,
+        &mut host,
+        &mut out,
+        guests,
+        &FreeGate,
+    );
     if status == Status::Words {
         let _ = usage::print_usage(&rt);
     }

@@ -5,18 +5,19 @@ use std::alloc::{AllocError, Global};
 use std::io;
 
 // The lists of words that are taken.
-const USAGE: &str = "jackd play SCRIPT CAPTURE PLAYBACK
+const USAGE: &str = "jackd play SCRIPT CAPTURE PLAYBACK [--record PATH]..
        jackd --help
        jackd --version";
 
 // What the words of a play name, and the exit codes.
 const NAMES: &str =
     "SCRIPT is a session's script, CAPTURE the WAVE file that stands for the sound card's input, and
-PLAYBACK the WAVE file that is made, which stands for its output. The report goes to standard output.
+PLAYBACK the WAVE file that is made, which stands for its output. Each recorder of the script
+makes one PATH, in their order. The report goes to standard output.
 
 Exit codes: 0 played, 1 no memory, 2 other words, 3 a file could not be read, 4 the capture is no
 WAVE file that is read, 5 the script can't be played, 6 a file could not be written, 7 the script
-and the capture differ.";
+and what it is played with differ.";
 
 // How the program is called.
 fn program<'a>(alloc: Global) -> Result<Command<'a>, AllocError> {

@@ -1,0 +1,52 @@
+-- Why a play failed.
+--     ok-known, ok-behind, err-any      what is known of a result
+--     rose-handed      a fault of the capture, which was handed back
+--     rose-written      a fault of a file
+use Rattle.std.proofs.Common.{◌≡◌, ℕ, ◌≤◌, ◌⊎◌, inl, inr, Bool, false, List, Result, Ok, Err, is_ok, OnErr, OnOk, sym, ◌∙◌, arith, true≢false}
+use Rattle.std.specs.Prelude.{IsOk}
+use Rattle.jack_host.specs.Causes.{Adds, HasCause, Rose}
+use Rattle.recorder_files.specs.Recorders.{Stored}
+use Rattle.session_run.proofs.StoreLemmas.{rose-mono}
+use Rattle.jack_control.specs.Files.{AreRaised, OneFailed}
+
+pub ok-known : {T E : Type 0} (r : Result T E) (P : Type 0) → IsOk r → OnOk r P → P
+ok-known (Ok x) P is held = held
+ok-known (Err e) P is held = absurd (true≢false (sym is))
+
+pub ok-behind : {T E : Type 0} (r : Result T E) {P Q : Type 0} → (P → Q) → OnOk r P → OnOk r Q
+ok-behind (Ok x) f held = f held
+ok-behind (Err e) f held = tt
+
+pub err-any : {T E : Type 0} (r : Result T E) {P : Type 0} → P → OnErr r P
+err-any (Ok x) held = tt
+err-any (Err e) held = held
+
+-- the capture's count rose, and the host took it up
+pub rose-handed : (was now before more after earlier : ℕ) → Rose was now → now ≡ more → Adds before more after → before ≡ earlier → Rose earlier after
+rose-handed was now before more after earlier rose same adds is =
+    let taken = adds.taken_up in
+    omega (arith, rose, same, taken, is)
+
+failed-rose : {T E : Type 0} (r : Result T E) (before now : ℕ) → HasCause before now r → is_ok r ≡ false → Rose before now
+failed-rose (Ok x) before now cause is = absurd (true≢false is)
+failed-rose (Err e) before now cause is = cause.failed
+
+-- a count rose when the files were made, a store of one had counted a fault, or one could not be handed back
+pub rose-written : {T E : Type 0} (r : Result T E) (stores : List Stored) (told : Bool) (old made done new sink sink_after : ℕ) (performed : Type 0) → told ≡ is_ok r → old ≤ made → HasCause made done r → AreRaised stores made done → new ≡ done
+    → (performed → Rose old made ⊎ OneFailed stores) → performed ⊎ (told ≡ false) ⊎ Rose sink sink_after → Rose old new ⊎ Rose sink sink_after
+rose-written r stores told old made done new sink sink_after performed told_is first handed raised same wrote fault = go fault
+  where
+    last : made ≤ done
+    last = handed.later
+
+    late : Rose made done → Rose old new
+    late rose = rose-mono old made done new first rose (omega (arith, same))
+
+    early : Rose old made ⊎ OneFailed stores → Rose old new
+    early (inl rose) = rose-mono old old made new (omega arith) rose (omega (arith, last, same))
+    early (inr one) = late (raised one.0 one.1 one.2 one.3)
+
+    go : performed ⊎ (told ≡ false) ⊎ Rose sink sink_after → Rose old new ⊎ Rose sink sink_after
+    go (inl is) = inl (early (wrote is))
+    go (inr (inl is)) = inl (late (failed-rose r made done handed (sym told_is ∙ is)))
+    go (inr (inr rose)) = inr rose

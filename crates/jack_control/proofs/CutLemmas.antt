@@ -1,0 +1,219 @@
+-- The files of a play, before it and behind it.
+--     apart-front, apart-take      names that are apart
+--     touches-same, touches-after, touches-more      what is not touched
+--     handed, others-kept      of the files that were made, when they were handed back
+--     explained      an ended play
+--     cut      one that failed
+use Rattle.std.proofs.Common.{◌≡◌, ℕ, zero, suc, ◌<◌, ◌≤◌, ◌⊎◌, inl, inr, List, [], ◌∷◌, ◌++◌, length, map, take, drop, get_or, slice_get, Contains, Option, Some, None, refl, sym, ◌∙◌, ap, ap₂, subst, arith, true≢false}
+use Rattle.std.specs.Prelude.{IsSome}
+use Rattle.std.proofs.lemmas.Bool.{cases_lt}
+use Rattle.std.proofs.lemmas.List.{length-map, take-append-drop}
+use Rattle.std.proofs.lemmas.Option.{same_Some, slice_get-get_or}
+use Rattle.jack_types.specs.declared.kinds.Score.{Score}
+use Rattle.jack_host.specs.Bytes.{Gains}
+use Rattle.jack_host.specs.Files.{bytes_under, SameFiles}
+use Rattle.session_model.specs.Explanations.{Given}
+use Rattle.session_model.specs.Soundness.{Apart}
+use Rattle.session_laws.proofs.LoopLemmas.{Contains-cases, Contains-first, Contains-later}
+use Rattle.port_registry.proofs.PlaceLemmas.{Apart-place}
+use Rattle.recorder_files.specs.Recorders.{Stored}
+use Rattle.run_laws.proofs.PlaceLemmas.{front_there, some_at}
+use Rattle.run_laws.specs.Sessions.{IsGiven}
+use Rattle.play_words.specs.Words.{Play}
+use Rattle.session_run.specs.Parts.{Parts, session_of}
+use Rattle.jack_control.specs.Files.{AreOut, IsHeld, Stand}
+use Rattle.jack_control.specs.Inputs.{Files}
+use Rattle.jack_control.specs.Openings.{IsSessionOf}
+use Rattle.jack_control.specs.Performances.{Explain, HaveFronts, MadeSome, front_at}
+use Rattle.jack_control.specs.Plays.{Cuts, IsAsBeforeOr, IsCut, IsExplained, Plays, TouchesOnly, made_by}
+
+-- ---- names
+
+abbrev pub AreApart : List (List ℕ) → Type 0
+AreApart names = Apart (λ (name : List ℕ). name) names
+
+contains-front : {X : Type 0} (xs ys : List X) (x : X) → Contains xs x → Contains (xs ++ ys) x
+contains-front [] ys x there = absurd (let low = there.1 in omega (arith, low))
+contains-front (y ∷ xs) ys x there = go (Contains-cases y x xs there) (contains-front xs ys x)
+  where
+    go : (y ≡ x) ⊎ Contains xs x → (Contains xs x → Contains (xs ++ ys) x) → Contains (y ∷ xs ++ ys) x
+    go (inl same) rest = subst (λ z. Contains (y ∷ xs ++ ys) z) same (Contains-first y (xs ++ ys))
+    go (inr later) rest = Contains-later y x (xs ++ ys) (rest later)
+
+pub apart-front : (names others : List (List ℕ)) → AreApart (names ++ others) → AreApart names
+apart-front [] others apart = tt
+apart-front (name ∷ names) others apart = (λ other there. apart.0 other (contains-front names others other there), apart-front names others apart.1)
+
+pub apart-take : (many : ℕ) (names : List (List ℕ)) → AreApart names → AreApart (take many names)
+apart-take many names apart = apart-front (take many names) (drop many names) (subst (λ (whole : List (List ℕ)). AreApart whole) (sym (take-append-drop many names)) apart)
+
+contains-take : (many : ℕ) (names : List (List ℕ)) (name : List ℕ) → Contains (take many names) name → Contains names name
+contains-take many names name there = subst (λ (whole : List (List ℕ)). Contains whole name) (take-append-drop many names) (contains-front (take many names) (drop many names) name there)
+
+-- ---- what is not touched
+
+pub touches-same : (a b : Option Files) (names : List (List ℕ)) → SameFiles a b → TouchesOnly a b names
+touches-same None None names same = tt
+touches-same None (Some b) names same = absurd same
+touches-same (Some a) None names same = absurd same
+touches-same (Some a) (Some b) names same = λ name other. same name
+
+pub touches-after : (a b c : Option Files) (names : List (List ℕ)) → TouchesOnly a b names → TouchesOnly b c names → TouchesOnly a c names
+touches-after None None None names first second = tt
+touches-after None None (Some c) names first second = absurd second
+touches-after None (Some b) c names first second = absurd first
+touches-after (Some a) None c names first second = absurd first
+touches-after (Some a) (Some b) None names first second = absurd second
+touches-after (Some a) (Some b) (Some c) names first second = λ name other. second name other ∙ first name other
+
+pub touches-more : (a b : Option Files) (many : ℕ) (names : List (List ℕ)) → TouchesOnly a b (take many names) → TouchesOnly a b names
+touches-more None None many names touches = tt
+touches-more None (Some b) many names touches = absurd touches
+touches-more (Some a) None many names touches = absurd touches
+touches-more (Some a) (Some b) many names touches = λ name other. touches name (λ there. other (contains-take many names name there))
+
+-- ---- handed back
+
+abbrev pub AllStand : Option Files → Option Files → List Stored → Type 0
+AllStand made behind stores = (names : List (List ℕ)) → AreOut made names stores → AreApart names → Stand made behind names stores
+
+pub handed : (old made behind : Option Files) (names : List (List ℕ)) (stores : List Stored) → AreApart names → (some : MadeSome old made names stores) → AllStand made behind stores → Stand made behind (take some.made names) stores
+handed old made behind names stores apart some stand = stand (take some.made names) some.out (apart-take some.made names apart)
+
+pub others-kept : (old made behind new : Option Files) (names : List (List ℕ)) (stores : List Stored) → AreApart names → MadeSome old made names stores → AllStand made behind stores → SameFiles behind new → TouchesOnly old new names
+others-kept old made behind new names stores apart some stand same =
+    touches-after old made new names (touches-more old made some.made names some.touches)
+    (touches-after made behind new names (touches-more made behind some.made names (handed old made behind names stores apart some stand).others) (touches-same behind new names same))
+
+-- ---- ended
+
+some-told : (bytes : Option (List ℕ)) → IsSome bytes → (text : List ℕ) × (bytes ≡ Some text)
+some-told (Some text) is = (text, refl)
+some-told None is = absurd (true≢false (sym is))
+
+abbrev AllHeld : Files → List (List ℕ) → List Stored → Type 0
+AllHeld files names stores = (i : ℕ) (name : List ℕ) (store : Stored) → slice_get names i ≡ Some name → slice_get stores i ≡ Some store → IsHeld files name store
+
+texts-told : (files : Files) (names : List (List ℕ)) (stores : List Stored) → length stores ≡ length names → AllHeld files names stores → (texts : List (List ℕ)) × (map (λ (store : Stored). store.bytes) stores ≡ map Some texts)
+texts-told files names [] same held = ([], refl)
+texts-told files [] (store ∷ stores) same held = absurd (omega (arith, same))
+texts-told files (name ∷ names) (store ∷ stores) same held =
+    let first = some-told store.bytes (held zero name store refl refl).tells in
+    let rest = texts-told files names stores (omega (arith, same)) (λ i n s a b. held (suc i) n s a b) in
+    (first.0 ∷ rest.0, ap₂ (λ (one : Option (List ℕ)) (others : List (Option (List ℕ))). one ∷ others) first.1 rest.1)
+
+abbrev AllUnder : Files → List (List ℕ) → List Stored → Type 0
+AllUnder files names stores = (i : ℕ) (name : List ℕ) (store : Stored) → slice_get names i ≡ Some name → slice_get stores i ≡ Some store → bytes_under files name ≡ store.bytes
+
+bytes-all : (files : Files) (names : List (List ℕ)) (stores : List Stored) → length stores ≡ length names → AllUnder files names stores → map (bytes_under files) names ≡ map (λ (store : Stored). store.bytes) stores
+bytes-all files [] [] same under = refl
+bytes-all files [] (store ∷ stores) same under = absurd (omega (arith, same))
+bytes-all files (name ∷ names) [] same under = absurd (omega (arith, same))
+bytes-all files (name ∷ names) (store ∷ stores) same under =
+    ap₂ (λ (one : Option (List ℕ)) (others : List (Option (List ℕ))). one ∷ others) (under zero name store refl refl) (bytes-all files names stores (omega (arith, same)) (λ i n s a b. under (suc i) n s a b))
+
+bytes-same : (a b : Files) → ((name : List ℕ) → bytes_under b name ≡ bytes_under a name) → (names : List (List ℕ)) → map (bytes_under b) names ≡ map (bytes_under a) names
+bytes-same a b same [] = refl
+bytes-same a b same (name ∷ names) = ap₂ (λ (one : Option (List ℕ)) (others : List (Option (List ℕ))). one ∷ others) (same name) (bytes-same a b same names)
+
+first-of : (a b : Option (List ℕ)) (rest others : List (Option (List ℕ))) → a ∷ rest ≡ b ∷ others → a ≡ b
+first-of a b rest others same = cc
+
+others-of : (a b : Option (List ℕ)) (rest others : List (Option (List ℕ))) → a ∷ rest ≡ b ∷ others → rest ≡ others
+others-of a b rest others same = cc
+
+-- whatever is given, the history of serial mode explains what the stores have and this report
+abbrev pub ExplainsAll : Parts → List Stored → List ℕ → Type 0
+ExplainsAll parts stores report = (given : Given) → IsGiven (session_of parts) given → given.disks ≡ [] → Explain given stores report
+
+module _ (scores : List Score) (play : Play) (parts : Parts) (stores : List Stored) where
+  plays : (files made behind new : Files) (out out_after : Option (List ℕ)) (report : List ℕ) → IsSessionOf (Some files) scores play parts → AreOut (Some made) (made_by play) stores
+      → Stand (Some made) (Some behind) (made_by play) stores → SameFiles (Some behind) (Some new) → ExplainsAll parts stores report → Gains out out_after report → Plays files new out out_after scores play
+  plays files made behind new out out_after report is held stand same explains gains = go texts.0 texts.1
+    where
+      texts : (texts : List (List ℕ)) × (map (λ (store : Stored). store.bytes) stores ≡ map Some texts)
+      texts = texts-told made (made_by play) stores held.as_many (λ i n s a b. held.each i n s a b)
+
+      under : map (bytes_under new) (made_by play) ≡ map (λ (store : Stored). store.bytes) stores
+      under = bytes-same behind new same (made_by play) ∙ bytes-all behind (made_by play) stores held.as_many (λ i n s a b. stand.each i n s a b)
+
+      go : (texts : List (List ℕ)) → map (λ (store : Stored). store.bytes) stores ≡ map Some texts → Plays files new out out_after scores play
+      go [] are = absurd (let none : length (map (λ (store : Stored). store.bytes) stores) ≡ 0 = ap length are in let many = length-map stores (λ (store : Stored). store.bytes) in let held_many = held.as_many in omega (arith, none, many, held_many))
+      go (text ∷ texts) are = record {
+        script_bytes = is.given.0;
+        capture_bytes = is.given.2.0;
+        script_is = is.given.1;
+        capture_is = is.given.2.1;
+        given = is.given.2.2.0;
+        input = is.given.2.2.1;
+        written = record { playback = text; records = texts; report = report };
+        explained = explains is.given.2.2.0 is.given.2.2.2 is.given.2.2.1.no_disk text texts are;
+        playback_is = first-of (bytes_under new play.playback) (Some text) (map (bytes_under new) play.records) (map Some texts) (under ∙ are);
+        records_are = others-of (bytes_under new play.playback) (Some text) (map (bytes_under new) play.records) (map Some texts) (under ∙ are);
+        report_is = gains;
+      }
+
+  pub explained : (files old made behind new : Option Files) (out out_after : Option (List ℕ)) (report : List ℕ) → SameFiles files old → TouchesOnly old made (made_by play) → AreApart (made_by play) → AllStand made behind stores → SameFiles behind new
+      → IsSessionOf files scores play parts → AreOut made (made_by play) stores → ExplainsAll parts stores report → Gains out out_after report → IsExplained files new out out_after scores play
+  explained None old made behind new out out_after report first touches apart stand last is held explains gains = tt
+  explained (Some files) None made behind new out out_after report first touches apart stand last is held explains gains = absurd first
+  explained (Some files) (Some old) None behind new out out_after report first touches apart stand last is held explains gains = absurd touches
+  explained (Some files) (Some old) (Some made) None new out out_after report first touches apart stand last is held explains gains = absurd (stand (made_by play) held apart).others
+  explained (Some files) (Some old) (Some made) (Some behind) None out out_after report first touches apart stand last is held explains gains = absurd last
+  explained (Some files) (Some old) (Some made) (Some behind) (Some new) out out_after report first touches apart stand last is held explains gains =
+      plays files made behind new out out_after report is held (stand (made_by play) held apart) last explains gains
+
+-- ---- cut
+
+-- a name behind the first so many is none of them
+none-there : (many : ℕ) (names : List (List ℕ)) (i : ℕ) (name : List ℕ) → AreApart names → slice_get names i ≡ Some name → length (take many names) ≤ i → Contains (take many names) name → ⊥
+none-there many names i name apart there high contains =
+    let at = front_there many names contains.0 (get_or (take many names) contains.0 name) (slice_get-get_or (take many names) contains.0 name contains.1) in
+    let same = Apart-place (λ (n : List ℕ). n) names i contains.0 name (get_or (take many names) contains.0 name) apart there at (sym contains.2) in
+    let low = contains.1 in
+    omega (arith, same, high, low)
+
+module _ (given : Given) (names : List (List ℕ)) (stores : List Stored) (apart : AreApart names) (fronts : HaveFronts given stores) where
+  cut-at : (files old made behind new : Files) → SameFiles (Some files) (Some old) → (some : MadeSome (Some old) (Some made) names stores) → Stand (Some made) (Some behind) (take some.made names) stores → SameFiles (Some behind) (Some new)
+      → (place : ℕ) (name : List ℕ) → slice_get names place ≡ Some name → IsAsBeforeOr (front_at given place) files new name
+  cut-at files old made behind new first some stand last place name there = go (cases_lt place (length (take some.made names)))
+    where
+      go : (place < length (take some.made names)) ⊎ (length (take some.made names) ≤ place) → IsAsBeforeOr (front_at given place) files new name
+      go (inr high) =
+          let other : Contains (take some.made names) name → ⊥ = none-there some.made names place name apart there high in
+          inl (last name ∙ stand.others name other ∙ some.touches name other ∙ first name)
+      go (inl low) =
+          let named = some_at (take some.made names) place low in
+          let same : named.0 ≡ name = same_Some named.0 name (sym (front_there some.made names place named.0 named.1) ∙ there) in
+          let at : slice_get (take some.made names) place ≡ Some name = named.1 ∙ ap Some same in
+          let store = some_at stores place (subst (λ n. place < n) (sym some.out.as_many) low) in
+          let held : IsHeld made name store.0 = some.out.each place name store.0 at store.1 in
+          let told = some-told store.0.bytes held.tells in
+          inr (told.0, last name ∙ stand.each place name store.0 at store.1 ∙ told.1, subst (λ (bytes : Option (List ℕ)). front_at given place bytes) told.1 (fronts place store.0 store.1))
+
+module _ (scores : List Score) (play : Play) (parts : Parts) (stores : List Stored) where
+  cuts : (files old made behind new : Files) → SameFiles (Some files) (Some old) → AreApart (made_by play) → MadeSome (Some old) (Some made) (made_by play) stores → AllStand (Some made) (Some behind) stores → SameFiles (Some behind) (Some new)
+      → IsSessionOf (Some files) scores play parts → ((given : Given) → IsGiven (session_of parts) given → given.disks ≡ [] → HaveFronts given stores) → Cuts files new scores play
+  cuts files old made behind new first apart some stand last is fronts = record {
+    script_bytes = is.given.0;
+    capture_bytes = is.given.2.0;
+    script_is = is.given.1;
+    capture_is = is.given.2.1;
+    given = is.given.2.2.0;
+    input = is.given.2.2.1;
+    playback = at zero play.playback refl;
+    records = λ recorder name there. at (suc recorder) name there;
+  }
+    where
+      at : (place : ℕ) (name : List ℕ) → slice_get (made_by play) place ≡ Some name → IsAsBeforeOr (front_at is.given.2.2.0 place) files new name
+      at place name there =
+          cut-at is.given.2.2.0 (made_by play) stores apart (fronts is.given.2.2.0 is.given.2.2.2 is.given.2.2.1.no_disk) files old made behind new first some (handed (Some old) (Some made) (Some behind) (made_by play) stores apart some stand) last place name there
+
+  pub cut : (files old made behind new : Option Files) → SameFiles files old → AreApart (made_by play) → MadeSome old made (made_by play) stores → AllStand made behind stores → SameFiles behind new
+      → IsSessionOf files scores play parts → ((given : Given) → IsGiven (session_of parts) given → given.disks ≡ [] → HaveFronts given stores) → IsCut files new scores play
+  cut None old made behind new first apart some stand last is fronts = tt
+  cut (Some files) None made behind new first apart some stand last is fronts = absurd first
+  cut (Some files) (Some old) None behind new first apart some stand last is fronts = absurd some.touches
+  cut (Some files) (Some old) (Some made) None new first apart some stand last is fronts = absurd (handed (Some old) (Some made) None (made_by play) stores apart some stand).others
+  cut (Some files) (Some old) (Some made) (Some behind) None first apart some stand last is fronts = absurd last
+  cut (Some files) (Some old) (Some made) (Some behind) (Some new) first apart some stand last is fronts = inr (cuts files old made behind new first apart some stand last is fronts)

@@ -1,0 +1,153 @@
+-- A session that was run and ended, and what its stores have.
+--     told-stores      the bytes of a session's stores, where each place has one
+--     printed-serial      the report prints the history of serial mode
+--     fronts-told      fronts of the files at their places
+--     fronts-begun      so where files were begun alone
+--     fronts-ended      finished files are fronts of themselves
+--     explain      what is written is explained by the history of serial mode
+use Rattle.std.proofs.Common.{◌≡◌, ℕ, zero, suc, ◌<◌, ◌≤◌, List, [], ◌∷◌, length, map, filter_map, slice_get, ℤ, Option, Some, None, IsNone, inl, refl, sym, ◌∙◌, ap, ap₂, subst, arith}
+use Rattle.std.specs.Prelude.{IfSome}
+use Rattle.std.proofs.lemmas.List.{length-map}
+use Rattle.std.proofs.lemmas.Option.{same_Some, slice_get_within}
+use Rattle.jack_types.specs.declared.files.Format.{Format}
+use Rattle.jack_types.specs.declared.replies.Entry.{Entry}
+use Rattle.jack_types.specs.declared.replies.Overrun.{Overrun}
+use Rattle.jack_types.specs.declared.replies.Underrun.{Underrun}
+use Rattle.session_model.specs.Courses.{DiskFile}
+use Rattle.session_model.specs.Disks.{turned_underruns}
+use Rattle.session_model.specs.Explanations.{Explained, Given, Printed, playback_text, record_text}
+use Rattle.session_model.specs.Playback.{playback_format, played_back}
+use Rattle.session_model.specs.Recorders.{recorded, recorder_format}
+use Rattle.session_model.specs.Samples.{below}
+use Rattle.session_model.specs.Scripts.{Script}
+use Rattle.session_model.specs.Serial.{course_before, serial_history, serial_numbers, serial_overruns, serial_printed}
+use Rattle.session_laws.proofs.ActivationLemmas.{get_or-map_below}
+use Rattle.wave_write.specs.Tapes.{HasFront, IsCut}
+use Rattle.driver_laws.specs.Drivers.{underruns_on}
+use Rattle.recorder_files.specs.Recorders.{Recording, Stored, held_in, held_or}
+use Rattle.run_laws.proofs.PlaceLemmas.{mapped_there}
+use Rattle.run_laws.specs.Sessions.{IsGiven, Session, printed_of}
+use Rattle.run_laws.specs.Told.{Ends, Runs, text_in}
+use Rattle.serial_laws.specs.Faults.{StandsInSerial, playback_front, record_front, serial_course_of}
+use Rattle.serial_laws.proofs.FrontLemmas.{HasFront-told}
+use Rattle.session_run.specs.Parts.{Parts, bytes_of, session_of, stores_in, told_of}
+use Rattle.session_run.specs.Standings.{format_at}
+use Rattle.jack_control.specs.Files.{AreFronts}
+use Rattle.jack_control.specs.Performances.{Explain, HaveFronts, front_at}
+
+-- ---- the bytes of stores
+
+module _ {X : Type 0} where
+  picked-few : (xs : List (Option X)) → length (filter_map (λ (x : Option X). x) xs) ≤ length xs
+  picked-few [] = omega arith
+  picked-few (Some x ∷ xs) = let few = picked-few xs in omega (arith, few)
+  picked-few (None ∷ xs) = let few = picked-few xs in omega (arith, few)
+
+  picked-all : (xs : List (Option X)) → length (filter_map (λ (x : Option X). x) xs) ≡ length xs → map Some (filter_map (λ (x : Option X). x) xs) ≡ xs
+  picked-all [] all = refl
+  picked-all (Some x ∷ xs) all = ap (λ (rest : List (Option X)). Some x ∷ rest) (picked-all xs (omega (arith, all)))
+  picked-all (None ∷ xs) all = absurd (let few = picked-few xs in omega (arith, all, few))
+
+map-map : {X Y Z : Type 0} (g : Y → Z) (f : X → Y) (xs : List X) → map g (map f xs) ≡ map (λ x. g (f x)) xs
+map-map g f [] = refl
+map-map g f (x ∷ xs) = ap (λ rest. g (f x) ∷ rest) (map-map g f xs)
+
+-- each place has a store
+abbrev pub AreHeld : Parts → Type 0
+AreHeld parts = length (stores_in parts) ≡ suc (length parts.recorders)
+
+pub told-stores : (parts : Parts) → AreHeld parts → map (λ (store : Stored). store.bytes) (stores_in parts) ≡ (told_of parts).playback_file ∷ (told_of parts).record_files
+told-stores parts all =
+    sym (map-map bytes_of Some (stores_in parts))
+    ∙ ap (map bytes_of) (picked-all held (all ∙ ap suc (sym (length-map parts.recorders held_in))))
+    ∙ ap (λ (rest : List (Option (List ℕ))). bytes_of (held_or parts.playback parts.gear.playback) ∷ rest) (map-map bytes_of held_in parts.recorders)
+  where
+    held : List (Option Stored)
+    held = held_or parts.playback parts.gear.playback ∷ map held_in parts.recorders
+
+-- ---- what the report prints
+
+no-disks : (session : Session) (given : Given) → IsGiven session given → given.disks ≡ [] → length session.script.header.disks ≡ 0
+no-disks session given is none = sym (ap length is.own.channels) ∙ ap (λ (disks : List DiskFile). length (map (λ (file : DiskFile). file.channels) disks)) none
+
+pub printed-serial : (before between : Session) (given : Given) → Runs before between → IsNone before.script.header.threads → IsGiven before given → given.disks ≡ [] → printed_of between ≡ serial_printed given
+printed-serial before between given runs serial is none =
+    ap₂ (λ (history : List Entry) (numbers : List ℕ). record (printed_of between) { history = history; numbers = numbers })
+    (runs.serial_history serial ∙ ap serial_history script) (runs.serial_numbers serial ∙ ap serial_numbers script)
+    ∙ ap₂ (λ (overruns : List (List Overrun)) (underruns : List (List Underrun)). record (serial_printed given) { overruns = overruns; underruns = underruns })
+    (runs.serial_overruns serial given is ∙ ap (λ (s : Script). map (serial_overruns s) (below (length s.header.recorders))) script)
+    (ap (λ n. map (underruns_on between.driver.underruns) (below n)) (ap (λ (s : Script). length s.header.disks) runs.script ∙ few)
+    ∙ sym (ap (λ n. map (turned_underruns (course_before given)) (below n)) (ap (λ (s : Script). length s.header.disks) (sym script) ∙ few)))
+  where
+    script : before.script ≡ given.script
+    script = sym is.own.script
+
+    few : length before.script.header.disks ≡ 0
+    few = no-disks before given is none
+
+-- ---- fronts
+
+front-there : (given : Given) (playback : Option (List ℕ)) (records : List (Option (List ℕ))) → playback_front given playback
+    → ((recorder : ℕ) (file : Option (List ℕ)) → slice_get records recorder ≡ Some file → record_front given recorder file)
+    → (place : ℕ) (bytes : Option (List ℕ)) → slice_get (playback ∷ records) place ≡ Some bytes → front_at given place bytes
+front-there given playback records first others zero bytes is = subst (λ (told : Option (List ℕ)). playback_front given told) (same_Some playback bytes is) first
+front-there given playback records first others (suc recorder) bytes is = others recorder bytes is
+
+pub fronts-told : (parts : Parts) (given : Given) → AreHeld parts → StandsInSerial given (told_of parts) → HaveFronts given (stores_in parts)
+fronts-told parts given all stands place store is =
+    front-there given (told_of parts).playback_file (told_of parts).record_files stands.playback stands.records place store.bytes
+    (ap (λ (told : List (Option (List ℕ))). slice_get told place) (sym (told-stores parts all)) ∙ mapped_there (λ (store : Stored). store.bytes) (stores_in parts) place store is)
+
+front-begun : (format of : Format) (samples : List ℤ) (told : Option (List ℕ)) → format ≡ of → IfSome told (IsCut format) → HasFront of samples told
+front-begun format of samples None same cut = tt
+front-begun format of samples (Some bytes) same cut = inl (subst (λ (f : Format). IsCut f bytes) same cut)
+
+pub fronts-begun : (parts : Parts) (stores : List Stored) → AreFronts parts stores → (given : Given) → IsGiven (session_of parts) given → HaveFronts given stores
+fronts-begun parts stores begun given is zero store there =
+    front-begun (format_at zero parts) (playback_format (serial_course_of given)) (played_back (serial_course_of given)) store.bytes (ap (λ (s : Script). playback_format (record (serial_course_of given) { script = s })) (sym is.own.script)) (begun zero store there)
+fronts-begun parts stores begun given is (suc recorder) store there =
+    front-begun (format_at (suc recorder) parts) (recorder_format (serial_course_of given) recorder) (recorded (serial_course_of given) (serial_overruns given.script recorder) recorder) store.bytes
+    (ap (λ (s : Script). recorder_format (record (serial_course_of given) { script = s }) recorder) (sym is.own.script)) (begun (suc recorder) store there)
+
+pub fronts-ended : (given : Given) (between after : Session) → Ends given between after → printed_of between ≡ serial_printed given → length after.record_files ≡ length given.script.header.recorders → StandsInSerial given after
+fronts-ended given between after ends same many = record {
+  playback = HasFront-told (playback_format (serial_course_of given)) (played_back (serial_course_of given)) after.playback_file
+      (subst (λ (printed : Printed). IfSome after.playback_file (λ bytes. bytes ≡ playback_text given printed)) same ends.playback);
+  records = λ recorder file there.
+      let low : recorder < length given.script.header.recorders = subst (λ n. recorder < n) many (slice_get_within after.record_files recorder file there) in
+      subst (λ (overruns : List Overrun). HasFront (recorder_format (serial_course_of given) recorder) (recorded (serial_course_of given) overruns recorder) file)
+      (get_or-map_below (serial_overruns given.script) (length given.script.header.recorders) recorder [] low)
+      (HasFront-told (recorder_format (serial_course_of given) recorder) (recorded (serial_course_of given) _ recorder) file
+      (subst (λ (printed : Printed). IfSome file (λ bytes. bytes ≡ record_text given printed recorder)) same (ends.records recorder file there)));
+}
+
+-- ---- explained
+
+abbrev pub IsExplainedEach : Type 0
+IsExplainedEach =
+    (before between after : Session) (given : Given) (playback : List ℕ) (records : List (List ℕ)) → IsGiven before given → Runs before between → Ends given between after
+    → after.playback_file ≡ Some playback → after.record_files ≡ map Some records → length records ≡ length before.script.header.recorders
+    → Explained given (printed_of between) (record { playback = playback; records = records; report = text_in after })
+
+first-told : (a b : Option (List ℕ)) (rest others : List (Option (List ℕ))) → a ∷ rest ≡ b ∷ others → a ≡ b
+first-told a b rest others same = cc
+
+others-told : (a b : Option (List ℕ)) (rest others : List (Option (List ℕ))) → a ∷ rest ≡ b ∷ others → rest ≡ others
+others-told a b rest others same = cc
+
+pub explain : IsExplainedEach → (before between after : Parts) → Runs (session_of before) (session_of between) → IsNone before.gear.script.header.threads
+    → AreHeld after → told_of after ≡ session_of after → length after.recorders ≡ length before.gear.script.header.recorders
+    → (given : Given) → IsGiven (session_of before) given → given.disks ≡ [] → Ends given (session_of between) (session_of after) → Explain given (stores_in after) (text_in (session_of after))
+explain law before between after runs serial all told many given is none ends playback records same =
+    subst (λ (printed : Printed). Explained given printed (record { playback = playback; records = records; report = text_in (session_of after) }))
+    (printed-serial (session_of before) (session_of between) given runs serial is none)
+    (law (session_of before) (session_of between) (session_of after) given playback records is runs ends
+    (ap (λ (s : Session). s.playback_file) (sym told) ∙ first-told (told_of after).playback_file (Some playback) (told_of after).record_files (map Some records) files)
+    (ap (λ (s : Session). s.record_files) (sym told) ∙ rest)
+    (sym (length-map records Some) ∙ sym (ap length rest) ∙ length-map after.recorders (λ (r : Recording). bytes_of (held_in r)) ∙ many))
+  where
+    files : (told_of after).playback_file ∷ (told_of after).record_files ≡ Some playback ∷ map Some records
+    files = sym (told-stores after all) ∙ same
+
+    rest : (told_of after).record_files ≡ map Some records
+    rest = others-told (told_of after).playback_file (Some playback) (told_of after).record_files (map Some records) files

@@ -1,0 +1,120 @@
+-- A session that is performed, from the clauses of its calls.
+--     given-made      what a session is given, behind the making of its files
+--     out-behind      its stores, later
+--     MadeAll, made-all      all files were made
+--     all-held, made-behind      what is so behind that
+--     fronts-broken, fronts-whole, explain-whole      of the stores, where the run or the end failed, and where neither did
+use Rattle.std.proofs.Common.{◌≡◌, ℕ, suc, ◌<◌, List, [], length, take, Option, Some, None, is_some, Result, Ok, Err, is_err, OnOk, false, sym, ◌∙◌, ap, subst, arith, true≢false}
+use Rattle.std.specs.Prelude.{IsSome}
+use Rattle.std.proofs.lemmas.List.{length-map, take_all}
+use Rattle.std.proofs.lemmas.Option.{slice_get_within}
+use Rattle.session_model.specs.Explanations.{Given}
+use Rattle.session_model.specs.Scripts.{Script, phases}
+use Rattle.cycle_laws.specs.Gears.{Gear}
+use Rattle.recorder_files.specs.Recorders.{Recording, Stored, held_in}
+use Rattle.run_laws.proofs.PlaceLemmas.{some_at}
+use Rattle.run_laws.specs.Runs.{AtPhase}
+use Rattle.run_laws.specs.Sessions.{IsGiven, Session}
+use Rattle.run_laws.specs.Told.{Ends, Runs, text_in}
+use Rattle.serial_laws.specs.Faults.{StandsInSerial}
+use Rattle.session_run.specs.Parts.{AreLater, IsLater, Parts, bytes_of, session_of, stores_in, told_of}
+use Rattle.session_run.specs.Standings.{IsAttaching}
+use Rattle.jack_control.specs.Files.{AreOut, IsOut}
+use Rattle.jack_control.specs.Inputs.{Files}
+use Rattle.jack_control.specs.Performances.{Explain, HaveFronts, MadeSome}
+use Rattle.jack_control.specs.Plays.{TouchesOnly}
+use Rattle.jack_control.proofs.ExplainedLemmas.{AreHeld, IsExplainedEach, explain, fronts-ended, fronts-told, printed-serial}
+
+-- the playback's file alone is new
+abbrev pub HasFiles : Parts → Parts → Type 0
+HasFiles before after = after.gear ≡ record before.gear { playback = after.gear.playback }
+
+pub given-made : (before after : Parts) → HasFiles before after → (given : Given) → IsGiven (session_of before) given → IsGiven (session_of after) given
+given-made before after same given is = record {
+  own = record {
+    script = is.own.script ∙ sym script;
+    scores = is.own.scores ∙ sym (ap (λ (g : Gear). g.stage.staged.owned.scores) same);
+    channels = is.own.channels ∙ ap (λ (s : Script). s.header.disks) (sym script);
+  };
+  capture = ap (λ (g : Gear). g.capture.reading.left) same ∙ is.capture;
+  disks = is.disks;
+}
+  where
+    script : after.gear.script ≡ before.gear.script
+    script = ap (λ (g : Gear). g.script) same
+
+-- ---- stores, later
+
+still-some : {X : Type 0} (a b : Option X) → is_some b ≡ is_some a → IsSome a → IsSome b
+still-some a b same is = same ∙ is
+
+out-later : (files : Option Files) (name : List ℕ) (before after : Stored) → IsOut files name before → IsLater before after → IsOut files name after
+out-later None name before after out later = tt
+out-later (Some all) name before after out later = record { named = later.name ∙ out.named; there = out.there; tells = still-some before.bytes after.bytes later.tells out.tells }
+
+pub out-behind : (files : Option Files) (names : List (List ℕ)) (before after : List Stored) → AreOut files names before → AreLater before after → AreOut files names after
+out-behind files names before after out later = record {
+  as_many = later.as_many ∙ out.as_many;
+  each = λ i name store named is.
+      let was = some_at before i (subst (λ n. i < n) later.as_many (slice_get_within after i store is)) in
+      out-later files name was.0 store (out.each i name was.0 named was.1) (later.each i was.0 store was.1 is);
+}
+
+-- all files were made, of a session that had none
+pub record MadeAll (old new : Option Files) (names records : List (List ℕ)) (before after : Parts) : Type 0 where
+  pub names_are : length names ≡ suc (length records)
+  pub ready : IsAttaching after
+  pub out : AreOut new names (stores_in after)
+  pub touches : TouchesOnly old new names
+  pub many : length before.recorders ≡ length records
+  pub as_many : length after.recorders ≡ length before.recorders
+
+pub made-all : {T E : Type 0} (r : Result T E) (old new : Option Files) (names records : List (List ℕ)) (before after : Parts) → false ≡ is_err r → length names ≡ suc (length records)
+    → OnOk r (IsAttaching after × (after.attached ≡ suc (length after.recorders)) × AreOut new names (stores_in after)) → TouchesOnly old new names → length before.recorders ≡ length records → length after.recorders ≡ length before.recorders
+    → MadeAll old new names records before after
+made-all (Ok x) old new names records before after is names_are made touches many as_many = record { names_are = names_are; ready = made.0; out = made.2; touches = touches; many = many; as_many = as_many }
+made-all (Err e) old new names records before after is names_are made touches many as_many = absurd (true≢false (sym is))
+
+module _ (old new : Option Files) (names records : List (List ℕ)) (before after : Parts) (made : MadeAll old new names records before after) where
+  pub all-held : AreHeld after
+  all-held = made.out.as_many ∙ made.names_are ∙ ap suc (sym made.many) ∙ ap suc (sym made.as_many)
+
+  pub recorders-held : length after.recorders ≡ length after.gear.script.header.recorders
+  recorders-held = sym (length-map after.recorders (λ (r : Recording). r.format)) ∙ ap length made.ready.formats
+
+  module _ (later : Parts) (goes : AreLater (stores_in after) (stores_in later)) (many : length later.recorders ≡ length after.recorders) where
+    pub made-behind : MadeSome old new names (stores_in later)
+    made-behind = record {
+      made = length names;
+      out = subst (λ (done : List (List ℕ)). AreOut new done (stores_in later)) (sym all) (out-behind new names (stores_in after) (stores_in later) made.out goes);
+      touches = subst (λ (done : List (List ℕ)). TouchesOnly old new done) (sym all) made.touches;
+    }
+      where
+        all : take (length names) names ≡ names
+        all = take_all (length names) names (omega arith)
+
+    pub held-behind : AreHeld later
+    held-behind = goes.as_many ∙ all-held ∙ ap suc (sym many)
+
+    pub fronts-broken : (given : Given) → StandsInSerial given (told_of later) → HaveFronts given (stores_in later)
+    fronts-broken given = fronts-told later given held-behind
+
+  -- the run and the end, both with Ok
+  module _ (same : HasFiles before after) (between ended : Parts) (runs : Runs (session_of after) (session_of between))
+      (ends : (given : Given) → AtPhase (session_of between) given (length (phases between.gear.script)) → Ends given (session_of between) (session_of ended))
+      (told : told_of ended ≡ session_of ended) (goes : AreLater (stores_in after) (stores_in ended)) (many : length ended.recorders ≡ length after.recorders) where
+    ends-given : (given : Given) → IsGiven (session_of after) given → Ends given (session_of between) (session_of ended)
+    ends-given given is = ends given (subst (λ (s : Script). AtPhase (session_of between) given (length (phases s))) (sym runs.script) (runs.at_end given is))
+
+    pub fronts-whole : (given : Given) → IsGiven (session_of before) given → given.disks ≡ [] → HaveFronts given (stores_in ended)
+    fronts-whole given is none =
+        let here : IsGiven (session_of after) given = given-made before after same given is in
+        fronts-told ended given (held-behind ended goes many)
+        (subst (λ (s : Session). StandsInSerial given s) (sym told)
+        (fronts-ended given (session_of between) (session_of ended) (ends-given given here) (printed-serial (session_of after) (session_of between) given runs made.ready.serial here none)
+        (sym (ap (λ (s : Session). length s.record_files) told) ∙ length-map ended.recorders (λ (r : Recording). bytes_of (held_in r)) ∙ many ∙ recorders-held ∙ ap (λ (s : Script). length s.header.recorders) (sym here.own.script))))
+
+    pub explain-whole : IsExplainedEach → (given : Given) → IsGiven (session_of before) given → given.disks ≡ [] → Explain given (stores_in ended) (text_in (session_of ended))
+    explain-whole law given is none =
+        let here : IsGiven (session_of after) given = given-made before after same given is in
+        explain law after between ended runs made.ready.serial (held-behind ended goes many) told (many ∙ recorders-held) given here none (ends-given given here)

@@ -1,0 +1,32 @@
+-- What a play leaves and was given, behind what was opened before it.
+use Rattle.std.proofs.Common.{◌∙◌, ℕ, List, Some, None}
+use Rattle.std.specs.Prelude.{Option}
+use Rattle.jack_types.specs.declared.kinds.Score.{Score}
+use Rattle.jack_host.specs.Files.{SameFiles}
+use Rattle.session_model.specs.Explanations.{Given}
+use Rattle.play_words.specs.Words.{Play}
+use Rattle.run_laws.specs.Sessions.{IsGiven as TellsGiven}
+use Rattle.session_run.specs.Parts.{Parts, session_of}
+use Rattle.jack_control.specs.Inputs.{Files, IfBytes, IsInput}
+use Rattle.jack_control.specs.Openings.{IfInput, IsSessionOf}
+use Rattle.jack_control.specs.Plays.{TouchesOnly}
+use Rattle.jack_control.proofs.InputLemmas.{if_bytes_map}
+
+-- what is touched behind reading is touched in all
+pub touches-after : (a b c : Option Files) (names : List (List ℕ)) → SameFiles a b → TouchesOnly b c names → TouchesOnly a c names
+touches-after None None None names same touched = tt
+touches-after None None (Some c) names same touched = absurd touched
+touches-after None (Some b) c names same touched = absurd same
+touches-after (Some a) None c names same touched = absurd same
+touches-after (Some a) (Some b) None names same touched = absurd touched
+touches-after (Some a) (Some b) (Some c) names same touched = λ name other. touched name other ∙ same name
+
+-- what a session was opened with
+pub input-of : (files : Option Files) (scores : List Score) (play : Play) (parts : Parts) → IsSessionOf files scores play parts → IfInput files scores play
+input-of files scores play parts is =
+    if_bytes_map files play.script (λ script_bytes. IfBytes files play.capture (λ capture_bytes. (given : Given) × IsInput script_bytes capture_bytes scores play given × TellsGiven (session_of parts) given))
+    (λ script_bytes. IfBytes files play.capture (λ capture_bytes. (given : Given) × IsInput script_bytes capture_bytes scores play given))
+    (λ script_bytes more.
+    if_bytes_map files play.capture (λ capture_bytes. (given : Given) × IsInput script_bytes capture_bytes scores play given × TellsGiven (session_of parts) given)
+    (λ capture_bytes. (given : Given) × IsInput script_bytes capture_bytes scores play given) (λ capture_bytes has. (has.0, has.1)) more)
+    is.given

@@ -1,0 +1,22 @@
+use Rattle.std.proofs.Common.{◌≡◌, ◌+◌, length}
+use Rattle.jack_host.specs.Causes.{HasCause}
+use Rattle.run_laws.specs.Told.{text_in}
+use Rattle.session_run.specs.Parts.{session_of, stores_in}
+use Rattle.session_run.specs.Standings.{HasEnded}
+use Rattle.jack_control.proofs.HandedLemmas.{IsHanding, IsOwing}
+use Rattle.jack_control.proofs.files.hand_back.Given as goal
+
+abbrev pub invariant-handing : goal.invariant-handing
+invariant-handing g l = record {
+  handing : IsHanding (g.H.Host.files l.fn.host) (g.H.Host.files l.host) (stores_in l.fn.session) (stores_in l.session);
+  owing : IsOwing (g.H.Host.write_faults l.fn.host) (g.H.Host.write_faults l.host) (stores_in l.fn.session) (stores_in l.session);
+  cause : HasCause (g.H.Host.write_faults l.fn.host) (g.H.Host.write_faults l.host) l.handed;
+  report : text_in (session_of l.session) ≡ text_in (session_of l.fn.session);
+  ended : HasEnded l.fn.session → HasEnded l.session;
+  capture : l.session.gear.capture ≡ l.fn.session.gear.capture;
+  reads : g.H.Host.read_faults l.host ≡ g.H.Host.read_faults l.fn.host;
+  lent : g.H.Host.lent l.host + length (stores_in l.fn.session) ≡ g.H.Host.lent l.fn.host + length (stores_in l.session);
+}
+
+abbrev pub decreases-handing : goal.decreases-handing
+decreases-handing g l = length (stores_in l.session)

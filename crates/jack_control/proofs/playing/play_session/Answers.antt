@@ -1,0 +1,56 @@
+use Rattle.std.proofs.Common.{List, ℕ, ◌∙◌, sym, ap, subst, take}
+use Rattle.jack_host.specs.Bytes.{Gains}
+use Rattle.wave_pcm.specs.Readings.{Reading}
+use Rattle.run_laws.specs.Told.{text_in}
+use Rattle.session_run.specs.Parts.{session_of, stores_in}
+use Rattle.jack_control.specs.Plays.{made_by}
+use Rattle.jack_control.proofs.CauseLemmas.{err-any, ok-behind, ok-known, rose-handed, rose-written}
+use Rattle.jack_control.proofs.CutLemmas.{apart-front, apart-take, cut, explained, others-kept}
+use Rattle.jack_control.proofs.playing.play_session.Goals as goal
+
+pub perform-performed-requires-clause-apart : goal.perform-performed-requires-clause-apart
+perform-performed-requires-clause-apart g c κs within = apart-front (made_by c.args.names.now) c.args.names.now.disks c.requires.apart.1.1
+
+pub hand_back-handed-requires-clause-out : goal.hand_back-handed-requires-clause-out
+hand_back-handed-requires-clause-out g c κs within =
+    (take c.perform-performed.ensures.made.made (made_by c.args.names.now), c.perform-performed.ensures.made.out, apart-take c.perform-performed.ensures.made.made (made_by c.args.names.now) (apart-front (made_by c.args.names.now) c.args.names.now.disks c.requires.apart.1.1))
+
+pub conclude-reported-requires-clause-ended : goal.conclude-reported-requires-clause-ended
+conclude-reported-requires-clause-ended g c = ok-behind c.perform-performed.result c.hand_back-handed.ensures.ended c.perform-performed.ensures.ended
+
+pub returns-clause-played : goal.returns-clause-played
+returns-clause-played g c =
+    ok-behind c.conclude-reported.result
+    (λ put files scores first is.
+    explained scores c.args.names.now c.args.session (stores_in c.perform-performed.new.session) files (g.H.Host.files c.args.host.now) (g.H.Host.files c.perform-performed.new.host) (g.H.Host.files c.hand_back-handed.new.host) (g.H.Host.files c.back.new.self)
+    (g.K.Sink.content c.args.out.now) (g.K.Sink.content c.conclude-reported.new.out) (text_in (session_of c.perform-performed.new.session)) first c.perform-performed.ensures.others
+    (apart-front (made_by c.args.names.now) c.args.names.now.disks c.requires.apart.1.1) c.hand_back-handed.ensures.stand c.back.ensures.files is
+    (ok-known c.perform-performed.result _ put.0 c.perform-performed.ensures.whole) (ok-known c.perform-performed.result _ put.0 c.perform-performed.ensures.explained)
+    (subst (λ (report : List ℕ). Gains (g.K.Sink.content c.args.out.now) (g.K.Sink.content c.conclude-reported.new.out) report) c.hand_back-handed.ensures.report put.2))
+    c.conclude-reported.ensures.put
+
+pub returns-clause-cut : goal.returns-clause-cut
+returns-clause-cut g c =
+    err-any c.conclude-reported.result
+    (λ files scores first is.
+    cut scores c.args.names.now c.args.session (stores_in c.perform-performed.new.session) files (g.H.Host.files c.args.host.now) (g.H.Host.files c.perform-performed.new.host) (g.H.Host.files c.hand_back-handed.new.host) (g.H.Host.files c.back.new.self) first
+    (apart-front (made_by c.args.names.now) c.args.names.now.disks c.requires.apart.1.1) c.perform-performed.ensures.made c.hand_back-handed.ensures.stand c.back.ensures.files is c.perform-performed.ensures.fronts)
+
+pub returns-clause-read : goal.returns-clause-read
+returns-clause-read g c is =
+    let fault = c.conclude-reported.ensures.read is in (
+      rose-handed c.args.session.gear.capture.reading.faults c.perform-performed.new.session.gear.capture.reading.faults (g.H.Host.read_faults c.hand_back-handed.new.host) (g.H.In.Source.faults c.into_source.result) (g.H.Host.read_faults c.back.new.self) (g.H.Host.read_faults c.args.host.now) (c.perform-performed.ensures.read fault.0)
+          (sym (c.into_source.ensures ∙ ap (λ (r : Reading). r.faults) c.into_capture.ensures ∙ ap (λ capture. capture.reading.faults) c.hand_back-handed.ensures.capture)) c.back.ensures.reads
+          (c.hand_back-handed.ensures.reads ∙ c.perform-performed.ensures.reads),
+      fault.1,
+    )
+
+pub returns-clause-write : goal.returns-clause-write
+returns-clause-write g c is =
+    rose-written c.hand_back-handed.result (stores_in c.perform-performed.new.session) c.is_ok.result _ _ _ _ _ _ _ c.is_ok.ensures.value c.perform-performed.ensures.later c.hand_back-handed.ensures.cause c.hand_back-handed.ensures.faults
+    c.back.ensures.writes c.perform-performed.ensures.write (c.conclude-reported.ensures.write is)
+
+pub returns-clause-others : goal.returns-clause-others
+returns-clause-others g c =
+    others-kept (g.H.Host.files c.args.host.now) (g.H.Host.files c.perform-performed.new.host) (g.H.Host.files c.hand_back-handed.new.host) (g.H.Host.files c.back.new.self) (made_by c.args.names.now) (stores_in c.perform-performed.new.session)
+    (apart-front (made_by c.args.names.now) c.args.names.now.disks c.requires.apart.1.1) c.perform-performed.ensures.made c.hand_back-handed.ensures.stand c.back.ensures.files

@@ -1,0 +1,39 @@
+-- A session as a play opens it. No public clause cites this module.
+--     IfInput files scores play      where the files are told, they give what a play is given
+--     IsSessionOf files scores play parts      its script, its capture and its guests are what the files and the guests give
+--     OpeningStatus files scores play status      what a status says that ended the opening of a session
+use Rattle.std.specs.Prelude.{◌≡◌, List, [], length, ⊤, Option}
+use Rattle.jack_types.specs.declared.kinds.Score.{Score}
+use Rattle.session_model.specs.Explanations.{Given}
+use Rattle.play_words.specs.Words.{Play}
+use Rattle.run_laws.specs.Sessions.{IsGiven as TellsGiven}
+use Rattle.session_run.specs.Parts.{Parts, session_of, stores_in}
+use Rattle.session_run.specs.Standings.{IsAttaching}
+use Rattle.jack_control.specs.declared.status.Status.{Status}
+use Rattle.jack_control.specs.declared.status.Status.TheVariants.{Ok, NoMemory, Words, ReadFault, BadWave, BadScript, WriteFault, Differs, Wrong}
+use Rattle.jack_control.specs.Answers.{PlayStatus}
+use Rattle.jack_control.specs.Inputs.{Files, IfBytes, IsInput}
+
+-- the files, the guests and the names fit one another
+abbrev pub IfInput : Option Files → List Score → Play → Type 0
+IfInput files scores play =
+    IfBytes files play.script (λ script_bytes. IfBytes files play.capture (λ capture_bytes. (given : Given) × IsInput script_bytes capture_bytes scores play given))
+
+-- no store is attached, and there are as many recorders as files that are named for them
+pub record IsSessionOf (files : Option Files) (scores : List Score) (play : Play) (parts : Parts) : Type 0 where
+  pub attaching : IsAttaching parts
+  pub none : parts.attached ≡ 0
+  pub no_stores : stores_in parts ≡ []
+  pub recorders : length parts.recorders ≡ length play.records
+  pub given : IfBytes files play.script (λ script_bytes. IfBytes files play.capture (λ capture_bytes. (given : Given) × IsInput script_bytes capture_bytes scores play given × TellsGiven (session_of parts) given))
+
+abbrev pub OpeningStatus : Option Files → List Score → Play → Status → Type 0
+OpeningStatus files scores play Ok = ⊥
+OpeningStatus files scores play NoMemory = ⊤
+OpeningStatus files scores play Words = ⊥
+OpeningStatus files scores play ReadFault = ⊤
+OpeningStatus files scores play (BadWave fault) = PlayStatus files scores play (BadWave fault)
+OpeningStatus files scores play (BadScript fault) = PlayStatus files scores play (BadScript fault)
+OpeningStatus files scores play WriteFault = ⊥
+OpeningStatus files scores play (Differs difference) = PlayStatus files scores play (Differs difference)
+OpeningStatus files scores play (Wrong row) = ⊥

@@ -1,0 +1,52 @@
+//! All that a play reads and takes before it makes a file.
+
+ghost use Rattle.std.specs.Prelude.{◌≡◌, ◌+◌, ◌<◌, ◌≤◌, ◌⊎◌, IfErr, IfOk, IsErrOf, OnErr, OnOk, map};
+ghost use Rattle.jack_host.specs.Causes.{Rose};
+ghost use Rattle.jack_host.specs.Files.{SameFiles};
+ghost use Rattle.jack_control.specs.Answers.{LacksInput};
+ghost use Rattle.jack_control.specs.Openings.{IsSessionOf, OpeningStatus};
+
+use crate::Status;
+use crate::captures::open_capture;
+use crate::comparing::difference_of;
+use crate::scripts::read_script;
+use client_kinds::Guest;
+use jack_host::Host;
+use play_words::Names;
+use session_run::Session;
+use std::alloc::Global;
+
+/// Reads the script, compares what it is played with, opens the capture, and takes all memory of the session. Then one object
+/// of the host is out: the capture.
+pub(crate) fn open_session<H: Host, G: Guest>(
+    alloc: Global,
+    names: &Names<'_>,
+    host: &mut H,
+    guests: Vec<G>,
+) -> Result<Session<H::In, H::Out, G>, Status>
+    requires { H.lent host.old < 900 }
+    ensures opened { IfOk result (λ session. IsSessionOf (H.files host.old) (map G.score guests.items) names.now session) }
+    ensures fault { IfErr result (OpeningStatus (H.files host.old) (map G.score guests.items) names.now) }
+    ensures read { IsErrOf result Status.ReadFault →
+        Rose (H.read_faults host.old) (H.read_faults host.new) ⊎ LacksInput (H.files host.old) (map G.score guests.items) names.now }
+
+    ensures later { H.read_faults host.old ≤ H.read_faults host.new }
+    ensures writes { H.write_faults host.new ≡ H.write_faults host.old }
+    ensures files { SameFiles (H.files host.old) (H.files host.new) }
+    ensures out { OnOk result (H.lent host.new ≡ H.lent host.old + 1) }
+    ensures back { OnErr result (H.lent host.new ≡ H.lent host.old) }
+{
+    let script = read_script(alloc, host, names.script)?;
+    if let Some(difference) = difference_of(&script, guests.len(), names.records(), names.disks()) {
+        return Err(Status::Differs(difference));
+    }
+    let header = script.header();
+    let capture = open_capture(host, names.capture, &header)?;
+    match Session::new(alloc, &script, capture, guests) {
+        Ok(session) => Ok(session),
+        Err((capture, _)) => {
+            host.back(capture.into_source());
+            Err(Status::NoMemory)
+        }
+    }
+}

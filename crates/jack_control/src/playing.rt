@@ -1,0 +1,151 @@
+//! A play whose session is open.
+
+ghost use Rattle.std.specs.Prelude.{◌≡◌, ◌+◌, ◌<◌, ◌≤◌, ◌⊎◌, [], List, ℕ, Option, IfErr, IsErrOf, IsOk, IsTrue, OnErr, OnOk, false, length};
+ghost use Rattle.jack_types.specs.declared.kinds.Score.{Score as ScoreValue};
+ghost use Rattle.jack_host.specs.Bytes.{Gains};
+ghost use Rattle.jack_host.specs.Causes.{Rose};
+ghost use Rattle.jack_host.specs.Files.{SameFiles};
+ghost use Rattle.session_model.specs.Explanations.{Given};
+ghost use Rattle.session_model.specs.Soundness.{Apart};
+ghost use Rattle.run_laws.specs.Sessions.{IsGiven};
+ghost use Rattle.jack_control.specs.Files.{AreOut, OneFailed};
+ghost use Rattle.jack_control.specs.Inputs.{Files as AllFiles};
+ghost use Rattle.jack_control.specs.Openings.{IsSessionOf};
+ghost use Rattle.jack_control.specs.Performances.{Explain, HaveFronts, MadeSome, status_of_session};
+ghost use Rattle.jack_control.specs.Plays.{IsCut, IsExplained, IsOutCut, TouchesOnly, made_by};
+ghost use Rattle.play_words.specs.Words.{names_of};
+ghost use Rattle.run_laws.specs.Told.{text_in};
+ghost use Rattle.session_run.specs.Parts.{session_of, stores_in};
+ghost use Rattle.session_run.specs.Standings.{HasEnded, IsAttaching};
+
+use crate::Status;
+use crate::files::{hand_back, make_files};
+use client_kinds::Guest;
+use jack_host::{Gate, Host, Sink, Source, Store};
+use play_words::Names;
+use run_laws::endings::a_session_is_explained;
+use session_run::{Session, SessionFault};
+use std::thread::Threads;
+
+// The status of a session's fault.
+fn status_of(fault: SessionFault) -> Status
+    ensures { result ≡ status_of_session fault }
+{
+    match fault {
+        SessionFault::Read => Status::ReadFault,
+        SessionFault::Write => Status::WriteFault,
+    }
+}
+
+// Makes the files, runs the session and ends it. However that goes, the stores that are out have fronts of their files.
+fn perform<H: Host, G: Guest + Send, T: Threads + Sync, A: Gate>(
+    threads: &T,
+    gate: &A,
+    names: &Names<'_>,
+    host: &mut H,
+    session: &mut Session<H::In, H::Out, G>,
+) -> Result<(), Status>
+    requires out { H.lent host.old < 950 }
+    requires attaching { IsAttaching session.old × (session.old.attached ≡ 0) × (stores_in session.old ≡ []) }
+    requires recorders { length session.old.recorders ≡ length names.now.records }
+    requires apart { Apart (λ (name : List ℕ). name) (made_by names.now) }
+    ensures ended { OnOk result (HasEnded session.new) }
+    ensures explained { OnOk result ((given : Given) → IsGiven (session_of session.old) given → given.disks ≡ [] → Explain given (stores_in session.new) (text_in (session_of session.new))) }
+    ensures whole { OnOk result (AreOut (H.files host.new) (made_by names.now) (stores_in session.new)) }
+    ensures fronts { (given : Given) → IsGiven (session_of session.old) given → given.disks ≡ [] → HaveFronts given (stores_in session.new) }
+    ensures made { MadeSome (H.files host.old) (H.files host.new) (made_by names.now) (stores_in session.new) }
+    ensures fault { IfErr result (λ status. (status ≡ Status.ReadFault) ⊎ (status ≡ Status.WriteFault)) }
+    ensures read { IsErrOf result Status.ReadFault → Rose session.old.gear.capture.reading.faults session.new.gear.capture.reading.faults }
+    ensures write { IsErrOf result Status.WriteFault → Rose (H.write_faults host.old) (H.write_faults host.new) ⊎ OneFailed (stores_in session.new) }
+    ensures others { TouchesOnly (H.files host.old) (H.files host.new) (made_by names.now) }
+    ensures later { H.write_faults host.old ≤ H.write_faults host.new }
+    ensures reads { H.read_faults host.new ≡ H.read_faults host.old }
+    ensures lent { H.lent host.new ≡ H.lent host.old + length (stores_in session.new) }
+{
+    a_session_is_explained();
+    if make_files(host, names, session).is_err() {
+        return Err(Status::WriteFault);
+    }
+    if let Err(fault) = session.run(threads, gate) {
+        return Err(status_of(fault));
+    }
+    if let Err(fault) = session.end() {
+        return Err(status_of(fault));
+    }
+    Ok(())
+}
+
+// Puts the report out, where all files were handed back.
+fn report<K: Sink, S: Source, W: Store, G: Guest>(
+    out: &mut K,
+    session: &Session<S, W, G>,
+    handed: bool,
+) -> Result<(), Status>
+    requires { HasEnded session.now }
+    ensures put { OnOk result (IsTrue handed × Gains (K.content out.old) (K.content out.new) (text_in (session_of session.now))) }
+    ensures cut { OnErr result (IsOutCut (K.content out.old) (K.content out.new) (K.faults out.old) (K.faults out.new)) }
+    ensures cause { OnErr result ((handed ≡ false) ⊎ Rose (K.faults out.old) (K.faults out.new)) }
+    ensures status { IfErr result (λ status. status ≡ Status.WriteFault) }
+    ensures later { K.faults out.old ≤ K.faults out.new }
+{
+    if !handed {
+        return Err(Status::WriteFault);
+    }
+    match session.report(out) {
+        Ok(()) => Ok(()),
+        Err(_) => Err(Status::WriteFault),
+    }
+}
+
+// What a session that was performed answers: its fault, or what putting the report out gives.
+fn conclude<K: Sink, S: Source, W: Store, G: Guest>(
+    out: &mut K,
+    session: &Session<S, W, G>,
+    performed: Result<(), Status>,
+    handed: bool,
+) -> Result<(), Status>
+    requires ended { OnOk performed (HasEnded session.now) }
+    requires fault { IfErr performed (λ status. (status ≡ Status.ReadFault) ⊎ (status ≡ Status.WriteFault)) }
+    ensures put { OnOk result (IsOk performed × IsTrue handed × Gains (K.content out.old) (K.content out.new) (text_in (session_of session.now))) }
+    ensures fault { IfErr result (λ status. (status ≡ Status.ReadFault) ⊎ (status ≡ Status.WriteFault)) }
+    ensures read { IsErrOf result Status.ReadFault → IsErrOf performed Status.ReadFault × (out.new ≡ out.old) }
+    ensures write { IsErrOf result Status.WriteFault → IsErrOf performed Status.WriteFault ⊎ (handed ≡ false) ⊎ Rose (K.faults out.old) (K.faults out.new) }
+    ensures cut { OnErr result (IsOutCut (K.content out.old) (K.content out.new) (K.faults out.old) (K.faults out.new)) }
+    ensures later { K.faults out.old ≤ K.faults out.new }
+{
+    match performed {
+        Err(status) => Err(status),
+        Ok(()) => report(out, session, handed),
+    }
+}
+
+/// Plays a session: makes its files, runs it, hands the files back, and puts the report out. The capture goes back to the
+/// host last.
+pub(crate) fn play_session<H: Host, K: Sink, G: Guest + Send, T: Threads + Sync, A: Gate>(
+    threads: &T,
+    gate: &A,
+    names: &Names<'_>,
+    host: &mut H,
+    out: &mut K,
+    mut session: Session<H::In, H::Out, G>,
+) -> Result<(), Status>
+    requires out { (1 ≤ H.lent host.old) × (H.lent host.old < 950) }
+    requires attaching { IsAttaching session × (session.attached ≡ 0) × (stores_in session ≡ []) }
+    requires recorders { length session.recorders ≡ length names.now.records }
+    requires apart { Apart (λ (name : List ℕ). name) (names_of names.now) }
+    ensures played { OnOk result ((files : Option AllFiles) (scores : List ScoreValue) → SameFiles files (H.files host.old) → IsSessionOf files scores names.now session → IsExplained files (H.files host.new) (K.content out.old) (K.content out.new) scores names.now) }
+    ensures cut { OnErr result ((files : Option AllFiles) (scores : List ScoreValue) → SameFiles files (H.files host.old) → IsSessionOf files scores names.now session → IsCut files (H.files host.new) scores names.now) }
+    ensures fault { IfErr result (λ status. (status ≡ Status.ReadFault) ⊎ (status ≡ Status.WriteFault)) }
+    ensures read { IsErrOf result Status.ReadFault → Rose (H.read_faults host.old) (H.read_faults host.new) × (out.new ≡ out.old) }
+    ensures write { IsErrOf result Status.WriteFault → Rose (H.write_faults host.old) (H.write_faults host.new) ⊎ Rose (K.faults out.old) (K.faults out.new) }
+    ensures out_cut { IsErrOf result Status.WriteFault → IsOutCut (K.content out.old) (K.content out.new) (K.faults out.old) (K.faults out.new) }
+    ensures others { TouchesOnly (H.files host.old) (H.files host.new) (made_by names.now) }
+    ensures later { (H.read_faults host.old ≤ H.read_faults host.new) × (H.write_faults host.old ≤ H.write_faults host.new) × (K.faults out.old ≤ K.faults out.new) }
+    ensures lent { H.lent host.new + 1 ≡ H.lent host.old }
+{
+    let performed = perform(threads, gate, names, host, &mut session);
+    let handed = hand_back(host, &mut session);
+    let reported = conclude(out, &session, performed, handed.is_ok());
+    host.back(session.into_capture().into_source());
+    reported
+}

@@ -1,0 +1,86 @@
+//! The script of a play.
+
+ghost use Rattle.std.specs.Prelude.{◌≡◌, ◌<◌, ◌≤◌, ◌⊎◌, IfErr, IfOk, IsErrOf, IsTrue, ◌↔◌};
+ghost use Rattle.jack_host.specs.Causes.{Rose};
+ghost use Rattle.jack_host.specs.Files.{IsThere, SameFiles};
+ghost use Rattle.jack_types.specs.declared.scripts.ScriptFault.{ScriptFault as FaultValue};
+ghost use Rattle.task_laws.specs.Calls.{HasNoMidi};
+ghost use Rattle.jack_control.specs.Inputs.{IfBytes, IsFaulty, IsPlayed, IsScriptOf, unplayable};
+ghost use Rattle.jack_control.specs.Scripts.{IsRead, ScriptStatus, status_of_script};
+
+use crate::Status;
+use crate::reading::{LoadFault, load};
+use jack_host::Host;
+use jack_types::{Cause, ScriptFault};
+use script_ports::registers_no_midi;
+use session_script::Script;
+use std::alloc::Global;
+
+// How many bytes of a script are read: one more than it may have.
+const MOST_READ: usize = 1_048_577;
+
+// Whether a script is one that is played yet: in serial mode, before version 3, and without MIDI ports.
+fn is_played(script: &Script) -> bool
+    ensures { IsTrue result ↔ IsPlayed script.now }
+{
+    let header = script.header();
+    if header.threads.is_some() || header.version >= 3 {
+        return false;
+    }
+    registers_no_midi(script)
+}
+
+// The status of a fault that the reading of a script met.
+fn status_of(fault: ScriptFault) -> Status
+    ensures { result ≡ status_of_script fault }
+{
+    match fault.cause {
+        Cause::Memory => Status::NoMemory,
+        _ => Status::BadScript(fault),
+    }
+}
+
+// The script that these bytes spell, if it is played.
+fn script_in(alloc: Global, bytes: &[u8]) -> Result<Script, Status>
+    ensures script { IfOk result (λ script. IsRead bytes.now script) }
+    ensures fault { IfErr result (λ status. (status ≡ Status.NoMemory) ⊎ ((fault : FaultValue) × (status ≡ Status.BadScript fault) × IsFaulty bytes.now fault)) }
+{
+    match Script::read(alloc, bytes) {
+        Ok(script) => {
+            if is_played(&script) {
+                Ok(script)
+            } else {
+                Err(Status::BadScript(ScriptFault {
+                    line: 0,
+                    cause: Cause::Unknown,
+                }))
+            }
+        }
+        Err(fault) => Err(status_of(fault)),
+    }
+}
+
+/// Reads a script, and answers it if it is played.
+pub(crate) fn read_script<H: Host>(
+    alloc: Global,
+    host: &mut H,
+    name: &str,
+) -> Result<Script, Status>
+    requires { H.lent host.old < 1000 }
+    ensures script { IfOk result (λ script. IfBytes (H.files host.old) name.now (λ bytes. IsScriptOf bytes script)) }
+    ensures played { IfOk result (λ script. IsPlayed script) }
+    ensures fault { IfErr result (ScriptStatus (H.files host.old) name.now) }
+    ensures read { IsErrOf result Status.ReadFault →
+        Rose (H.read_faults host.old) (H.read_faults host.new) ⊎ ¬ IsThere (H.files host.old) name.now }
+
+    ensures later { H.read_faults host.old ≤ H.read_faults host.new }
+    ensures writes { H.write_faults host.new ≡ H.write_faults host.old }
+    ensures files { SameFiles (H.files host.old) (H.files host.new) }
+    ensures lent { H.lent host.new ≡ H.lent host.old }
+{
+    match load(alloc, host, name, MOST_READ) {
+        Ok(bytes) => script_in(alloc, &bytes),
+        Err(LoadFault::Memory) => Err(Status::NoMemory),
+        Err(LoadFault::Read) => Err(Status::ReadFault),
+    }
+}

@@ -1,0 +1,38 @@
+//! The guests that the program hands in.
+
+ghost use Rattle.guests.specs.Guests.{IsPlayable};
+
+use guests::AnyGuest;
+use jack_types::{Memory, Score, Taps};
+use std::alloc::Global;
+
+// Guest 1 sums its last three samples, the middle one twice, and takes a fourth of that.
+const TAPS: [i32; 3] = [1, 2, 1];
+
+// A guest more.
+fn add(alloc: Global, guests: &mut Vec<AnyGuest>, score: Score) -> Result<(), Memory>
+    requires { IsPlayable score }
+{
+    let guest = AnyGuest::new(alloc, score)?;
+    match guests.push(guest) {
+        Ok(()) => Ok(()),
+        Err(_) => Err(Memory),
+    }
+}
+
+/// Guest 0 is an echo of a tenth of a second at 48,000 frames a second, guest 1 a filter, and guest 2 holds a sample.
+pub(crate) fn hand_in(alloc: Global) -> Result<Vec<AnyGuest>, Memory> {
+    let mut guests = Vec::new(alloc);
+    let echo = Score::Echo {
+        frames: 4800,
+        gain: 1,
+        shift: 1,
+    };
+    add(alloc, &mut guests, echo)?;
+    let Some(taps) = Taps::read(&TAPS) else {
+        unreachable!()
+    };
+    add(alloc, &mut guests, Score::Fir { taps, shift: 2 })?;
+    add(alloc, &mut guests, Score::Hold)?;
+    Ok(guests)
+}

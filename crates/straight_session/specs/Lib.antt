@@ -1,5 +1,0 @@
-pub mod Connecting
-pub mod Mixing
-pub mod Reporting
-pub mod Straight
-pub mod Laws
