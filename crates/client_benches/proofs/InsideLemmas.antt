@@ -2,7 +2,7 @@
 --     sound-lent      behind a guest that is lent
 --     room-carried, sound-carried      with one more route
 --     room-stays, shape-played, sound-played      behind a play
-use Rattle.std.proofs.Common.{◌≡◌, ℕ, zero, suc, ◌<◌, ◌≤◌, ◌*◌, List, [], ◌∷◌, ◌++◌, length, get_or, All, ℤ, IsSome, Option, Some, None, refl, sym, ◌∙◌, ap, subst, arith, true≢false}
+use Rattle.std.proofs.Common.{◌≡◌, ℕ, ◌<◌, ◌*◌, List, [], ◌∷◌, ◌++◌, length, ℤ, Option, Some, None, sym, ◌∙◌, ap, subst, arith, true≢false}
 use Rattle.std.specs.Option.{ForSome}
 use Rattle.std.specs.Prelude.{is_some, vec_capacity}
 use Rattle.jack_types.specs.declared.kinds.Kind.{Kind}

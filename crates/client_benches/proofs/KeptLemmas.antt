@@ -5,17 +5,16 @@
 --     midi-none      with no MIDI port nothing is played there
 --     kept-played, gives-carried      a bench that mixed, played and carried is as after a play, and gives what it has to
 --     kept-idle, gives-idle      an idle bench stays, and gives nothing
-use Rattle.std.proofs.Common.{◌≡◌, ℕ, zero, suc, ◌+◌, ◌<◌, ◌≤◌, Bool, true, false, List, [], ◌∷◌, ◌++◌, length, map, take, replicate, get_or, filter, ℤ, Option, Some, None, option_map, refl, sym, ◌∙◌, ap, ap₂, subst, arith}
+use Rattle.std.proofs.Common.{◌≡◌, ℕ, zero, suc, ◌<◌, Bool, true, false, List, [], ◌∷◌, ◌++◌, length, map, take, replicate, filter, ℤ, Option, Some, None, option_map, refl, sym, ◌∙◌, ap, ap₂, arith}
 use Rattle.std.specs.Prelude.{slice_get, slice_index_or, ◌==◌, nat_lt, if◌then◌else◌}
 use Rattle.std.specs.Option.{option_map_or}
 use Rattle.std.proofs.lemmas.Bool.{leb-true, ltb-false}
 use Rattle.std.proofs.lemmas.List.{get_or_past}
-use Rattle.jack_types.specs.declared.events.Event.{Event}
 use Rattle.jack_types.specs.declared.kinds.Kind.{Kind}
-use Rattle.jack_types.specs.declared.kinds.Kind.TheVariants.{Pass, Gain, Mix, Delay, Tone, Click, Meter, Guest, Disk, Midiplay, Midithru, Midilog}
+use Rattle.jack_types.specs.declared.kinds.Kind.TheVariants.{Pass, Gain, Mix, Delay, Tone, Click, Meter, Guest, Disk, Midilog}
 use Rattle.jack_types.specs.declared.kinds.Score.{Score}
 use Rattle.jack_types.specs.declared.moments.Moment.{Moment}
-use Rattle.session_model.specs.Benches.{Bench, Signal, Task, mixed, task_turn, bench_played, handed, routed, Route as Carrying, audio_part}
+use Rattle.session_model.specs.Benches.{Bench, Signal, Task, mixed, task_turn, bench_played, handed, routed, audio_part}
 use Rattle.session_model.specs.Cycles.{ClientPlayed}
 use Rattle.session_model.specs.Kinds.{Memory, first, no_memory, play, midi_play, guest_turn, guest_played, silent, input_at}
 use Rattle.session_model.specs.Samples.{below, mix}

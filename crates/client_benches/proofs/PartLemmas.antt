@@ -1,11 +1,11 @@
 -- The parts of an input, and their mix.
 --     parts-more, parts-other      one more wire, into this input or into another
 --     sums-padded      a part counts as far as there are frames
-use Rattle.std.proofs.Common.{◌≡◌, ◌≢◌, ℕ, zero, suc, ◌+◌, ◌<◌, ◌≤◌, ◌==◌, Bool, true, false, List, [], ◌∷◌, ◌++◌, length, map, filter, take, get_or, ℤ, pos, refl, sym, ◌∙◌, ap, ap₂, subst, arith, add-one}
+use Rattle.std.proofs.Common.{◌≡◌, ℕ, ◌+◌, ◌<◌, ◌==◌, Bool, true, false, List, [], ◌∷◌, ◌++◌, length, map, filter, take, get_or, ℤ, sym, ◌∙◌, ap, subst, add-one}
 use Rattle.std.specs.Prelude.{if◌then◌else◌}
 use Rattle.std.proofs.Math.Seq.{take-suc}
 use Rattle.session_model.specs.Benches.{Part, Signal, audio_part}
-use Rattle.session_model.specs.Samples.{below, clamp, mix, sample, total}
+use Rattle.session_model.specs.Samples.{clamp, mix, sample, total}
 use Rattle.session_laws.proofs.ActivationLemmas.{length-map_below}
 use Rattle.client_benches.specs.declared.wires.Wire.{Wire}
 use Rattle.client_benches.specs.Wires.{part_of, parts_into}

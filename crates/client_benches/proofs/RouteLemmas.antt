@@ -1,11 +1,10 @@
 -- What the routes of a link carry.
 --     IsCopied      what is kept while outputs are copied to a link's room
 --     copied-none, copied-other, copied-more, signals-copied      its beginning, its steps, and its end
-use Rattle.std.proofs.Common.{◌≡◌, ◌≢◌, ℕ, zero, suc, ◌+◌, ◌*◌, ◌<◌, ◌≤◌, ◌==◌, Bool, true, false, List, [], ◌∷◌, ◌++◌, length, map, filter, get_or, All, ℤ, refl, sym, ◌∙◌, ap, ap₂, subst, arith, eq-eqb, ne_eqb}
+use Rattle.std.proofs.Common.{◌≡◌, ◌≢◌, ℕ, zero, suc, ◌+◌, ◌*◌, ◌<◌, ◌≤◌, ◌==◌, List, [], ◌∷◌, ◌++◌, length, map, filter, get_or, All, ℤ, refl, sym, ◌∙◌, ap, ap₂, subst, arith, eq-eqb, ne_eqb}
 use Rattle.std.specs.Prelude.{slice_range}
 use mathlib.Core.Logic.{dite}
 use native.Mathlib.Decide.{ℕ_discrete}
-use Rattle.std.proofs.Math.Nat.{mul-le-mul_right}
 use Rattle.std.proofs.lemmas.List.Elements.{All-tail, All-head}
 use Rattle.session_model.specs.Benches.{Signal, routed}
 use Rattle.session_model.specs.Kinds.{input_at, no_memory}
@@ -13,7 +12,7 @@ use Rattle.client_kinds.specs.Buffers.{buffers_of, with_buffer}
 use Rattle.client_kinds.proofs.BufferLemmas.{buffer_within, place_within}
 use Rattle.client_benches.specs.declared.values.Route.{Route}
 use Rattle.client_benches.specs.Rooms.{signal_of}
-use Rattle.client_benches.specs.Routes.{HasOutput, carried_by, route_of, routes_on}
+use Rattle.client_benches.specs.Routes.{carried_by, route_of}
 use Rattle.client_benches.proofs.PartLemmas.{filter-more, filter-same}
 use Rattle.client_benches.proofs.SliceLemmas.{length-slice, length-with_buffer, map_more, slice-here, slice-other}
 
@@ -21,10 +20,10 @@ abbrev pub outputs_on : List Route → ℕ → List ℕ
 outputs_on routes link = map (λ (route : Route). route.output) (filter (λ (route : Route). route.link == link) routes)
 
 pub record IsCopied (period count : ℕ) (outputs : List ℤ) (link : ℕ) (routes : List Route) (buffers : List ℤ) (carried : List ℕ) : Type 0 where
-  pub room : length buffers ≡ 65536
+  pub room : count * period ≤ length buffers
   pub which : carried ≡ outputs_on routes link
   pub few : length carried ≤ length routes
-  pub ports : All (λ j. j < 16) carried
+  pub ports : All (λ j. j < count) carried
   pub copied : All (λ j. slice_range buffers (j * period) (j * period + period) ≡ input_at period (buffers_of count period outputs) j) carried
 
 pub All-more : {X : Type 0} (P : X → Type 0) (xs : List X) (x : X) → All P xs → P x → All P (xs ++ x ∷ [])
@@ -42,7 +41,7 @@ module _ (period count : ℕ) (outputs : List ℤ) (link : ℕ) where
   abbrev Lies : List ℤ → ℕ → Type 0
   Lies buffers j = slice_range buffers (j * period) (j * period + period) ≡ input_at period (buffers_of count period outputs) j
 
-  pub copied-none : (buffers : List ℤ) → length buffers ≡ 65536 → IsCopied period count outputs link [] buffers []
+  pub copied-none : (buffers : List ℤ) → count * period ≤ length buffers → IsCopied period count outputs link [] buffers []
   copied-none buffers room = record { room = room; which = refl; few = omega arith; ports = λ k d h. absurd (omega (arith, h)); copied = λ k d h. absurd (omega (arith, h)) }
 
   pub copied-other : (routes : List Route) (route : Route) (buffers : List ℤ) (carried : List ℕ) → route.link ≢ link → IsCopied period count outputs link routes buffers carried
@@ -55,17 +54,17 @@ module _ (period count : ℕ) (outputs : List ℤ) (link : ℕ) where
     copied = c.copied;
   }
 
-  pub copied-more : (routes : List Route) (route : Route) (buffers new : List ℤ) (carried : List ℕ) → route.link ≡ link → route.output < count → count ≤ 16 → period ≤ 4096 → count * period ≤ length outputs
+  pub copied-more : (routes : List Route) (route : Route) (buffers new : List ℤ) (carried : List ℕ) → route.link ≡ link → route.output < count → count * period ≤ length outputs
       → new ≡ with_buffer period route.output buffers (slice_range outputs (route.output * period) (route.output * period + period))
       → IsCopied period count outputs link routes buffers carried
       → IsCopied period count outputs link (routes ++ route ∷ []) new (carried ++ route.output ∷ [])
-  copied-more routes route buffers new carried on port few frames there is c = subst (λ l. IsCopied period count outputs link (routes ++ route ∷ []) l (carried ++ route.output ∷ [])) (sym is) (record {
-    room = length-with_buffer route.output period buffers buffer within long ∙ c.room;
+  copied-more routes route buffers new carried on port there is c = subst (λ l. IsCopied period count outputs link (routes ++ route ∷ []) l (carried ++ route.output ∷ [])) (sym is) (record {
+    room = omega (arith, c.room, length-with_buffer route.output period buffers buffer within long);
     which = ap (λ l. l ++ route.output ∷ []) c.which
         ∙ sym (map_more (λ (r : Route). r.output) (filter (λ (r : Route). r.link == link) routes) route)
         ∙ ap (map (λ (r : Route). r.output)) (sym (filter-more (λ (r : Route). r.link == link) routes route (eq-eqb route.link link on)));
     few = omega (arith, c.few, length-more routes route, length-more carried route.output);
-    ports = All-more (λ j. j < 16) carried route.output c.ports (omega (arith, port, few));
+    ports = All-more (λ j. j < count) carried route.output c.ports port;
     copied = All-more (Lies buffers_now) carried route.output (λ k d h. kept (get_or carried k d) (c.copied k d h)) here;
   })
     where
@@ -79,7 +78,7 @@ module _ (period count : ℕ) (outputs : List ℤ) (link : ℕ) where
       long = length-slice route.output count period outputs there port
 
       within : route.output * period + period ≤ length buffers
-      within = omega (arith, place_within route.output 16 period (omega (arith, port, few)), c.room, frames)
+      within = omega (arith, place_within route.output count period port, c.room)
 
       here : Lies buffers_now route.output
       here = slice-here route.output period buffers buffer (omega (arith, within)) long ∙ sym (buffer_within route.output count period outputs port)

@@ -2,22 +2,21 @@
 --     play-scores      a kind plays the same by all lists that have its guest's score
 --     after-scores, gives-scores      behind a play, and over a link
 --     sequential-scores, IsSequential-scores      over a graph
-use Rattle.std.proofs.Common.{◌≡◌, ℕ, zero, suc, ◌<◌, Bool, true, false, List, [], ◌∷◌, map, ℤ, Option, Some, None, option_map, refl, sym, ◌∙◌, ap, ap₂, subst}
-use Rattle.std.specs.Prelude.{slice_get, slice_index_or, if◌then◌else◌}
-use Rattle.std.specs.Option.{option_map_or}
+use Rattle.std.proofs.Common.{◌≡◌, ℕ, zero, suc, true, false, List, [], map, ℤ, Option, Some, None, refl, sym, ◌∙◌, ap}
+use Rattle.std.specs.Prelude.{slice_index_or, if◌then◌else◌}
 use Rattle.jack_types.specs.declared.kinds.Kind.{Kind}
 use Rattle.jack_types.specs.declared.kinds.Kind.TheVariants.{Guest, Midiplay, Midithru, Midilog}
 use Rattle.jack_types.specs.declared.kinds.Score.{Score}
 use Rattle.jack_types.specs.declared.moments.Moment.{Moment}
 use Rattle.jack_types.specs.declared.ports.Link.{Link}
 use Rattle.session_model.specs.Activation.{Machine, Place, Held, AtHome, IsBench, IsSequential, given_within, given_to, incoming, link_at, place_among, place_of, sequential, value_of}
-use Rattle.session_model.specs.Benches.{Bench, Signal, Task, bench_after, bench_gives, bench_played, mixed, routed, Route as Carrying}
+use Rattle.session_model.specs.Benches.{Bench, Signal, bench_after, bench_gives, mixed, routed}
 use Rattle.session_model.specs.Cycles.{ClientPlayed}
 use Rattle.session_model.specs.Kinds.{Memory, Played, play, midi_play, guest_turn, guest_played, silent, input_at}
 use Rattle.session_laws.proofs.PlaceLemmas.{map-same}
 use Rattle.client_kinds.specs.Standings.{Standing, HasScore}
 use Rattle.client_benches.specs.declared.benches.Turn.{Turn}
-use Rattle.client_benches.specs.Seen.{Remembered, HasScores, bench_in, kept_after, kept_gives, own_bench, own_scores, task_in}
+use Rattle.client_benches.specs.Seen.{Remembered, HasScores, bench_in, kept_after, kept_gives, own_scores, task_in}
 use Rattle.client_benches.proofs.KeptLemmas.{HasScore-own}
 
 pub play-scores : (standing : Standing) (s t : List Score) (memory : Memory) (outputs : ℕ) (moment : Moment) (period : ℕ) (inputs : List (List ℤ)) → HasScore standing s → HasScore standing t

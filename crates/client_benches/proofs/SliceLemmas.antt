@@ -6,7 +6,6 @@
 --     buffer_short      a buffer has at most 4,096 samples where the period has
 use Rattle.std.proofs.Common.{◌≡◌, ◌≢◌, ℕ, zero, suc, ◌+◌, ◌-◌, ◌*◌, ◌<◌, ◌≤◌, Bool, true, false, List, [], ◌∷◌, ◌++◌, length, map, take, drop, ℤ, refl, sym, ◌∙◌, ap, ap₂, subst, arith, add-one}
 use Rattle.std.specs.Prelude.{slice_range, slice_index_or, nat_lt}
-use Rattle.std.proofs.Math.Nat.{mul-le-mul_right}
 use Rattle.std.proofs.lemmas.Bool.{leb-true, ltb-false}
 use Rattle.std.proofs.Math.Seq.{take-append_seam, drop-append_seam, drop-nil}
 use Rattle.std.proofs.lemmas.List.{get_or_past, length-take, length-take-le, length-drop, take-take, take-append-le, drop-append-le, drop-take, length-append, append_assoc}

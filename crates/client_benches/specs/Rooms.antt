@@ -2,7 +2,7 @@
 --     samples_in, IsRoom      what a room holds, and what stays true of it
 --     signal_of frames outputs j      the signal of a connection that carries output j of these planar ones
 --     signals_in, AreRooms      what rooms hold, and what stays true of them
-use Rattle.std.specs.Prelude.{◌≡◌, ℕ, ◌+◌, ◌*◌, ◌<◌, ◌≤◌, List, [], ℤ, length, map, take, slice_range, All, vec_capacity}
+use Rattle.std.specs.Prelude.{◌≡◌, ℕ, ◌+◌, ◌*◌, ◌≤◌, List, [], ℤ, length, map, take, slice_range, All, vec_capacity}
 use Rattle.session_model.specs.Benches.{Signal}
 use Rattle.client_benches.specs.declared.known.Room.TheInside.{Inside as RoomInside}
 use Rattle.client_benches.specs.declared.values.Rooms.TheInside.{Inside as RoomsInside}
@@ -24,7 +24,6 @@ abbrev pub signals_in : RoomsInside → List Signal
 signals_in rooms = map (signal_of rooms.frames rooms.outputs.items) rooms.carried.items
 
 pub record AreRooms (rooms : RoomsInside) : Type 0 where
-  pub most : length rooms.outputs.items ≡ 65536
-  pub within : rooms.frames ≤ 4096
-  pub ports : All (λ j. j < 16) rooms.carried.items
+  pub most : 65536 ≤ vec_capacity rooms.outputs
+  pub carried : All (λ j. j * rooms.frames + rooms.frames ≤ length rooms.outputs.items) rooms.carried.items
   pub capacity : 512 ≤ vec_capacity rooms.carried

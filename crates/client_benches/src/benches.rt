@@ -44,6 +44,12 @@ pub struct Turn {
 /// All room is taken when a bench is made; no other call takes memory.
 #[derive(Drop)]
 pub struct ClientBench<G: Guest> {
+    pub(crate) parts: Box<Parts<G>>,
+}
+
+/// The parts of a bench. They lie in one place, since a crew moves each bench many times in a cycle.
+#[derive(Drop)]
+pub(crate) struct Parts<G: Guest> {
     pub(crate) bench: Bench<G>,
     pub(crate) mixer: Mixer,
     pub(crate) padded: Vec<i32>,
@@ -63,9 +69,9 @@ impl<G: Guest> Model for ClientBench<G> {
 
     ghost use Rattle.client_benches.specs.Insides.{seen_of, HasAllRoom, IsPlayedShape, IsSound};
 
-    ghost view = { λ b. seen_of b.bench b.turn b.wires.items b.routes.items b.played b.input.items b.output.items b.rooms.items };
+    ghost view = { λ b. seen_of b.parts.value.bench b.parts.value.turn b.parts.value.wires.items b.parts.value.routes.items b.parts.value.played b.parts.value.input.items b.parts.value.output.items b.parts.value.rooms.items };
 
-    ghost invariant = { λ b. HasAllRoom b.bench.period b.mixer b.padded.items b.input.items b.output.items b.wires b.routes b.rooms.items × IsPlayedShape b.bench.period b.played × IsSound b.bench b.turn b.routes.items };
+    ghost invariant = { λ b. HasAllRoom b.parts.value.bench.period b.parts.value.mixer b.parts.value.padded.items b.parts.value.input.items b.parts.value.output.items b.parts.value.wires b.parts.value.routes b.parts.value.rooms.items × IsPlayedShape b.parts.value.bench.period b.parts.value.played × IsSound b.parts.value.bench b.parts.value.turn b.parts.value.routes.items };
 }
 
 /// All room of a bench but that of its memory and its sums.
@@ -125,26 +131,31 @@ impl<G: Guest> ClientBench<G> {
         let bench = Bench::new(alloc, kind, period)?;
         let mixer = Mixer::new(alloc, period)?;
         match take_space(alloc, period) {
-            Ok(space) => Ok(ClientBench::over(bench, mixer, space)),
+            Ok(space) => ClientBench::over(alloc, bench, mixer, space),
             Err(_) => Err(Memory),
         }
     }
 
     /// An idle bench over this room.
-    fn over(bench: Bench<G>, mixer: Mixer, space: Space) -> ClientBench<G>
+    fn over(
+        alloc: Global,
+        bench: Bench<G>,
+        mixer: Mixer,
+        space: Space,
+    ) -> Result<ClientBench<G>, Memory>
         requires sums { (bench.period ≤ mixer.room) × (bench.period ≤ 4096) }
         requires buffers { (length space.padded.items ≡ bench.period) × (length space.input.items ≡ 16 * bench.period) × (length space.output.items ≡ 16 * bench.period) }
         requires lists { (space.wires.items ≡ []) × (512 ≤ vec_capacity space.wires) × (space.routes.items ≡ []) × (512 ≤ vec_capacity space.routes) }
         requires rooms { space.rooms.items ≡ replicate 64 None }
         requires log { bench.memory.log ≡ [] }
-        ensures { result ≡ record { kept = record { standing = bench; turn = None; wires = []; routes = []; sounds = []; audio = [] }; rooms = replicate 64 None } }
+        ensures { IfOk result (λ made. made ≡ record { kept = record { standing = bench; turn = None; wires = []; routes = []; sounds = []; audio = [] }; rooms = replicate 64 None }) }
     {
         let nothing = Shape {
             inputs: 0,
             outputs: 0,
             period: 0,
         };
-        ClientBench {
+        let parts = Parts {
             bench,
             mixer,
             padded: space.padded,
@@ -155,6 +166,10 @@ impl<G: Guest> ClientBench<G> {
             wires: space.wires,
             routes: space.routes,
             rooms: space.rooms,
+        };
+        match Box::new(alloc, parts) {
+            Ok(parts) => Ok(ClientBench { parts }),
+            Err(_) => Err(Memory),
         }
     }
 }

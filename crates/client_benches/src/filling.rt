@@ -18,9 +18,8 @@ fn put_at(buffers: &mut [i32], first: usize, samples: &[i32])
 
 /// Copies an output to its place among sixteen.
 fn copy_output(buffers: &mut [i32], ports: Shape, outputs: &[i32], output: u16)
-    requires port { (output < ports.outputs) × (ports.outputs ≤ 16) }
-    requires frames { ports.period ≤ 4096 }
-    requires room { length buffers.old ≡ 65536 }
+    requires port { output < ports.outputs }
+    requires room { ports.outputs * ports.period ≤ length buffers.old }
     requires outputs { ports.outputs * ports.period ≤ length outputs.now }
     ensures { buffers.new ≡ with_buffer ports.period output buffers.old (slice_range outputs.now (output * ports.period) (output * ports.period + ports.period)) }
 {
@@ -43,14 +42,12 @@ pub(crate) fn copy_routes(
 )
     requires few { length routes.now ≤ 512 }
     requires routes { All (HasOutput ports.outputs) routes.now }
-    requires ports { ports.outputs ≤ 16 }
     requires capacity { 512 ≤ vec_capacity carried.old }
-    requires frames { ports.period ≤ 4096 }
-    requires room { length buffers.old ≡ 65536 }
+    requires room { ports.outputs * ports.period ≤ length buffers.old }
     requires outputs { ports.outputs * ports.period ≤ length outputs.now }
     ensures capacity { vec_capacity carried.new ≡ vec_capacity carried.old }
-    ensures room { length buffers.new ≡ 65536 }
-    ensures ports { All (λ output. output < 16) carried.new.items }
+    ensures room { length buffers.new ≡ length buffers.old }
+    ensures ports { All (λ output. output < ports.outputs) carried.new.items }
     ensures signals { map (signal_of ports.period buffers.new) carried.new.items ≡ carried_by ports.period (buffers_of ports.outputs ports.period outputs.now) link routes.now }
 {
     carried.clear();

@@ -92,28 +92,29 @@ impl<G: Guest> ClientBench<G> {
         ensures kept { self.new.kept ≡ kept_after self.old.kept (values_of given.now) }
         ensures rooms { (place : ℕ) → room_at self.new place ≡ option_map (λ _. kept_gives self.old.kept (values_of given.now) place) (room_at self.old place) }
     {
+        let parts = &mut *self.parts;
         mix_inputs(
-            &mut self.mixer,
-            &mut self.padded,
-            self.wires.as_slice(),
+            &mut parts.mixer,
+            &mut parts.padded,
+            parts.wires.as_slice(),
             given,
             turn.ports,
-            &mut self.input,
+            &mut parts.input,
         );
         play_front(
-            &mut self.bench,
+            &mut parts.bench,
             &turn.moment,
             turn.ports,
-            &self.input,
-            &mut self.output,
+            &parts.input,
+            &mut parts.output,
         );
-        self.played = turn.ports;
+        parts.played = turn.ports;
         fill_rooms(
-            &mut self.rooms,
-            self.routes.as_slice(),
+            &mut parts.rooms,
+            parts.routes.as_slice(),
             turn.links,
             turn.ports,
-            &self.output,
+            &parts.output,
         );
     }
 }
@@ -136,20 +137,20 @@ impl<G: Guest> Work for ClientBench<G> {
     ghost gives = { kept_gives };
 
     fn play(&mut self, given: &[Option<Rooms>]) {
-        match self.turn {
+        match self.parts.turn {
             Some(turn) => self.play_turn(turn, given),
-            None => clear_rooms(&mut self.rooms),
+            None => clear_rooms(&mut self.parts.rooms),
         }
     }
 
     fn hand(&mut self, place: u32) -> Rooms {
-        match self.rooms[place as usize].take() {
+        match self.parts.rooms[place as usize].take() {
             Some(rooms) => rooms,
             None => unreachable!(),
         }
     }
 
     fn back(&mut self, place: u32, value: Rooms) {
-        self.rooms[place as usize] = Some(value);
+        self.parts.rooms[place as usize] = Some(value);
     }
 }

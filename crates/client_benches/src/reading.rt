@@ -28,28 +28,28 @@ impl<G: Guest> ClientBench<G> {
     pub fn is_idle(&self) -> bool
         ensures { result ≡ is_none self.now.kept.turn }
     {
-        self.turn.is_none()
+        self.parts.turn.is_none()
     }
 
     /// The client's kind.
     pub fn kind(&self) -> Kind
         ensures { result ≡ self.now.kept.standing.kind }
     {
-        self.bench.kind()
+        self.parts.bench.kind()
     }
 
     /// Whether a guest is lent to it.
     pub fn has_guest(&self) -> bool
         ensures { result ≡ is_some self.now.kept.standing.score }
     {
-        self.bench.has_guest()
+        self.parts.bench.has_guest()
     }
 
     /// A meter's peak, the greatest magnitude of its inputs so far.
     pub fn peak(&self) -> u32
         ensures { result ≡ self.now.kept.standing.memory.peak }
     {
-        self.bench.peak()
+        self.parts.bench.peak()
     }
 
     /// What an input got when it was last played, nothing where there was no such input.
@@ -57,9 +57,9 @@ impl<G: Guest> ClientBench<G> {
         ensures { result.now ≡ slice_index_or self.now.kept.sounds input [] }
     {
         buffer(
-            self.input.as_slice(),
-            self.played.inputs,
-            self.played.period,
+            self.parts.input.as_slice(),
+            self.parts.played.inputs,
+            self.parts.played.period,
             input,
         )
     }
@@ -69,9 +69,9 @@ impl<G: Guest> ClientBench<G> {
         ensures { result.now ≡ slice_index_or self.now.kept.audio output [] }
     {
         buffer(
-            self.output.as_slice(),
-            self.played.outputs,
-            self.played.period,
+            self.parts.output.as_slice(),
+            self.parts.played.outputs,
+            self.parts.played.period,
             output,
         )
     }

@@ -59,7 +59,7 @@ impl<G: Guest> ClientBench<G> {
         ensures memory { (scores : List Score) → HasScore self.new.kept.standing scores → self.new.kept.standing.memory ≡ first scores self.new.kept.standing.kind }
         ensures others { self.new ≡ record self.old { kept = record self.old.kept { standing = self.new.kept.standing } } }
     {
-        self.bench.lend(guest);
+        self.parts.bench.lend(guest);
     }
 
     /// The guest that was lent, if there is one. It leaves. The bench is idle.
@@ -69,7 +69,7 @@ impl<G: Guest> ClientBench<G> {
         ensures guest { IfSome result (λ guest. self.old.kept.standing.score ≡ Some (G.score guest)) }
         ensures after { self.new ≡ record self.old { kept = record self.old.kept { standing = record self.old.kept.standing { score = None; memory = record self.old.kept.standing.memory { numbers = []; is_dead = false } } } } }
     {
-        self.bench.give_back()
+        self.parts.bench.give_back()
     }
 
     /// Feeds a disk player the interleaved block that its next cycle plays and uses up. That cycle is of
@@ -82,7 +82,7 @@ impl<G: Guest> ClientBench<G> {
         requires turn { (turn : TurnValue) → self.old.kept.turn ≡ Some turn → turn.ports.period ≡ self.old.kept.standing.period }
         ensures { self.new ≡ record self.old { kept = record self.old.kept { standing = record self.old.kept.standing { memory = record self.old.kept.standing.memory { fed = channels_of channels self.old.kept.standing.period samples.now } } } } }
     {
-        self.bench.feed(samples, channels);
+        self.parts.bench.feed(samples, channels);
     }
 
     /// Makes it idle: takes its task, its wires and its routes, and gives its rooms to those that are
@@ -94,10 +94,11 @@ impl<G: Guest> ClientBench<G> {
         ensures spare { (length spare.new.items ≡ length spare.old.items + kept_count self.old.kept.wires) × (vec_capacity spare.new ≡ vec_capacity spare.old) }
         ensures spare_links { (length spare_links.new.items ≡ length spare_links.old.items + room_count self.old) × (vec_capacity spare_links.new ≡ vec_capacity spare_links.old) }
     {
-        self.turn = None;
-        self.routes.clear();
-        unwire(&mut self.wires, spare);
-        empty_places(&mut self.rooms, spare_links);
+        let parts = &mut *self.parts;
+        parts.turn = None;
+        parts.routes.clear();
+        unwire(&mut parts.wires, spare);
+        empty_places(&mut parts.rooms, spare_links);
     }
 
     /// Sets what the client does in the next cycle. There are as many links out of its node.
@@ -106,7 +107,7 @@ impl<G: Guest> ClientBench<G> {
         requires turn { MayPlay self.old.kept.standing (record { moment = moment.now; ports = ports; links = links }) }
         ensures { self.new ≡ record self.old { kept = record self.old.kept { turn = Some (record { moment = moment.now; ports = ports; links = links }) } } }
     {
-        self.turn = Some(Turn {
+        self.parts.turn = Some(Turn {
             moment: *moment,
             ports,
             links,
@@ -119,7 +120,7 @@ impl<G: Guest> ClientBench<G> {
         requires { length self.old.kept.wires < 512 }
         ensures { self.new ≡ record self.old { kept = record self.old.kept { wires = self.old.kept.wires ++ record { input = input; source = Kept room } ∷ [] } } }
     {
-        self.wires.push_reserved(Wire {
+        self.parts.wires.push_reserved(Wire {
             input,
             source: Source::Kept(room),
         });
@@ -131,7 +132,7 @@ impl<G: Guest> ClientBench<G> {
         requires { length self.old.kept.wires < 512 }
         ensures { self.new ≡ record self.old { kept = record self.old.kept { wires = self.old.kept.wires ++ record { input = input; source = Carried link connection } ∷ [] } } }
     {
-        self.wires.push_reserved(Wire {
+        self.parts.wires.push_reserved(Wire {
             input,
             source: Source::Carried { link, connection },
         });
@@ -143,7 +144,7 @@ impl<G: Guest> ClientBench<G> {
         requires output { ForSome self.old.kept.turn (λ turn. output < turn.ports.outputs) }
         ensures { self.new ≡ record self.old { kept = record self.old.kept { routes = self.old.kept.routes ++ record { link = link; output = output } ∷ [] } } }
     {
-        self.routes.push_reserved(Route { link, output });
+        self.parts.routes.push_reserved(Route { link, output });
     }
 
     /// Takes the room of the outgoing link of this place. Nothing is in it.
@@ -154,7 +155,7 @@ impl<G: Guest> ClientBench<G> {
     {
         let mut room = room;
         room.clear();
-        self.rooms[place as usize] = Some(room);
+        self.parts.rooms[place as usize] = Some(room);
     }
 
     /// Sets the moment and the period of the next cycle.
@@ -162,7 +163,7 @@ impl<G: Guest> ClientBench<G> {
         requires { ForSome self.old.kept.turn (λ turn. MayPlay self.old.kept.standing (moved_to moment.now period turn)) }
         ensures { self.new ≡ record self.old { kept = record self.old.kept { turn = option_map (moved_to moment.now period) self.old.kept.turn } } }
     {
-        if let Some(turn) = self.turn.as_mut() {
+        if let Some(turn) = self.parts.turn.as_mut() {
             turn.moment = *moment;
             turn.ports.period = period;
         }
@@ -175,7 +176,7 @@ impl<G: Guest> ClientBench<G> {
         requires samples { length samples.now ≤ 4096 }
         ensures { self.new ≡ record self.old { kept = record self.old.kept { wires = with_samples self.old.kept.wires place samples.now } } }
     {
-        self.wires[place].fill(samples);
+        self.parts.wires[place].fill(samples);
     }
 
     /// Puts what an output of another bench gave when that was last played into the room of the wire of this
@@ -185,13 +186,14 @@ impl<G: Guest> ClientBench<G> {
         requires place { place < length self.old.kept.wires }
         ensures { self.new ≡ record self.old { kept = record self.old.kept { wires = with_samples self.old.kept.wires place (slice_index_or other.now.kept.audio output []) } } }
     {
+        let parts = &*other.parts;
         let samples = buffer(
-            other.output.as_slice(),
-            other.played.outputs,
-            other.played.period,
+            parts.output.as_slice(),
+            parts.played.outputs,
+            parts.played.period,
             output,
         );
-        self.wires[place].fill(samples);
+        self.parts.wires[place].fill(samples);
     }
 
     /// Puts what its own output gave when it was last played into the room of the wire of this place among
@@ -201,12 +203,13 @@ impl<G: Guest> ClientBench<G> {
         requires place { place < length self.old.kept.wires }
         ensures { self.new ≡ record self.old { kept = record self.old.kept { wires = with_samples self.old.kept.wires place (slice_index_or self.old.kept.audio output []) } } }
     {
+        let parts = &mut *self.parts;
         let samples = buffer(
-            self.output.as_slice(),
-            self.played.outputs,
-            self.played.period,
+            parts.output.as_slice(),
+            parts.played.outputs,
+            parts.played.period,
             output,
         );
-        self.wires[place].fill(samples);
+        parts.wires[place].fill(samples);
     }
 }

@@ -1,6 +1,6 @@
 //! What goes along a link.
 
-ghost use Rattle.std.specs.Prelude.{◌≡◌, ◌*◌, ◌<◌, ◌≤◌, All, IfOk, [], length, map, slice_index_or};
+ghost use Rattle.std.specs.Prelude.{◌≡◌, ◌*◌, ◌<◌, ◌≤◌, All, IfOk, [], length, map, slice_index_or, vec_capacity};
 ghost use Rattle.session_model.specs.Benches.{no_signal};
 ghost use Rattle.client_kinds.specs.Buffers.{buffers_of};
 ghost use Rattle.client_benches.specs.Routes.{carried_by, HasOutput};
@@ -24,8 +24,8 @@ pub struct Route {
 /// source's outputs.
 ///
 /// There is room for sixteen outputs of 4,096 frames and for 512 connections, so that any rooms do for
-/// any link. An output that several connections carry lies there once. Contracts see a signal per
-/// connection.
+/// any link; of it no more is touched than was needed so far. An output that several connections carry
+/// lies there once. Contracts see a signal per connection.
 #[derive(Drop)]
 pub struct Rooms {
     outputs: Vec<i32>,
@@ -50,13 +50,24 @@ impl Model for Rooms {
 fn make_rooms(alloc: Global) -> Result<Rooms, AllocError>
     ensures { IfOk result (λ rooms. rooms ≡ []) }
 {
-    let outputs = vec![in alloc; 0; MOST_PORTS * MOST_FRAMES]?;
+    let outputs = Vec::with_capacity(alloc, MOST_PORTS * MOST_FRAMES)?;
     let carried = Vec::with_capacity(alloc, MOST_CONNECTIONS)?;
     Ok(Rooms {
         outputs,
         frames: 0,
         carried,
     })
+}
+
+/// Makes the samples no fewer than this, within their room.
+fn lengthen(samples: &mut Vec<i32>, least: usize)
+    requires { least ≤ vec_capacity samples.old }
+    ensures least { least ≤ length samples.new.items }
+    ensures capacity { vec_capacity samples.new ≡ vec_capacity samples.old }
+{
+    for place in samples.len()..least {
+        samples.push_reserved(0);
+    }
 }
 
 impl Rooms {
@@ -93,6 +104,7 @@ impl Rooms {
         ensures { self.new ≡ carried_by ports.period (buffers_of ports.outputs ports.period outputs.now) link routes.now }
     {
         self.frames = ports.period as usize;
+        lengthen(&mut self.outputs, usize::from(ports.outputs) * self.frames);
         copy_routes(
             &mut self.carried,
             &mut self.outputs,

@@ -1,4 +1,4 @@
-use Rattle.std.proofs.Common.{◌≡◌, ◌<◌, ◌+◌, ◌++◌, ◌∷◌, [], List, ℕ, ℤ, ◌∙◌, ap, sym, subst, take, length, get_or, arith}
+use Rattle.std.proofs.Common.{◌≡◌, ◌+◌, ◌++◌, ◌∷◌, [], ◌∙◌, ap, sym, subst, take, get_or}
 use Rattle.std.specs.Prelude.{vec_capacity}
 use Rattle.std.proofs.lemmas.List.{take_all}
 use Rattle.client_benches.specs.declared.values.Route.{Route}
@@ -15,7 +15,7 @@ loop-route-preserved c = record {
   ];
   copied = subst (λ routes. IsCopied c.args.ports.period c.args.ports.outputs c.args.outputs.now c.args.link routes c.if-route-link.buffers c.if-route-link.carried.items) (sym next) (elim c.if-route-link.branch [
     | then-route-link w ↦ rw (w.carried-is, w.buffers-is, w.push_reserved.ensures.items) (copied-more c.args.ports.period c.args.ports.outputs c.args.outputs.now c.args.link (take c.loop-route.route-index c.args.routes.now) route c.loop-route.buffers w.copy_output.new.buffers c.loop-route.carried.items
-        w.if-route-link.true (c.requires.routes c.loop-route.route-index (record { link = 0; output = 0 }) c.loop-route-test.true) c.requires.ports c.requires.frames c.requires.outputs w.copy_output.ensures c.loop-route.invariant.copied)
+        w.if-route-link.true (c.requires.routes c.loop-route.route-index (record { link = 0; output = 0 }) c.loop-route-test.true) c.requires.outputs w.copy_output.ensures c.loop-route.invariant.copied)
     | else-route-link w ↦ rw (w.carried-is, w.buffers-is) (copied-other c.args.ports.period c.args.ports.outputs c.args.outputs.now c.args.link (take c.loop-route.route-index c.args.routes.now) route c.loop-route.buffers c.loop-route.carried.items w.if-route-link.false c.loop-route.invariant.copied)
   ]);
 }

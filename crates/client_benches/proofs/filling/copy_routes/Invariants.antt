@@ -1,4 +1,4 @@
-use Rattle.std.proofs.Common.{◌≡◌, ◌≤◌, take, length}
+use Rattle.std.proofs.Common.{◌≡◌, take}
 use Rattle.std.specs.Prelude.{vec_capacity}
 use Rattle.client_benches.proofs.RouteLemmas.{IsCopied}
 use Rattle.client_benches.proofs.filling.copy_routes.Given as goal

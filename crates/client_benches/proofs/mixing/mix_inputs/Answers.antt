@@ -1,4 +1,4 @@
-use Rattle.std.proofs.Common.{◌≡◌, ℕ, ◌+◌, ◌*◌, ◌<◌, ◌≤◌, ◌∙◌, List, ℤ, length, map, refl, ap, arith}
+use Rattle.std.proofs.Common.{◌≡◌, ℕ, ◌+◌, ◌*◌, ◌≤◌, ◌∙◌, List, ℤ, length, map, refl, ap, arith}
 use Rattle.activation.specs.Values.{values_of}
 use Rattle.session_model.specs.Benches.{audio_part}
 use Rattle.session_model.specs.Samples.{mix}
