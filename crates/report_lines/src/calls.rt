@@ -6,6 +6,7 @@ ghost use Rattle.jack_host.specs.Causes.{HasCause};
 ghost use Rattle.session_model.specs.Reports.{call_line, printed_call, reply_words, spaced};
 ghost use Rattle.report_lines.specs.Outputs.{text_of};
 
+use crate::blocks::{Block, gather};
 use crate::lines::{Line, add_number, add_word, begun, end_line};
 use jack_host::{Failed, Sink};
 use jack_types::{Entry, Reply};
@@ -37,22 +38,15 @@ fn line_of(entry: &Entry) -> Line
     line
 }
 
-/// Puts the line of a call: its lane, its index in the lane, and the reply.
-pub fn put_call<K: Sink>(out: &mut K, entry: &Entry) -> Result<(), Failed>
-    ensures puts { Puts (K.content out.old) (K.content out.new) result (call_line (printed_call entry.now)) }
-    ensures cause { HasCause (K.faults out.old) (K.faults out.new) result }
-{
-    out.put(line_of(entry).as_str().as_bytes())
-}
-
-/// Puts the lines of all calls of a history, in its order. At a failure the lines before it and a first part of the
-/// line that failed were put.
+/// Puts the lines of all calls of a history, in its order, many by one put. At a failure the puts before it and a first
+/// part of the put that failed went out.
 pub fn put_calls<K: Sink>(out: &mut K, history: &[Entry]) -> Result<(), Failed>
     ensures puts { Puts (K.content out.old) (K.content out.new) result (text_of (map call_line (map printed_call history.now))) }
     ensures cause { HasCause (K.faults out.old) (K.faults out.new) result }
 {
+    let mut block = Block::new();
     for entry in history {
-        put_call(out, entry)?;
+        gather(out, &mut block, &line_of(entry))?;
     }
-    Ok(())
+    out.put(block.as_str().as_bytes())
 }

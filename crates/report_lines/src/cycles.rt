@@ -6,6 +6,7 @@ ghost use Rattle.jack_host.specs.Causes.{HasCause};
 ghost use Rattle.session_model.specs.Reports.{bbt_word, cycle_line, state_name};
 ghost use Rattle.report_lines.specs.Outputs.{cycles_of, text_of};
 
+use crate::blocks::{Block, gather};
 use crate::lines::{Line, add_number, add_word, begun, end_line};
 use itoa::Buffer;
 use jack_host::{Failed, Sink};
@@ -55,22 +56,15 @@ fn line_of(number: u32, moment: &Moment) -> Line
     line
 }
 
-/// Puts the line of a cycle: its own number, how many changes it used, and the transport.
-pub fn put_cycle<K: Sink>(out: &mut K, number: u32, moment: &Moment) -> Result<(), Failed>
-    ensures puts { Puts (K.content out.old) (K.content out.new) result (cycle_line (record { number = number; moment = moment.now })) }
-    ensures cause { HasCause (K.faults out.old) (K.faults out.new) result }
-{
-    out.put(line_of(number, moment).as_str().as_bytes())
-}
-
-/// Puts the lines of the cycles, each with the number of its changes and its moment. Where one list is longer than the
-/// other, what has no partner is left out.
+/// Puts the lines of the cycles, each with the number of its changes and its moment, many by one put. Where one list is
+/// longer than the other, what has no partner is left out.
 pub fn put_cycles<K: Sink>(out: &mut K, numbers: &[u32], moments: &[Moment]) -> Result<(), Failed>
     ensures puts { Puts (K.content out.old) (K.content out.new) result (text_of (map cycle_line (cycles_of numbers.now moments.now))) }
     ensures cause { HasCause (K.faults out.old) (K.faults out.new) result }
 {
+    let mut block = Block::new();
     for i in 0..numbers.len().min(moments.len()) {
-        put_cycle(out, numbers[i], &moments[i])?;
+        gather(out, &mut block, &line_of(numbers[i], &moments[i]))?;
     }
-    Ok(())
+    out.put(block.as_str().as_bytes())
 }

@@ -1,8 +1,9 @@
-//! The lines of a report, put out one by one.
+//! The lines of a report, put into a sink.
 //!
-//! Each call puts whole lines into a `Sink`, and takes no memory.
+//! Each call puts whole lines in their order, those of calls and cycles many by one put, and takes no memory.
 #![tactic(auto)]
 
+mod blocks;
 mod calls;
 mod cycles;
 mod lines;
@@ -11,7 +12,7 @@ mod recorders;
 mod tests;
 mod values;
 
-pub use calls::{put_call, put_calls};
-pub use cycles::{put_cycle, put_cycles};
+pub use calls::put_calls;
+pub use cycles::put_cycles;
 pub use recorders::{put_disk, put_overrun, put_recorder, put_underrun};
 pub use values::{put_end, put_event, put_meter, put_title};

@@ -146,14 +146,23 @@ fn meters_events_and_disks(rt: HostRuntime) -> Result<(), Fail> {
 }
 
 #[test]
+fn lines_past_one_block_follow_each_other(rt: HostRuntime) -> Result<(), Fail> {
+    let mut out = MemorySink::new(rt.alloc());
+    put_cycles(&mut out, &[4; 400], &[standing(7); 400])?;
+    assert_eq!(rt; out.as_bytes().len(), 8_800);
+    let mut lines = out.as_bytes().chunks(22);
+    assert!(rt; lines.all(|line| line == b"cycle 7 4 stopped 0 -\n".as_slice()));
+    Ok(())
+}
+
+#[test]
 fn a_refused_put_leaves_what_was_put_before_it(rt: HostRuntime) -> Result<(), Fail> {
     let mut out = MemorySink::new(rt.alloc());
     out.refuse(2)?;
-    let calls = [
-        entry(0, 1, Reply::Accepted(1)),
-        entry(0, 2, Reply::Accepted(2)),
-    ];
+    let calls = [entry(0, 1, Reply::Accepted(1)); 400];
     assert!(rt; put_calls(&mut out, &calls).is_err());
-    assert_eq!(rt; out.as_bytes(), b"call 0 1 ok 1\n".as_slice());
+    assert_eq!(rt; out.as_bytes().len(), 5_110);
+    let mut lines = out.as_bytes().chunks(14);
+    assert!(rt; lines.all(|line| line == b"call 0 1 ok 1\n".as_slice()));
     Ok(())
 }

@@ -1,16 +1,26 @@
-use Rattle.std.proofs.Common.{◌≡◌, ◌<◌, ◌≤◌, length, get_or}
+use Rattle.std.proofs.Common.{◌≡◌, ◌<◌, ◌≤◌, ◌∙◌, length, get_or, arith}
 use Rattle.jack_types.specs.declared.replies.Entry.{Entry}
 use Rattle.session_model.specs.Reports.{call_line, printed_call}
-use Rattle.report_lines.proofs.PutLemmas.{all_put, item_cut, text-mapped}
+use Rattle.report_lines.proofs.GatherLemmas.{item_gathered, waiting_cut, waiting_put}
+use Rattle.report_lines.proofs.PutLemmas.{text-mapped}
 use Rattle.report_lines.proofs.calls.put_calls.Goals as goal
 
-pub returns-in_err-put_call-clause-puts : goal.returns-in_err-put_call-clause-puts
-returns-in_err-put_call-clause-puts g c =
+pub returns-in_err-gather-clause-puts : goal.returns-in_err-gather-clause-puts
+returns-in_err-gather-clause-puts g c =
+    waiting_cut (λ (entry : Entry). call_line (printed_call entry)) c.args.history.now c.loop-entry.entry-index _ _ c.gather.result c.from_residual.result _ _ _
+    (text-mapped call_line printed_call c.args.history.now) c.loop-entry.invariant.gathered c.gather.ensures.err _ c.in_err-gather.was c.from_residual.ensures.0
+
+pub loop-entry-preserved : goal.loop-entry-preserved
+loop-entry-preserved g c =
     let within : c.loop-entry.entry-index < length c.args.history.now = search in
     let at : c.entry-item.result ≡ get_or c.args.history.now c.loop-entry.entry-index c.entry-item.result = search in
-    item_cut (λ (entry : Entry). call_line (printed_call entry)) c.args.history.now c.loop-entry.entry-index c.entry-item.result _ c.put_call.result c.from_residual.result _ _ _ within at (text-mapped call_line printed_call c.args.history.now) c.loop-entry.invariant.gained c.put_call.ensures.puts _ c.in_err-put_call.was c.from_residual.ensures.0
+    record {
+      gathered = item_gathered (λ (entry : Entry). call_line (printed_call entry)) c.args.history.now c.loop-entry.entry-index c.entry-item.result _ _ _ _ _ _ within at c.line_of.ensures c.loop-entry.invariant.gathered c.in_ok-gather.ensures.ok;
+      later = omega (arith, c.loop-entry.invariant.later, c.gather.ensures.cause.later);
+    }
 
 pub returns-clause-puts : goal.returns-clause-puts
 returns-clause-puts g c =
     let past : length c.args.history.now ≤ c.loop-entry.entry-index = search in
-    all_put (λ (entry : Entry). call_line (printed_call entry)) c.args.history.now c.loop-entry.entry-index _ _ _ past (text-mapped call_line printed_call c.args.history.now) c.loop-entry.invariant.gained
+    waiting_put (λ (entry : Entry). call_line (printed_call entry)) c.args.history.now c.loop-entry.entry-index _ _ _ c.put.result _ _ _ past (text-mapped call_line printed_call c.args.history.now) c.loop-entry.invariant.gathered
+    (c.as_bytes.ensures.value ∙ c.as_str.ensures.value) c.put.ensures.bytes
