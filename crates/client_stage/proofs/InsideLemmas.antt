@@ -1,11 +1,11 @@
 -- The fields of a stage.
 --     plan-noted      the plan that was noted
 --     whole      what stays true of them, by the plan
-use Rattle.std.proofs.Common.{◌≡◌, ℕ, ◌≤◌, List, [], ◌∷◌, length, sym, ap, subst, ◌∙◌}
+use Rattle.std.proofs.Common.{◌≡◌, ◌≤◌, List, [], ◌∷◌, length, sym, ap, subst, ◌∙◌}
 use Rattle.std.specs.Vec.{vec_capacity}
 use Rattle.session_model.specs.Samples.{silence}
 use Rattle.cycle_plan.specs.Plans.{Planned}
-use Rattle.client_stage.specs.Insides.{IsWhole, plan_in, seen_of, staged_by}
+use Rattle.client_stage.specs.Insides.{IsWhole, plan_in, staged_by}
 use Rattle.client_stage.specs.Standing.{StandsOn}
 use Rattle.client_stage.specs.declared.stage.Stage.TheInside.{Inside}
 

@@ -4,20 +4,18 @@
 --     enough-links      half of n(n − 1) links are enough for n nodes
 --     nobody-plays      an opening plan has no nodes
 --     stands-new      nobody plays yet
-use Rattle.std.proofs.Common.{◌≡◌, ℕ, zero, suc, ◌+◌, ◌*◌, ◌-◌, ◌/◌, ◌<◌, ◌≤◌, true, false, List, [], ◌∷◌, length, map, min, replicate, None, refl, sym, ◌∙◌, ap, subst, arith, true≢false}
+use Rattle.std.proofs.Common.{◌≡◌, ℕ, zero, suc, ◌<◌, ◌≤◌, true, List, [], ◌∷◌, length, map, min, replicate, None, refl, sym, ◌∙◌, ap, subst, arith, true≢false}
 use Rattle.std.specs.Prelude.{slice_index_or}
-use Rattle.std.proofs.Math.Nat.{le-min}
 use Rattle.std.proofs.lemmas.List.{length-map}
 use Rattle.jack_types.specs.declared.kinds.Kind.{Kind}
 use Rattle.jack_types.specs.declared.kinds.Kind.TheVariants.{Pass}
 use Rattle.jack_types.specs.declared.moments.TransportState.TheVariants.{Stopped}
-use Rattle.session_model.specs.Activation.{AreLinks, link_at, no_link}
+use Rattle.session_model.specs.Activation.{no_link}
 use Rattle.session_model.specs.Commands.{replay}
 use Rattle.port_registry.specs.Registered.{open_client, open_clients}
 use Rattle.cycle_plan.specs.Plans.{IsPlanned, Planned, nodes_of, opening_of, state_of_plan}
 use Rattle.client_benches.specs.Seen.{Seen, cleared, new_bench}
 use Rattle.client_wiring.specs.Wirings.{Wired, wired, wired_of}
-use Rattle.client_wiring.specs.declared.joints.Joint.{Joint}
 use Rattle.bench_rack.specs.Racks.{bench_at}
 use Rattle.client_tasks.specs.Fillings.{AreJoints}
 use Rattle.client_seats.specs.Seatings.{IsSeating}

@@ -3,28 +3,23 @@
 --     stands-moved      where kept outputs stand, and the period, do not tell whose benches they are
 --     places-of      at which places kept outputs stood
 --     stands-played      the stage behind a performance
-use Rattle.std.proofs.Common.{◌≡◌, ◌≢◌, ℕ, ◌<◌, ◌≤◌, ◌==◌, Bool, true, false, List, [], length, map, replicate, min, Option, None, refl, sym, ◌∙◌, ap, subst, arith, true≢false, eqb-true}
+use Rattle.std.proofs.Common.{◌≡◌, ◌≢◌, ℕ, ◌<◌, ◌≤◌, ◌==◌, Bool, true, false, List, [], length, map, min, Option, None, refl, sym, ◌∙◌, ap, subst, arith, true≢false, eqb-true}
 use Rattle.std.specs.Prelude.{ℤ, slice_index_or}
-use Rattle.std.specs.List.{Contains}
-use Rattle.std.proofs.lemmas.Bool.{cases_lt}
-use Rattle.std.proofs.lemmas.List.Elements.{All-contains}
 use Rattle.jack_types.specs.declared.moments.Moment.{Moment}
 use Rattle.session_model.specs.Samples.{below}
 use Rattle.session_laws.proofs.ListLemmas.{Each-below, filter-none}
 use Rattle.port_registry.specs.Registered.{open_clients}
 use Rattle.cycle_plan.specs.Plans.{Planned}
 use Rattle.client_benches.specs.Seen.{Seen, cleared}
-use Rattle.client_wiring.specs.Wirings.{wired_of}
 use Rattle.client_wiring.specs.declared.joints.Joint.{Joint}
 use Rattle.client_wiring.specs.declared.joints.Origin.TheVariants.{Captured}
 use Rattle.bench_rack.specs.Racks.{Racked, bench_at}
 use Rattle.client_tasks.specs.Fillings.{AreJoints, with_wires}
 use Rattle.client_tasks.specs.Tasks.{HasRooms, joint_at, wire_by, wires_of}
-use Rattle.client_seats.specs.Owners.{Owned}
 use Rattle.client_seats.specs.Seatings.{HavePeriod, IsRefused, IsSeating, standing_at}
 use Rattle.owner_laws.specs.Known.{AreKnown}
 use Rattle.stage_laws.specs.Casts.{ArePlaces, Casts, Fills, Performs}
-use Rattle.stage_laws.specs.Stages.{IsStaffed, Staged}
+use Rattle.stage_laws.specs.Stages.{Staged}
 use Rattle.stage_laws.proofs.WholeLemmas.{idle-played, periods-played, seating-played, staffed-played, unfed-played}
 use Rattle.client_stage.specs.Standing.{EnoughLinks, StandsBy, StandsOn}
 

@@ -2,14 +2,11 @@
 --     stands-moved_on, refused-moved_on      the stage once the period is set
 --     performed      what the performance was
 --     stands-behind, plays-behind, kinds-behind      the stage behind it
-use Rattle.std.proofs.Common.{◌≡◌, ◌≢◌, ℕ, ◌<◌, ◌≤◌, Bool, true, false, List, [], length, None, refl, sym, ◌∙◌, ap, subst, arith}
-use Rattle.std.specs.Prelude.{ℤ, slice_index_or, vec_capacity}
+use Rattle.std.proofs.Common.{◌≡◌, ◌≢◌, ℕ, ◌≤◌, true, false, List, [], length, None, refl, sym, ◌∙◌, ap, subst}
+use Rattle.std.specs.Prelude.{ℤ, slice_index_or}
 use Rattle.std.specs.List.Sorted.{IsPermutation}
-use Rattle.std.proofs.Math.Nat.{min-le_left}
 use Rattle.jack_types.specs.declared.moments.Moment.{Moment}
-use Rattle.port_registry.specs.Registered.{open_clients}
 use Rattle.cycle_plan.specs.Plans.{Planned}
-use Rattle.client_wiring.specs.Keeping.{GoesOn}
 use Rattle.client_wiring.specs.Wirings.{Wired, wired_of}
 use Rattle.bench_rack.specs.Racks.{Racked, bench_at}
 use Rattle.client_tasks.specs.Tasks.{AreSet, HasRooms}

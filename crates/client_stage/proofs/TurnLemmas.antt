@@ -11,7 +11,6 @@ use Rattle.std.proofs.Math.Nat.{le-min}
 use Rattle.std.proofs.Math.Seq.{take-length}
 use Rattle.std.proofs.lemmas.Bool.{cases_lt}
 use Rattle.std.proofs.lemmas.List.{length-map}
-use Rattle.jack_types.specs.declared.commands.Change.{Change}
 use Rattle.jack_types.specs.declared.moments.Moment.{Moment}
 use Rattle.graph_word.specs.Publications.{IsFront}
 use Rattle.port_registry.specs.Registered.{open_client, open_clients}

@@ -18,12 +18,13 @@ impl<G: Guest + Send> Stage<G> {
     ghost use Rattle.graph_word.specs.Publications.{IsFront};
     ghost use Rattle.session_model.specs.Benches.{node_at};
     ghost use Rattle.session_model.specs.Courses.{Course};
-    ghost use Rattle.session_model.specs.Cycles.{Settled, audio_outputs, midi_inputs, midi_outputs};
+    ghost use Rattle.session_model.specs.Cycles.{Settled, audio_outputs};
     ghost use Rattle.session_model.specs.State.{system_name};
     ghost use Rattle.port_registry.specs.Registered.{open_clients};
     ghost use Rattle.cycle_plan.specs.Plans.{state_of_plan};
     ghost use Rattle.client_seats.specs.Moves.{kinds_of};
     ghost use Rattle.task_laws.specs.Calls.{IsOldKind};
+    ghost use Rattle.task_laws.specs.Edges.{HasAudioEdges};
     ghost use Rattle.stage_laws.specs.Plays.{IsSettledOn, PlaysPlan};
     ghost use Rattle.client_stage.specs.Standing.{StandsOn};
 
@@ -50,7 +51,7 @@ impl<G: Guest + Send> Stage<G> {
         ensures period { self.new.staged.period ≡ period }
         ensures stands { StandsOn self.new.staged self.new.plan }
         ensures plays { (course : Course) (at : Settled) → self.old.staged.is_staffed ≡ true → result ≡ true → IsSettledOn self.old.staged self.old.plan plan.now moment.now period capture.now.channels at → course.scores ≡ self.old.staged.owned.scores
-            → ((name : List ℕ) → midi_inputs at.graph name ≡ []) → ((name : List ℕ) → midi_outputs at.graph name ≡ []) → length capture.now.channels ≡ length (audio_outputs (state_of_plan plan.now) system_name)
+            → HasAudioEdges at.graph → length capture.now.channels ≡ length (audio_outputs (state_of_plan plan.now) system_name)
             → ((n : ℕ) → n < length plan.now.nodes → IsOldKind (node_at (open_clients plan.now.nodes) n).kind) → PlaysPlan course self.old.staged plan.now at self.new.staged }
         ensures kinds { IsPermutation (kinds_of self.old.staged.racked) (kinds_of self.new.staged.racked) }
         ensures scores { self.new.staged.owned.scores ≡ self.old.staged.owned.scores }

@@ -1,24 +1,13 @@
 -- What a recorder heard, read from the rack or from the driver's benches, and what the capture has left.
---     sounds-at      a bench of the driver has the sounds of the rack's
---     block-same      so both make the same block
+--     block-same      the same sounds make the same block
 --     left-read, left-rest      what a read and a rest leave of a capture that tells
-use Rattle.std.proofs.Common.{◌≡◌, ℕ, zero, suc, ◌*◌, cond, true, false, List, [], ◌∷◌, drop, get_or, map, ℤ, Option, Some, None, refl, sym, ◌∙◌, ap, ap₂, subst, arith}
+use Rattle.std.proofs.Common.{◌≡◌, ℕ, ◌*◌, cond, true, false, List, [], drop, map, ℤ, Option, Some, None, refl, sym, ◌∙◌, ap, ap₂, subst, arith}
 use Rattle.std.specs.Option.{option_map_or}
-use Rattle.jack_types.specs.declared.kinds.Kind.TheVariants.{Pass}
-use Rattle.jack_types.specs.declared.kinds.Score.{Score}
-use Rattle.session_model.specs.Benches.{no_bench}
 use Rattle.session_model.specs.Kinds.{input_at}
 use Rattle.session_model.specs.Samples.{below, interleaved}
 use Rattle.session_model.specs.Scripts.{Turn}
-use Rattle.client_benches.specs.Seen.{Seen, bench_in, new_bench}
 use Rattle.driver_laws.specs.Drivers.{frames_read}
 use Rattle.device_periods.specs.Captures.{Reads}
-
--- past the last bench both are silent
-pub sounds-at : (scores : List Score) (benches : List Seen) (n : ℕ) → (get_or (map (λ (bench : Seen). bench_in scores bench.kept) benches) n no_bench).sounds ≡ (get_or benches n (new_bench Pass 0)).kept.sounds
-sounds-at scores [] n = refl
-sounds-at scores (bench ∷ benches) zero = refl
-sounds-at scores (bench ∷ benches) (suc n) = sounds-at scores benches n
 
 -- the block of so many channels that a node heard, if one did
 abbrev pub block_heard : ℕ → ℕ → (ℕ → List (List ℤ)) → Option ℕ → List ℤ

@@ -5,10 +5,10 @@ use Rattle.std.specs.Prelude.{slice_index_or}
 use Rattle.jack_types.specs.declared.kinds.Kind.TheVariants.{Pass}
 use Rattle.jack_types.specs.declared.kinds.Score.{Score}
 use Rattle.jack_types.specs.declared.moments.Moment.{Moment}
-use Rattle.session_model.specs.Benches.{Bench, outputs_of}
+use Rattle.session_model.specs.Benches.{outputs_of}
 use Rattle.session_model.specs.Cycles.{Settled, edges_into}
 use Rattle.session_model.specs.Samples.{below, interleaved, mix, sample, silence}
-use Rattle.session_model.specs.State.{Connection, OpenClient, playback_port}
+use Rattle.session_model.specs.State.{Connection, playback_port}
 use Rattle.port_registry.specs.Registered.{open_clients}
 use Rattle.graph_word.specs.declared.plans.Base.{Base}
 use Rattle.cycle_plan.specs.Plans.{IsPlanned, Planned, state_of_plan}
@@ -17,12 +17,13 @@ use Rattle.client_wiring.specs.Wirings.{Wired, wired_of}
 use Rattle.client_wiring.specs.declared.joints.Heard.{Heard}
 use Rattle.device_periods.specs.Captures.{Reads}
 use Rattle.driver_laws.specs.Cycling.{MayCycle, StepsOnce}
-use Rattle.driver_laws.specs.Drivers.{Driver}
+use Rattle.driver_laws.specs.Drivers.{Driver, bench_at}
 use Rattle.driver_laws.specs.Playing.{mixed_now, played_now, settled_now}
 use Rattle.playback_mix.specs.Mixes.{channel_mix}
+use Rattle.stage_laws.specs.Stages.{bench_of}
 use Rattle.cycle_laws.specs.Gears.{Gear, IsGear, driver_of}
 use Rattle.cycle_laws.specs.Turnings.{Turns}
-use Rattle.cycle_laws.proofs.SeenLemmas.{benches-seen}
+use Rattle.cycle_laws.proofs.SeenLemmas.{audio-seen, outputs-same}
 use Rattle.cycle_laws.proofs.SettledLemmas.{base-now, captured-now, channels-now, graph-now}
 
 abbrev names : ℕ → List (List ℕ)
@@ -53,13 +54,14 @@ module _ {freewheel : Bool} {before after : Gear} {plan : Planned} {moment : Mom
   playbacks : plan.base.playback ≡ before.script.header.playback
   playbacks = ap (λ (b : Base). b.playback) (base-now gear may turns steps)
 
-  -- what a mix of these nodes' outputs is
-  abbrev mixed : List OpenClient → (ℕ → Bench) → List ℤ
-  mixed nodes benches = interleaved before.set (map (λ port. mix before.set (map (λ (edge : Connection). (outputs_of at nodes benches).audio edge.source) (edges_into at.graph port))) (names plan.base.playback))
+  -- what a mix of these outputs is
+  abbrev mixed : (List ℕ → List ℤ) → List ℤ
+  mixed audio = interleaved before.set (map (λ port. mix before.set (map (λ (edge : Connection). audio edge.source) (edges_into at.graph port))) (names plan.base.playback))
 
   pub mix-now : interleaved before.set (map (channel_mix before.set after.stage.staged.racked.benches after.capture.channels after.stage.staged.wiring.heard) (below before.script.header.playback)) ≡ played_now driver played left
   mix-now =
       ap₂ (λ (heard : List Heard) playback. interleaved before.set (map (channel_mix before.set after.stage.staged.racked.benches after.capture.channels heard) (below playback))) (ap (λ (w : Wired). w.heard) turns.stands.stands.wiring) (sym playbacks)
       ∙ ap (interleaved before.set) (mixes plan after.stage.staged.owned.scores after.stage.staged.racked.benches after.capture.channels at turns.planned (graph-now gear may turns steps) captures (captured-now gear may turns steps left told as_many_read was_read rested))
-      ∙ ap₂ mixed (sym (ap open_clients turns.stands.stands.nodes)) (sym (benches-seen after))
+      ∙ ap (λ nodes. mixed (outputs_of at nodes (bench_of after.stage.staged)).audio) (sym (ap open_clients turns.stands.stands.nodes))
+      ∙ ap mixed (sym (outputs-same at (open_clients after.stage.staged.nodes) (bench_at played) (bench_of after.stage.staged) (audio-seen after)))
       ∙ ap (λ playback. interleaved before.set (map (mixed_now driver played left) (names playback))) playbacks

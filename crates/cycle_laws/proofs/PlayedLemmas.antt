@@ -1,6 +1,6 @@
 -- What the calls of a cycle played is the driver's own.
 --     calls-now, calls-last, calls-behind      what the cycle took is of the script's calls; so is what the one before took, and what the stage has behind it
---     plays-now      what the stage played is of a script before version 3, and without MIDI ports
+--     plays-now      what the stage played is of a script before version 3, and no connection carries MIDI
 --     plays-own      so the cycle played what is the driver's own
 use Rattle.std.proofs.Common.{◌≡◌, ℕ, ◌+◌, ◌*◌, ◌<◌, Bool, true, ◌&&◌, not, List, [], ◌∷◌, ◌++◌, length, map, drop, replicate, All, Contains, ℤ, Some, refl, sym, ◌∙◌, ap, ap₂, subst, arith}
 use Rattle.std.specs.Prelude.{Option, slice_index_or}
@@ -8,10 +8,10 @@ use Rattle.std.specs.Str.{bytes_eq}
 use Rattle.std.proofs.lemmas.List.{length-map}
 use Rattle.jack_types.specs.declared.commands.Change.{Change}
 use Rattle.jack_types.specs.declared.moments.Moment.{Moment}
-use Rattle.session_model.specs.Benches.{Bench, IsPlan, IsReady, node_at}
+use Rattle.session_model.specs.Benches.{IsPlan, IsReady, node_at}
 use Rattle.session_model.specs.Commands.{replay}
 use Rattle.session_model.specs.Courses.{players}
-use Rattle.session_model.specs.Cycles.{audio_outputs, midi_inputs, midi_outputs, player_born}
+use Rattle.session_model.specs.Cycles.{audio_outputs, player_born}
 use Rattle.session_model.specs.Samples.{below, sample, silence}
 use Rattle.session_model.specs.State.{OpenClient, capture_port, is_system, opening, system_name}
 use Rattle.session_model.specs.Transport.{next_row, slow_numbers, timeout_of}
@@ -24,17 +24,20 @@ use Rattle.graph_word.specs.declared.plans.Base.{Base}
 use Rattle.graph_word.specs.Publications.{IsFront}
 use Rattle.transport.specs.Standings.{HasTarget}
 use Rattle.client_seats.specs.Seatings.{memory_of}
+use Rattle.client_seats.proofs.SeatLemmas.{bench-within}
 use Rattle.device_periods.specs.Captures.{Reads}
 use Rattle.driver_laws.specs.Cycling.{MayCycle, StepsOnce}
-use Rattle.driver_laws.specs.Drivers.{Driver, content_now, graph_now}
+use Rattle.driver_laws.specs.Drivers.{Driver, bench_at, content_now, graph_now}
 use Rattle.driver_laws.specs.Keeping.{AreOfCalls}
 use Rattle.driver_laws.specs.Playing.{PlaysOwn, adopted_now, last_number, own_course, settled_now}
 use Rattle.task_laws.specs.Calls.{IsOldKind}
+use Rattle.task_laws.specs.Edges.{HasAudioEdges}
 use Rattle.stage_laws.specs.Plays.{PlaysPlan}
+use Rattle.stage_laws.specs.Stages.{bench_on}
 use Rattle.cycle_laws.specs.Gears.{Gear, IsGear, driver_of}
 use Rattle.cycle_laws.specs.Turnings.{Turns}
 use Rattle.cycle_laws.proofs.FrontLemmas.{AreOfCalls-last}
-use Rattle.cycle_laws.proofs.SeenLemmas.{bench-seen}
+use Rattle.cycle_laws.proofs.SeenLemmas.{bench-seen, memory-seen}
 use Rattle.cycle_laws.proofs.SettledLemmas.{base-now, channels-now, content-now, graph-now, moment-now, settled-now}
 
 module _ {freewheel : Bool} {before after : Gear} {plan : Planned} {moment : Moment} (gear : IsGear before) (may : MayCycle (driver_of before) freewheel) (turns : Turns freewheel before plan moment after)
@@ -88,8 +91,14 @@ module _ {freewheel : Bool} {before after : Gear} {plan : Planned} {moment : Mom
   within-plan : (n : ℕ) → n < length (open_clients after.stage.staged.nodes) → n < length plan.nodes
   within-plan n low = subst (λ k. n < k) (ap length nodes-now ∙ length-map plan.nodes open_client) low
 
-  pub plays-own : (left : List ℤ) → All HasTarget (drop (last_number driver) plan.changes) → PlaysPlan (own_course driver) before.stage.staged plan (settled_now driver played left) after.stage.staged → PlaysOwn driver played left
-  plays-own left targets plays = record {
+  -- each node of the plan has its bench
+  bench-now : after.stage.staged.is_staffed ≡ true → (n : ℕ) → n < length plan.nodes → bench_at played n ≡ bench_on plan after.stage.staged n
+  bench-now staffed n low =
+      bench-seen after n (bench-within (open_clients plan.nodes) after.stage.staged.racked after.stage.staged.owned n n turns.stands.stands.seating ((turns.stands.staffed staffed).has n low))
+      ∙ ap (λ (p : Planned). bench_on p after.stage.staged n) turns.plan_is
+
+  pub plays-own : (left : List ℤ) → after.stage.staged.is_staffed ≡ true → All HasTarget (drop (last_number driver) plan.changes) → PlaysPlan (own_course driver) before.stage.staged plan (settled_now driver played left) after.stage.staged → PlaysOwn driver played left
+  plays-own left staffed targets plays = record {
     period = may.period_is;
     full = λ disk low. absurd (none low);
     transport = transport-now targets;
@@ -99,11 +108,11 @@ module _ {freewheel : Bool} {before after : Gear} {plan : Planned} {moment : Mom
     plan = subst (λ state. IsPlan state (open_clients after.stage.staged.nodes) plan.links) (sym (graph-now gear may turns steps))
         (subst (λ nodes. IsPlan (state_of_plan plan) nodes plan.links) (sym nodes-now) turns.planned.is_plan);
     ready = subst (λ nodes. IsReady (own_course driver) (settled_now driver played left) nodes plan.links plays.before) (sym nodes-now) plays.ready;
-    played = λ n low. bench-seen after n ∙ plays.played n (within-plan n low);
+    played = λ n low. bench-now staffed n (within-plan n low) ∙ plays.played n (within-plan n low);
     remembered = λ n low.
         ap (λ nodes. memory_of after.stage.staged.racked after.stage.staged.owned (node_at nodes n).birth) nodes-now
         ∙ plays.remembered n (within-plan n low)
-        ∙ ap (λ (bench : Bench). Some bench.memory) (sym (bench-seen after n));
+        ∙ ap Some (sym (memory-seen after n));
     others = λ birth none. plays.others birth (ap (λ state. player_born state birth) (sym (graph-now gear may turns steps)) ∙ none);
   }
     where
@@ -116,8 +125,7 @@ module _ {freewheel : Bool} {before after : Gear} {plan : Planned} {moment : Mom
       → slice_index_or channels c [] ≡ map (λ i. sample left (i * count + c)) (below frames))
       (rested : (channels : List (List ℤ)) (count frames : ℕ) → channels ≡ replicate count (silence frames) → (length channels ≡ count) × ((c : ℕ) → c < count → slice_index_or channels c [] ≡ silence frames))
       (has_ports : (capture playback : ℕ) (changes : List Change) → audio_outputs (replay (opening capture playback) changes) system_name ≡ map capture_port (below capture))
-      (no_inputs : (capture playback : ℕ) (name : List ℕ) → midi_inputs (replay (opening capture playback) (content_now played)) name ≡ [])
-      (no_outputs : (capture playback : ℕ) (name : List ℕ) → midi_outputs (replay (opening capture playback) (content_now played)) name ≡ [])
+      (edges : (capture playback : ℕ) → HasAudioEdges (replay (opening capture playback) (content_now played)))
       (old_kinds : (capture playback : ℕ) (client : OpenClient) → Contains (replay (opening capture playback) plan.changes).clients client → IsOldKind client.kind) where
     kinds-now : (n : ℕ) → n < length plan.nodes → IsOldKind (node_at (open_clients plan.nodes) n).kind
     kinds-now n low = old_kinds plan.base.capture plan.base.playback (node_at (open_clients plan.nodes) n) (open-now n low)
@@ -127,7 +135,6 @@ module _ {freewheel : Bool} {before after : Gear} {plan : Planned} {moment : Mom
     plays-now staffed staffed_now = turns.plays (own_course driver) (settled_now driver played left) staffed staffed_now
         (settled-now gear may turns steps left told as_many_read was_read rested kinds-now)
         refl
-        (no_inputs after.script.header.capture after.script.header.playback)
-        (no_outputs after.script.header.capture after.script.header.playback)
+        (edges after.script.header.capture after.script.header.playback)
         (channels-now gear may turns steps left told as_many_read was_read rested ∙ sym (device-now has_ports))
         kinds-now

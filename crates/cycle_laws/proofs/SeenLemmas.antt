@@ -1,28 +1,57 @@
 -- What a driver shows of its stage.
---     bench-seen, benches-seen      its benches are the stage's
+--     bench-seen      its benches are the stage's, on the plan that it played last
+--     audio-seen, sounds-seen, memory-seen      so is what they have beside MIDI, past the last one too
+--     outputs-same      benches of the same audio give the same at each port
 --     memory-plain      a client of a kind before version 3 is given no block
-use Rattle.std.proofs.Common.{◌≡◌, ℕ, List, ℤ, refl}
-use Rattle.std.proofs.Math.ListN.{get_or-map}
+use Rattle.std.proofs.Common.{◌≡◌, ℕ, ◌<◌, ◌≤◌, ◌⊎◌, inl, inr, List, length, map, ℤ, refl, sym, ◌∙◌, ap, subst}
+use Rattle.std.specs.Option.{option_map_or}
+use Rattle.std.proofs.lemmas.Bool.{cases_lt}
+use Rattle.std.proofs.lemmas.List.{get_or_past}
+use Rattle.jack_types.specs.Names.{client_part}
 use Rattle.jack_types.specs.declared.kinds.Kind.{Kind}
 use Rattle.jack_types.specs.declared.kinds.Kind.TheVariants.{Disk, Pass}
-use Rattle.session_model.specs.Benches.{Bench}
+use Rattle.session_model.specs.Benches.{Bench, fixed_audio, no_bench, node_at, outputs_of, place_in}
+use Rattle.session_model.specs.Cycles.{Settled, at_port, audio_outputs}
 use Rattle.session_model.specs.Kinds.{Memory}
+use Rattle.session_model.specs.Samples.{below, silence}
+use Rattle.session_model.specs.State.{OpenClient}
+use Rattle.session_laws.proofs.ActivationLemmas.{get_or-map_below, length-map_below}
 use Rattle.client_benches.specs.Seen.{Seen, bench_in, new_bench}
 use Rattle.driver_laws.specs.Drivers.{bench_at}
 use Rattle.driver_laws.specs.Playing.{with_fed}
 use Rattle.task_laws.specs.Calls.{IsOldKind}
-use Rattle.stage_laws.specs.Stages.{bench_of}
+use Rattle.stage_laws.specs.Stages.{bench_of, bench_on}
 use Rattle.cycle_laws.specs.Gears.{Gear, driver_of}
 
--- past the last one too
-pub bench-seen : (gear : Gear) (n : ℕ) → bench_at (driver_of gear) n ≡ bench_of gear.stage.staged n
-bench-seen gear n = get_or-map seen gear.stage.staged.racked.benches n (new_bench Pass 0)
-  where
-    seen : Seen → Bench
-    seen bench = bench_in gear.stage.staged.owned.scores bench.kept
+pub bench-seen : (gear : Gear) (n : ℕ) → n < length gear.stage.staged.racked.benches → bench_at (driver_of gear) n ≡ bench_on gear.stage.plan gear.stage.staged n
+bench-seen gear n low = get_or-map_below (bench_on gear.stage.plan gear.stage.staged) (length gear.stage.staged.racked.benches) n no_bench low
 
-pub benches-seen : (gear : Gear) → bench_at (driver_of gear) ≡ bench_of gear.stage.staged
-benches-seen gear i = λ n. bench-seen gear n i
+-- what is the same whether a client has MIDI ports or not, and what nobody has
+part-seen : {X : Type 0} (part : Bench → X) (gear : Gear) → ((n : ℕ) → part (bench_on gear.stage.plan gear.stage.staged n) ≡ part (bench_of gear.stage.staged n))
+    → part no_bench ≡ part (bench_in gear.stage.staged.owned.scores (new_bench Pass 0).kept) → (n : ℕ) → part (bench_at (driver_of gear) n) ≡ part (bench_of gear.stage.staged n)
+part-seen part gear plain past n = go (cases_lt n (length gear.stage.staged.racked.benches))
+  where
+    shown : ℕ → Bench
+    shown = bench_on gear.stage.plan gear.stage.staged
+
+    go : (n < length gear.stage.staged.racked.benches) ⊎ (length gear.stage.staged.racked.benches ≤ n) → part (bench_at (driver_of gear) n) ≡ part (bench_of gear.stage.staged n)
+    go (inl low) = ap part (bench-seen gear n low) ∙ plain n
+    go (inr high) =
+        ap part (get_or_past (map shown (below (length gear.stage.staged.racked.benches))) n no_bench (subst (λ k. k ≤ n) (sym (length-map_below shown (length gear.stage.staged.racked.benches))) high))
+        ∙ past
+        ∙ ap (λ (bench : Seen). part (bench_in gear.stage.staged.owned.scores bench.kept)) (sym (get_or_past gear.stage.staged.racked.benches n (new_bench Pass 0) high))
+
+pub audio-seen : (gear : Gear) (n : ℕ) → (bench_at (driver_of gear) n).audio ≡ (bench_of gear.stage.staged n).audio
+audio-seen gear = part-seen (λ bench. bench.audio) gear (λ n. refl) refl
+
+pub sounds-seen : (gear : Gear) (n : ℕ) → (bench_at (driver_of gear) n).sounds ≡ (bench_of gear.stage.staged n).sounds
+sounds-seen gear = part-seen (λ bench. bench.sounds) gear (λ n. refl) refl
+
+pub memory-seen : (gear : Gear) (n : ℕ) → (bench_at (driver_of gear) n).memory ≡ (bench_of gear.stage.staged n).memory
+memory-seen gear = part-seen (λ bench. bench.memory) gear (λ n. refl) refl
+
+pub outputs-same : (at : Settled) (nodes : List OpenClient) (benches others : ℕ → Bench) → ((n : ℕ) → (benches n).audio ≡ (others n).audio) → (outputs_of at nodes benches).audio ≡ (outputs_of at nodes others).audio
+outputs-same at nodes benches others same i = λ port. option_map_or (λ n. at_port (silence at.frames) (audio_outputs at.graph (node_at nodes n).name) (same n i) port) (place_in nodes (client_part port)) (fixed_audio at port)
 
 pub memory-plain : (fed : ℕ → List (List ℤ)) (kind : Kind) (memory : Memory) → IsOldKind kind → with_fed fed kind memory ≡ memory
 memory-plain fed (Disk disk) memory old = absurd old

@@ -7,14 +7,13 @@ use Rattle.std.proofs.Common.{◌≡◌, ℕ, ◌+◌, ◌*◌, ◌<◌, cond, B
 use Rattle.std.specs.Prelude.{Option, slice_index_or, unwrap_or}
 use Rattle.jack_types.specs.declared.commands.Change.{Change}
 use Rattle.jack_types.specs.declared.moments.Moment.{Moment}
-use Rattle.session_model.specs.Benches.{Bench, node_at, outputs_of}
+use Rattle.session_model.specs.Benches.{node_at, outputs_of}
 use Rattle.session_model.specs.Commands.{replay}
-use Rattle.session_model.specs.Cycles.{Signals}
 use Rattle.session_model.specs.Driving.{kept_from}
 use Rattle.session_model.specs.Kinds.{first}
 use Rattle.session_model.specs.Samples.{below, sample, silence}
 use Rattle.session_model.specs.Scripts.{Script}
-use Rattle.session_model.specs.State.{OpenClient, opening}
+use Rattle.session_model.specs.State.{OpenClient, State, opening}
 use Rattle.session_model.specs.Transport.{active_master, shown}
 use Rattle.port_registry.specs.Registered.{open_clients}
 use Rattle.cycle_plan.specs.Plans.{Planned, state_of_plan}
@@ -30,7 +29,7 @@ use Rattle.stage_laws.specs.Plays.{IsSettledOn}
 use Rattle.stage_laws.specs.Stages.{bench_of}
 use Rattle.cycle_laws.specs.Gears.{Gear, IsGear, IsInStep, driver_of}
 use Rattle.cycle_laws.specs.Turnings.{Turns}
-use Rattle.cycle_laws.proofs.SeenLemmas.{benches-seen, memory-plain}
+use Rattle.cycle_laws.proofs.SeenLemmas.{audio-seen, memory-plain, outputs-same}
 
 module _ {freewheel : Bool} {before after : Gear} {plan : Planned} {moment : Moment} (gear : IsGear before) (may : MayCycle (driver_of before) freewheel) (turns : Turns freewheel before plan moment after)
     (steps : StepsOnce (driver_of before) (driver_of after)) where
@@ -67,12 +66,15 @@ module _ {freewheel : Bool} {before after : Gear} {plan : Planned} {moment : Mom
       (ap (λ (s : Standing). s.cycles) turns.standing ∙ ap (λ cycles. cycles + 1) in_step.cycles) gear.rate
       ∙ ap (λ state. shown (run driver + 1) after.transport.row before.script.header.rate (active_master state)) (sym graph-now)
 
-  -- what feedback edges give is read from the stage's benches
-  kept-now : kept_now driver played
-      ≡ kept_from before.stage.staged.period (state_of_plan before.stage.plan) (outputs_of (settled_last driver) (open_clients before.stage.staged.nodes) (bench_of before.stage.staged)) (state_of_plan plan) before.set
-  kept-now =
-      ap₂ (λ period state. kept_from period state (outputs_of (settled_last driver) driver.nodes (bench_at driver)) (graph_now played) before.set) (sym in_step.period) graph-last
-      ∙ ap₂ (λ (benches : ℕ → Bench) state. kept_from before.stage.staged.period (state_of_plan before.stage.plan) (outputs_of (settled_last driver) driver.nodes benches) state before.set) (benches-seen before) graph-now
+  -- the audio that feedback edges give is read from the stage's benches
+  kept-now : (port : List ℕ) → (kept_now driver played).audio port
+      ≡ (kept_from before.stage.staged.period (state_of_plan before.stage.plan) (outputs_of (settled_last driver) (open_clients before.stage.staged.nodes) (bench_of before.stage.staged)) (state_of_plan plan) before.set).audio port
+  kept-now port =
+      ap₂ (λ period last. kept_at period last (graph_now played) (outputs_of (settled_last driver) driver.nodes (bench_at driver)).audio) (sym in_step.period) graph-last
+      ∙ ap₂ (kept_at before.stage.staged.period (state_of_plan before.stage.plan)) graph-now (outputs-same (settled_last driver) driver.nodes (bench_at driver) (bench_of before.stage.staged) (audio-seen before))
+    where
+      kept_at : ℕ → State → State → (List ℕ → List ℤ) → List ℤ
+      kept_at period last state audio = (kept_from period last (record { audio = audio; midi = λ _. [] }) state before.set).audio port
 
   module _ (left : List ℤ) (told : driver.left ≡ Some left)
       (as_many_read : (left : List ℤ) (rest : Option (List ℤ)) (channels : List (List ℤ)) (count frames : ℕ) → Reads (Some left) rest channels count frames → length channels ≡ count)
@@ -122,7 +124,7 @@ module _ {freewheel : Bool} {before after : Gear} {plan : Planned} {moment : Mom
       at_last = settled_last driver;
       graph_last = graph-last;
       frames_last = sym in_step.period;
-      before = λ port. ap (λ (signals : Signals). signals.audio port) kept-now;
+      before = kept-now;
       memory = λ n low. memory-plain (fed_now driver played) (client n).kind (unwrap_or (memory_in driver (client n).birth) (first before.stage.staged.owned.scores (client n).kind)) (old n low);
     }
       where

@@ -24,11 +24,12 @@ use Rattle.recorder_rings.specs.Sending.{channels_at, no_ring, ring_at}
 use Rattle.cycle_blocks.specs.Blocks.{block_by, is_taped}
 use Rattle.cycle_laws.specs.Gears.{Gear, IsGear, driver_of}
 use Rattle.cycle_laws.specs.Turnings.{Turns}
-use Rattle.cycle_laws.proofs.BlockLemmas.{block-same, frames-of_freewheel, frames-of_run, left-read, left-rest, sounds-at}
+use Rattle.cycle_laws.proofs.BlockLemmas.{block-same, frames-of_freewheel, frames-of_run, left-read, left-rest}
 use Rattle.cycle_laws.proofs.FrameLemmas.{frames-after}
 use Rattle.cycle_laws.proofs.ListLemmas.{found-permuted}
 use Rattle.cycle_laws.proofs.RingLemmas.{HasOwnRings-next, block-length, grows, puts-same}
 use Rattle.cycle_laws.proofs.RowLemmas.{HasOwnRows-next, graph-planned}
+use Rattle.cycle_laws.proofs.SeenLemmas.{sounds-seen}
 use Rattle.cycle_laws.proofs.SendLemmas.{channels-are}
 
 module _ (freewheel : Bool) (before after : Gear) (plan : Planned) (moment : Moment) (is : IsGear before) (may : MayCycle (driver_of before) freewheel) (turned : Turns freewheel before plan moment after) where
@@ -60,7 +61,7 @@ module _ (freewheel : Bool) (before after : Gear) (plan : Planned) (moment : Mom
       block-same before.set after.set (channels_at before.rings recorder) (channels_on after.script recorder)
       (λ n. (bench_of_rack after.stage.staged.racked n).kept.sounds) (λ n. (bench_at (driver_of after) n).sounds)
       (position (λ (client : OpenClient). is_tape recorder client.kind) (open_clients plan.nodes)) (position (λ (client : OpenClient). is_tape recorder client.kind) (open_clients after.stage.staged.nodes))
-      (sym turned.set) (channels-is recorder) (λ n. sym (sounds-at after.stage.staged.owned.scores after.stage.staged.racked.benches n))
+      (sym turned.set) (channels-is recorder) (λ n. sym (sounds-seen after n))
       (ap (position (λ (client : OpenClient). is_tape recorder client.kind)) nodes-are)
 
   -- at each ring the blocks were put as by the driver

@@ -8,18 +8,19 @@ use Rattle.std.specs.List.Sorted.{IsPermutation}
 use Rattle.jack_types.specs.declared.files.Format.{Format}
 use Rattle.jack_types.specs.declared.moments.Moment.{Moment}
 use Rattle.session_model.specs.Grammar.{IsScript}
+use Rattle.session_model.specs.Samples.{below}
 use Rattle.session_model.specs.Scripts.{Script, turns}
 use Rattle.port_registry.specs.Registered.{open_clients}
 use Rattle.graph_word.specs.Publications.{Reading}
 use Rattle.transport.specs.Standings.{Standing}
 use Rattle.wave_write.specs.Tapes.{Tape}
-use Rattle.client_benches.specs.Seen.{Seen, bench_in}
 use Rattle.device_periods.specs.Captures.{Captured}
 use Rattle.driver_laws.specs.Drivers.{Driver, frames_run, greatest_period, turn_of}
 use Rattle.client_seats.specs.Moves.{kinds_of}
 use Rattle.client_seats.specs.Seatings.{memories}
 use Rattle.recorder_rings.specs.Sending.{Sent}
-use Rattle.task_laws.specs.Calls.{HasNoMidi, guests_needed, open_kinds}
+use Rattle.task_laws.specs.Calls.{HasNoMidiEdge, guests_needed, open_kinds}
+use Rattle.stage_laws.specs.Stages.{bench_on}
 use Rattle.client_stage.specs.Standing.{OnStage, StandsOn}
 
 pub record Gear : Type 0 where
@@ -35,7 +36,7 @@ pub record Gear : Type 0 where
   pub set : ℕ
   pub failed : Bool
 
--- what the last cycle took is the content of the plan that the stage played last; there are no disks
+-- what the last cycle took is the content of the plan that the stage played last, and its MIDI ports are quiet; there are no disks
 abbrev pub driver_of : Gear → Driver
 driver_of gear = record {
   script = gear.script;
@@ -56,15 +57,15 @@ driver_of gear = record {
   set = gear.set;
   failed = gear.failed;
   nodes = open_clients gear.stage.staged.nodes;
-  benches = map (λ (bench : Seen). bench_in gear.stage.staged.owned.scores bench.kept) gear.stage.staged.racked.benches;
+  benches = map (bench_on gear.stage.plan gear.stage.staged) (below (length gear.stage.staged.racked.benches));
   memories = memories gear.stage.staged.racked gear.stage.staged.owned;
 }
 
--- a lawful script before version 3, which registers no MIDI port
+-- a lawful script before version 3, which connects no MIDI ports
 pub record IsServed (script : Script) : Type 0 where
   pub lawful : IsScript script
   pub version : script.header.version < 3
-  pub no_midi : HasNoMidi script
+  pub no_midi_edge : HasNoMidiEdge script
 
 -- where no cycle failed, the parts stand behind the same cycles
 pub record IsInStep (gear : Gear) : Type 0 where

@@ -33,7 +33,7 @@ abbrev pub IfBytes : Option Files → List ℕ → (List ℕ → Type 0) → Typ
 IfBytes None name P = ⊤
 IfBytes (Some files) name P = (bytes : List ℕ) × (bytes_under files name ≡ Some bytes) × P bytes
 
--- a script in serial mode before version 3, which registers no MIDI port
+-- a script in serial mode before version 3, which connects no MIDI ports
 pub record IsPlayed (script : Script) : Type 0 where
   pub served : IsServed script
   pub serial : IsNone script.header.threads

@@ -4,7 +4,7 @@ ghost use Rattle.std.specs.Prelude.{◌≡◌, ◌<◌, ◌≤◌, ◌⊎◌, If
 ghost use Rattle.jack_host.specs.Causes.{Rose};
 ghost use Rattle.jack_host.specs.Files.{IsThere, SameFiles};
 ghost use Rattle.jack_types.specs.declared.scripts.ScriptFault.{ScriptFault as FaultValue};
-ghost use Rattle.task_laws.specs.Calls.{HasNoMidi};
+ghost use Rattle.task_laws.specs.Calls.{HasNoMidiEdge};
 ghost use Rattle.jack_control.specs.Inputs.{IfBytes, IsFaulty, IsPlayed, IsScriptOf, unplayable};
 ghost use Rattle.jack_control.specs.Scripts.{IsRead, ScriptStatus, status_of_script};
 
@@ -12,14 +12,14 @@ use crate::Status;
 use crate::reading::{LoadFault, load};
 use jack_host::Host;
 use jack_types::{Cause, ScriptFault};
-use script_ports::registers_no_midi;
+use script_ports::connects_no_midi;
 use session_script::Script;
 use std::alloc::Global;
 
 // How many bytes of a script are read: one more than it may have.
 const MOST_READ: usize = 1_048_577;
 
-// Whether a script is one that is played yet: in serial mode, before version 3, and without MIDI ports.
+// Whether a script is one that is played yet: in serial mode, before version 3, and without connections of MIDI ports.
 fn is_played(script: &Script) -> bool
     ensures { IsTrue result ↔ IsPlayed script.now }
 {
@@ -27,7 +27,7 @@ fn is_played(script: &Script) -> bool
     if header.threads.is_some() || header.version >= 3 {
         return false;
     }
-    registers_no_midi(script)
+    connects_no_midi(script)
 }
 
 // The status of a fault that the reading of a script met.

@@ -1,8 +1,9 @@
 -- What a wiring sets is the task of the cycle.
 --     task-ready      a bench set by the wiring of a plan has its client's task
-use Rattle.std.proofs.Common.{◌≡◌, ◌≢◌, ℕ, zero, suc, ◌+◌, ◌<◌, ◌≤◌, Bool, true, false, cond, ◌&&◌, ◌==◌, List, [], ◌∷◌, ◌++◌, length, map, filter, filter_map, get_or, take, Contains, ℤ, Option, Some, None, option_map, refl, sym, ◌∙◌, ap, ap₂, subst, arith, true≢false, eqb-true}
-use Rattle.std.specs.List.{cons_option}
+use Rattle.std.proofs.Common.{◌≡◌, ◌≢◌, ℕ, zero, suc, ◌+◌, ◌<◌, ◌≤◌, Bool, true, false, cond, not, ◌&&◌, ◌==◌, List, [], ◌∷◌, ◌++◌, length, map, filter, filter_map, get_or, take, Contains, ℤ, Option, Some, None, option_map, refl, sym, ◌∙◌, ap, ap₂, subst, arith, true≢false, eqb-true}
+use Rattle.std.specs.List.{cons_option, position_or_len}
 use Rattle.std.specs.Option.{option_map_or}
+use Rattle.std.specs.Str.{bytes_eq}
 use Rattle.std.proofs.lemmas.List.{map-append, take_more}
 use Rattle.jack_types.specs.Names.{client_part}
 use Rattle.jack_types.specs.declared.events.Event.{Event}
@@ -12,16 +13,18 @@ use Rattle.jack_types.specs.declared.kinds.Score.{Score}
 use Rattle.jack_types.specs.declared.moments.Moment.{Moment}
 use Rattle.jack_types.specs.declared.ports.Link.{Link}
 use Rattle.session_model.specs.Activation.{link_at, outgoing}
-use Rattle.session_model.specs.Benches.{Part, Route as Carrying, Task, audio_part_of, edges_between, midi_part_of, node_at, route_of as route_named, task_of}
+use Rattle.session_model.specs.Benches.{Part, Route as Carrying, Task, audio_part_of, edges_between, midi_part_of, node_at, port_place, route_of as route_named, task_of}
+use Rattle.session_model.specs.Commands.{is_audio, is_input, ports_of}
 use Rattle.session_model.specs.Courses.{Course}
 use Rattle.session_model.specs.Cycles.{Settled, audio_inputs, audio_outputs, edges_into, list_of, midi_inputs, midi_outputs}
 use Rattle.session_model.specs.Samples.{below}
 use Rattle.session_model.specs.Soundness.{IsEnd, IsSound}
 use Rattle.session_model.specs.State.{Connection, OpenClient, OpenPort, State}
-use Rattle.session_laws.proofs.CycleLemmas.{map_filter-same}
+use Rattle.session_laws.proofs.CycleLemmas.{bytes_same, filter-passes, map_filter-same}
+use Rattle.session_laws.proofs.GrammarReaders.{bytes-self}
 use Rattle.session_laws.proofs.GraphLemmas.{route-audio, route-midi}
-use Rattle.session_laws.proofs.ListLemmas.{Each, Each-below, Each-contains, Each-from_contains, filter-twice}
-use Rattle.session_laws.proofs.PlaceLemmas.{map-after, map-same}
+use Rattle.session_laws.proofs.ListLemmas.{Each, Each-below, Each-contains, Each-from_contains, filter-none, filter-twice}
+use Rattle.session_laws.proofs.PlaceLemmas.{filter-keeps, map-after, map-same, position-found}
 use Rattle.session_laws.proofs.WiredLemmas.{AreWired, AreWired-opening, AreWired-replay}
 use Rattle.port_registry.specs.Registered.{open_clients}
 use Rattle.cycle_plan.specs.Plans.{IsPlanned, Planned, link_in, opening_of, state_of_plan}
@@ -40,10 +43,12 @@ use Rattle.client_wiring.specs.declared.joints.Origin.{Origin}
 use Rattle.client_wiring.specs.declared.joints.Origin.TheVariants.{Handed, Kept, Captured}
 use Rattle.client_wiring.specs.declared.joints.Output.{Output}
 use Rattle.client_wiring.specs.declared.joints.Output.TheVariants.{Audio, Midi}
+use Rattle.task_laws.specs.Edges.{HasAudioEdges}
+use Rattle.ready_laws.specs.Quiet.{quiet, quiet_task}
 use Rattle.ready_laws.specs.Sources.{HasSource, HasSources}
 
-none_below : {n : ℕ} → n < 0 → ⊥
-none_below p = omega arith
+none_some : {X : Type 0} {x : X} → None ≡ Some x → ⊥
+none_some k = cc
 
 filter-mapped : {X Y : Type 0} (p : Y → Bool) (f : X → Y) (xs : List X) → filter p (map f xs) ≡ map f (filter (λ x. p (f x)) xs)
 filter-mapped p f [] = refl
@@ -134,8 +139,8 @@ routes-same n place (one ∷ carried) h = go (one.node == n) (one.place == place
     go true b e rest = step one.output h.0 b e rest ∙ split b
     go false b e rest = rest
 
--- where there is no MIDI output, links carry audio outputs
-module _ (state : State) (number : ℕ) (sound : IsSound state number) (wired_so : AreWired state) (none : (name : List ℕ) → midi_outputs state name ≡ []) where
+-- where connections carry audio, links carry audio outputs
+module _ (state : State) (number : ℕ) (sound : IsSound state number) (wired_so : AreWired state) (audio : HasAudioEdges state) where
   output-sound : (edge : Connection) → Contains state.edges edge → IsSound_output (output_of state edge.source)
   output-sound edge m = go (wired_so edge m).0 (wired_so edge m).1
     where
@@ -145,7 +150,7 @@ module _ (state : State) (number : ℕ) (sound : IsSound state number) (wired_so
           (told.0.0, ap (λ o. option_map_or Audio o (Midi (port_index (midi_outputs state (client_part edge.source)) edge.source))) told.0.2)
       go false end =
           let told = route-midi state number sound edge.source end in
-          absurd (none_below (subst (λ (ports : List OpenPort). told.0.0 < length ports) (none (client_part edge.source)) told.0.1))
+          absurd (none_some (sym (audio.sources edge m) ∙ told.0.2))
 
   carried-sound : (nodes : List OpenClient) (links : List Link) → Each (λ (one : Carried). IsSound_output one.output) (filter_map (carried_by state nodes links) state.edges)
   carried-sound nodes links = each state.edges (Each-from_contains (λ (edge : Connection). IsSound_output (output_of state edge.source)) state.edges output-sound)
@@ -158,6 +163,36 @@ module _ (state : State) (number : ℕ) (sound : IsSound state number) (wired_so
               → Each (λ (one : Carried). IsSound_output one.output) (cons_option (option_map (carried_on links (output_of state edge.source)) link) (filter_map (carried_by state nodes links) edges))
           go None rest = rest
           go (Some link) rest = (h.0, rest)
+
+-- ---- what comes in at MIDI ports
+
+-- where connections carry audio, none goes into a MIDI input
+module _ (state : State) (audio : HasAudioEdges state) where
+  none-into : (client : List ℕ) (port : OpenPort) → Contains (ports_of state client) port → (not (is_audio port) && is_input port) ≡ true → edges_into state port.name ≡ []
+  none-into client port m t =
+      filter-none (λ (edge : Connection). bytes_eq edge.destination port.name) state.edges
+      (Each-from_contains (λ (edge : Connection). bytes_eq edge.destination port.name ≡ false) state.edges (λ edge c. not_into edge c (bytes_eq edge.destination port.name) refl))
+    where
+      client_is : client_part port.name ≡ client
+      client_is = bytes_same (client_part port.name) client (filter-passes (λ (p : OpenPort). bytes_eq (client_part p.name) client) state.ports port m)
+
+      place : (j : ℕ) × (port_place (midi_inputs state (client_part port.name)) port.name ≡ Some j)
+      place = (
+        position_or_len (λ (p : OpenPort). bytes_eq p.name port.name) (midi_inputs state (client_part port.name)),
+        position-found (λ (p : OpenPort). bytes_eq p.name port.name) (midi_inputs state (client_part port.name)) port
+            (subst (λ c. Contains (midi_inputs state c) port) (sym client_is) (filter-keeps (λ (p : OpenPort). not (is_audio p) && is_input p) (ports_of state client) port m t))
+            (bytes-self port.name),
+      )
+
+      not_into : (edge : Connection) → Contains state.edges edge → (b : Bool) → bytes_eq edge.destination port.name ≡ b → b ≡ false
+      not_into edge c false e = refl
+      not_into edge c true e =
+          let same : edge.destination ≡ port.name = bytes_same edge.destination port.name e in
+          absurd (none_some (sym (audio.destinations edge c) ∙ ap (λ name. port_place (midi_inputs state (client_part name)) name) same ∙ place.1))
+
+  quiet-parts : {X : Type 0} (part : Connection → X) (client : List ℕ) → map (λ (port : OpenPort). []) (midi_inputs state client) ≡ map (λ (port : OpenPort). map part (edges_into state port.name)) (midi_inputs state client)
+  quiet-parts {X} part client = map_filter-same (λ (port : OpenPort). not (is_audio port) && is_input port) (λ (port : OpenPort). []) (λ (port : OpenPort). map part (edges_into state port.name)) (ports_of state client)
+      (λ port m t. sym (ap (map part) (none-into client port m t)))
 
 -- ---- the whole task
 
@@ -176,26 +211,26 @@ no-list course Midithru h = refl
 no-list course Midilog h = refl
 no-list course (Disk disk) h = refl
 
-same-task : (scores : List Score) (moment : Moment) (frames : ℕ) (list list2 : List (ℕ × Event)) (kind kind2 : Kind) (sounds sounds2 : List (List (Part (List ℤ)))) (notes notes2 : List (List (Part (List Event)))) (audio audio2 midi midi2 : ℕ) (routes routes2 : List (List Carrying))
-    → list ≡ list2 → kind ≡ kind2 → sounds ≡ sounds2 → notes ≡ notes2 → audio ≡ audio2 → midi ≡ midi2 → routes ≡ routes2
+same-task : (scores : List Score) (moment : Moment) (frames : ℕ) (list list2 : List (ℕ × Event)) (kind kind2 : Kind) (sounds sounds2 : List (List (Part (List ℤ)))) (notes notes2 : List (List (Part (List Event)))) (audio audio2 midi : ℕ) (routes routes2 : List (List Carrying))
+    → list ≡ list2 → kind ≡ kind2 → sounds ≡ sounds2 → notes ≡ notes2 → audio ≡ audio2 → routes ≡ routes2
     → ◌≡◌ {A = Task} (record { scores = scores; list = list; kind = kind; moment = moment; frames = frames; audio_parts = sounds; midi_parts = notes; audio_count = audio; midi_count = midi; routes = routes })
-    (record { scores = scores; list = list2; kind = kind2; moment = moment; frames = frames; audio_parts = sounds2; midi_parts = notes2; audio_count = audio2; midi_count = midi2; routes = routes2 })
-same-task scores moment frames list list2 kind kind2 sounds sounds2 notes notes2 audio audio2 midi midi2 routes routes2 e1 e2 e3 e4 e5 e6 e7 = rw (e1, e2, e3, e4, e5, e6, e7) refl
+    (record { scores = scores; list = list2; kind = kind2; moment = moment; frames = frames; audio_parts = sounds2; midi_parts = notes2; audio_count = audio2; midi_count = midi; routes = routes2 })
+same-task scores moment frames list list2 kind kind2 sounds sounds2 notes notes2 audio audio2 midi routes routes2 e1 e2 e3 e4 e5 e6 = rw (e1, e2, e3, e4, e5, e6) refl
 
 pub task-ready : (plan : Planned) (at : Settled) (n : ℕ) (sources : ℕ → List ℤ) (bench : Seen) (course : Course) → IsPlanned plan → at.graph ≡ state_of_plan plan
-    → ((name : List ℕ) → midi_inputs at.graph name ≡ []) → ((name : List ℕ) → midi_outputs at.graph name ≡ []) → n < length plan.nodes
+    → HasAudioEdges at.graph → n < length plan.nodes
     → IsSet (wired_of plan) plan.links at.moment at.frames sources n bench → HasSources at (open_clients plan.nodes) (wired_of plan).joints n sources
     → bench.kept.standing.kind ≡ (node_at (open_clients plan.nodes) n).kind → ((list : ℕ) → (node_at (open_clients plan.nodes) n).kind ≢ Midiplay list)
-    → (bench_in course.scores bench.kept).task ≡ Some (task_of course at (open_clients plan.nodes) plan.links n)
-task-ready plan at n sources bench course is graph no_inputs no_outputs low set has kinds plays =
-    ap (option_map (task_in course.scores bench.kept)) set.turn
+    → (quiet at.graph (node_at (open_clients plan.nodes) n).name (bench_in course.scores bench.kept)).task ≡ Some (task_of course at (open_clients plan.nodes) plan.links n)
+task-ready plan at n sources bench course is graph audio low set has kinds plays =
+    ap (λ turn. option_map (quiet_task at.graph name) (option_map (task_in course.scores bench.kept) turn)) set.turn
     ∙ ap Some (same-task course.scores at.moment at.frames [] (list_of course (node_at nodes n).kind) bench.kept.standing.kind (node_at nodes n).kind
     (map (parts_into bench.kept.wires) (below (widths_at wiring n).inputs)) (map (λ (port : OpenPort). map (audio_part_of at nodes plan.links n) (edges_into at.graph port.name)) (audio_inputs at.graph name))
-    [] (map (λ (port : OpenPort). map (midi_part_of at nodes plan.links n) (edges_into at.graph port.name)) (midi_inputs at.graph name))
-    (widths_at wiring n).outputs (length (audio_outputs at.graph name)) 0 (length (midi_outputs at.graph name))
+    (map (λ (port : OpenPort). []) (midi_inputs at.graph name)) (map (λ (port : OpenPort). map (midi_part_of at nodes plan.links n) (edges_into at.graph port.name)) (midi_inputs at.graph name))
+    (widths_at wiring n).outputs (length (audio_outputs at.graph name)) (length (midi_outputs at.graph name))
     (map (routes_on bench.kept.routes) (below (length (outgoing plan.links n)))) (routes_in at.graph)
-    (no-list course (node_at nodes n).kind plays) kinds sounds (sym (ap (map (λ (port : OpenPort). map (midi_part_of at nodes plan.links n) (edges_into at.graph port.name))) (no_inputs name)))
-    (sets.outputs n low ∙ ap (λ state. length (audio_outputs state name)) (sym graph)) (sym (ap length (no_outputs name))) routes)
+    (no-list course (node_at nodes n).kind plays) kinds sounds (quiet-parts at.graph audio (midi_part_of at nodes plan.links n) name)
+    (sets.outputs n low ∙ ap (λ state. length (audio_outputs state name)) (sym graph)) routes)
   where
     nodes : List OpenClient
     nodes = open_clients plan.nodes
@@ -223,14 +258,11 @@ task-ready plan at n sources bench course is graph no_inputs no_outputs low set 
     routes_in : State → List (List Carrying)
     routes_in state = map (λ l. map (λ (edge : Connection). route_named state name edge.source) (edges_between state name (node_at nodes (link_at plan.links l).to).name)) (outgoing plan.links n)
 
-    none : (client : List ℕ) → midi_outputs (state_of_plan plan) client ≡ []
-    none client = ap (λ state. midi_outputs state client) (sym graph) ∙ no_outputs client
-
     routes : map (routes_on bench.kept.routes) (below (length (outgoing plan.links n))) ≡ routes_in at.graph
     routes =
         ap (λ all. map (routes_on all) (below (length (outgoing plan.links n)))) set.routes
         ∙ map-same (routes_on (routes_of wiring.carried n)) (λ k. map (λ (one : Carried). route_by one.output) (filter (λ (one : Carried). one.node == n && one.place == k) wiring.carried)) (below (length (outgoing plan.links n)))
         (λ k. routes-same n k wiring.carried
-        (carried-sound (state_of_plan plan) (length plan.changes) (sound-plan plan is) (AreWired-replay (opening_of plan.base) plan.changes (AreWired-opening plan.base.capture plan.base.playback)) none nodes plan.links))
+        (carried-sound (state_of_plan plan) (length plan.changes) (sound-plan plan is) (AreWired-replay (opening_of plan.base) plan.changes (AreWired-opening plan.base.capture plan.base.playback)) (subst HasAudioEdges graph audio) nodes plan.links))
         ∙ sym (sets.routes n low)
         ∙ ap routes_in (sym graph)

@@ -5,18 +5,21 @@ ghost use Rattle.jack_types.specs.declared.kinds.Kind.TheVariants.{Midiplay};
 ghost use Rattle.port_registry.specs.Registered.{open_clients};
 ghost use Rattle.session_model.specs.Benches.{node_at, task_of};
 ghost use Rattle.session_model.specs.Courses.{Course};
-ghost use Rattle.session_model.specs.Cycles.{Settled, midi_inputs, midi_outputs};
+ghost use Rattle.session_model.specs.Cycles.{Settled};
 ghost use Rattle.cycle_plan.specs.Plans.{IsPlanned, Planned, state_of_plan};
 ghost use Rattle.client_benches.specs.Seen.{Seen, bench_in};
+ghost use Rattle.task_laws.specs.Edges.{HasAudioEdges};
 ghost use Rattle.client_tasks.specs.Tasks.{IsSet};
 ghost use Rattle.client_wiring.specs.Wirings.{wired_of};
+ghost use Rattle.ready_laws.specs.Quiet.{quiet};
 ghost use Rattle.ready_laws.specs.Sources.{HasSources};
 
-/// In a graph without MIDI ports, a bench that is set by the wiring of a plan, of its client's kind, has its client's task.
+/// In a graph whose connections carry audio, a bench that is set by the wiring of a plan, of its client's kind, has its
+/// client's task, but for its MIDI ports, where nothing comes in.
 pub fn tasks_are_ready()
     ensures { (plan : Planned) (at : Settled) (n : ℕ) (sources : ℕ → List ℤ) (bench : Seen) (course : Course) → IsPlanned plan → at.graph ≡ state_of_plan plan
-        → ((name : List ℕ) → midi_inputs at.graph name ≡ []) → ((name : List ℕ) → midi_outputs at.graph name ≡ []) → n < length plan.nodes
+        → HasAudioEdges at.graph → n < length plan.nodes
         → IsSet (wired_of plan) plan.links at.moment at.frames sources n bench → HasSources at (open_clients plan.nodes) (wired_of plan).joints n sources
         → bench.kept.standing.kind ≡ (node_at (open_clients plan.nodes) n).kind → ((list : ℕ) → (node_at (open_clients plan.nodes) n).kind ≢ Midiplay list)
-        → (bench_in course.scores bench.kept).task ≡ Some (task_of course at (open_clients plan.nodes) plan.links n) }
+        → (quiet at.graph (node_at (open_clients plan.nodes) n).name (bench_in course.scores bench.kept)).task ≡ Some (task_of course at (open_clients plan.nodes) plan.links n) }
 {}

@@ -7,8 +7,9 @@ use Rattle.jack_types.specs.declared.scripts.Body.{Body}
 use Rattle.jack_types.specs.declared.scripts.Body.TheVariants.{Do, Run, Freewheel, Lane, Period}
 use Rattle.jack_types.specs.declared.scripts.Header.{Header}
 use Rattle.session_model.specs.Grammar.{IsScript, IsBody, open_segment, segment_after}
-use Rattle.session_model.specs.Scripts.{Script, Phase, LaneCall, Planned, Uncounted, phases_of, planned, uncounted, counted, lane_calls, with_do}
+use Rattle.session_model.specs.Scripts.{Script, Phase, LaneCall, Planned, Uncounted, phases_of, uncounted, counted, lane_calls, with_do}
 use Rattle.session_laws.proofs.SerialLawfulLemmas.{AreBodies, AreBodies-rest}
+use Rattle.task_laws.specs.Calls.{commands}
 use Rattle.script_ports.specs.Lines.{command_on}
 
 none-some : {X : Type 0} (x : X) → None ≡ Some x → ⊥
@@ -21,12 +22,9 @@ on_lanes calls = map (λ (call : LaneCall). call.command) calls
 abbrev asked : List Uncounted → List Command
 asked calls = map (λ (call : Uncounted). call.command) calls
 
-abbrev pub planned_commands : Script → List Command
-planned_commands script = map (λ (plan : Planned). plan.call.command) (planned script)
-
 counted-commands : (earlier calls : List Uncounted) → map (λ (plan : Planned). plan.call.command) (counted earlier calls) ≡ asked calls
 counted-commands earlier [] = refl
-counted-commands earlier (call ∷ calls) = ap (λ (commands : List Command). call.command ∷ commands) (counted-commands (earlier ++ call ∷ []) calls)
+counted-commands earlier (call ∷ calls) = ap (λ (others : List Command). call.command ∷ others) (counted-commands (earlier ++ call ∷ []) calls)
 
 -- the calls of a segment's lanes
 abbrev in_segment : ℕ → ℕ → LaneCall → Uncounted
@@ -34,7 +32,7 @@ in_segment index base call = record { lane = call.lane; command = call.command; 
 
 segment-commands : (index base : ℕ) (calls : List LaneCall) (behind : List Uncounted) → on_lanes calls ++ asked behind ≡ asked (map (in_segment index base) calls ++ behind)
 segment-commands index base [] behind = refl
-segment-commands index base (call ∷ calls) behind = ap (λ (commands : List Command). call.command ∷ commands) (segment-commands index base calls behind)
+segment-commands index base (call ∷ calls) behind = ap (λ (others : List Command). call.command ∷ others) (segment-commands index base calls behind)
 
 phases-some : (period : ℕ) (lines : List Body) → (phase : Phase) × (phs : List Phase) × (phases_of period lines ≡ phase ∷ phs)
 phases-some period [] = (record { dos = []; period = period; is_freewheel = false; cycles = 0; calls = [] }, [], refl)
@@ -73,7 +71,7 @@ module _ (header : Header) where
       let later : List Body = earlier ++ Do command ∷ [] in
       let all : AreBodies header later lines = AreBodies-rest header earlier (Do command) lines h in
       let none : lane_calls lines ≡ [] = lane-none later lines all (fold_push segment_after None earlier (Do command)) in
-      ap (λ (commands : List Command). command ∷ commands)
+      ap (λ (others : List Command). command ∷ others)
       (lines-commands lines later period index base all ∙ ap (λ calls. on_lanes calls ++ asked (uncounted index base (phases_of period lines))) none)
       ∙ do-commands command index base period lines
   lines-commands (Run cycles ∷ lines) earlier period index base h =
@@ -83,7 +81,7 @@ module _ (header : Header) where
       lines-commands lines (earlier ++ Freewheel cycles ∷ []) period (index + 1) (base + cycles) (AreBodies-rest header earlier (Freewheel cycles) lines h)
       ∙ segment-commands index base (lane_calls lines) (uncounted (index + 1) (base + cycles) (phases_of period lines))
   lines-commands (Lane lane begun command ∷ lines) earlier period index base h =
-      ap (λ (commands : List Command). command ∷ commands)
+      ap (λ (others : List Command). command ∷ others)
       (lines-commands lines (earlier ++ Lane lane begun command ∷ []) period index base (AreBodies-rest header earlier (Lane lane begun command) lines h))
   lines-commands (Period next ∷ lines) earlier period index base h =
       let later : List Body = earlier ++ Period next ∷ [] in
@@ -91,7 +89,7 @@ module _ (header : Header) where
       let none : lane_calls lines ≡ [] = lane-none later lines all (fold_push segment_after None earlier (Period next)) in
       lines-commands lines later next index base all ∙ ap (λ calls. on_lanes calls ++ asked (uncounted index base (phases_of next lines))) none
 
-pub commands-on_lines : (script : Script) → IsScript script → filter_map command_on script.lines ≡ planned_commands script
+pub commands-on_lines : (script : Script) → IsScript script → filter_map command_on script.lines ≡ commands script
 commands-on_lines script is =
     lines-commands script.header script.lines [] script.header.period 0 0 is.lines
     ∙ ap (λ calls. on_lanes calls ++ asked (uncounted 0 0 (phases_of script.header.period script.lines))) (lane-none script.header [] script.lines is.lines refl)

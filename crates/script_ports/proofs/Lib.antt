@@ -1,2 +1,2 @@
 pub mod CallLemmas
-pub mod PortLemmas
+pub mod EdgeLemmas

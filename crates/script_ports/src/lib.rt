@@ -1,8 +1,8 @@
-//! The ports that a script registers.
+//! The ports that a script connects.
 #![tactic(auto)]
 
-mod ports;
+mod edges;
 #[cfg(test)]
 mod tests;
 
-pub use ports::registers_no_midi;
+pub use edges::connects_no_midi;

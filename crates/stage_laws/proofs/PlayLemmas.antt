@@ -1,6 +1,6 @@
 -- A stage whose clients were cast and whose wires are filled plays its plan.
 --     plays      what the crew leaves in the benches is the plan's cycle
-use Rattle.std.proofs.Common.{◌≡◌, ◌≢◌, ℕ, ◌≤◌, ◌<◌, ◌==◌, ◌⊎◌, inl, inr, List, [], length, find, Some, None, option_map, refl, sym, ◌∙◌, ap, subst, arith}
+use Rattle.std.proofs.Common.{◌≡◌, ◌≢◌, ℕ, ◌≤◌, ◌<◌, ◌==◌, ◌⊎◌, inl, inr, List, length, find, Some, None, option_map, refl, sym, ◌∙◌, ap, subst, arith}
 use Rattle.std.specs.Prelude.{ℤ, unwrap_or}
 use Rattle.std.specs.List.{Contains}
 use Rattle.std.proofs.lemmas.Bool.{cases_lt, eqb-true}
@@ -11,7 +11,7 @@ use Rattle.jack_types.specs.declared.moments.Moment.{Moment}
 use Rattle.session_model.specs.Activation.{given_to, sequential}
 use Rattle.session_model.specs.Benches.{Bench, IsReady, bench_after, bench_gives, node_at, task_of}
 use Rattle.session_model.specs.Courses.{Course}
-use Rattle.session_model.specs.Cycles.{Settled, midi_inputs, midi_outputs, player_born}
+use Rattle.session_model.specs.Cycles.{Settled, player_born}
 use Rattle.session_model.specs.Kinds.{first}
 use Rattle.session_model.specs.State.{OpenClient}
 use Rattle.port_registry.specs.Registered.{open_clients}
@@ -19,7 +19,6 @@ use Rattle.port_registry.proofs.PlaceLemmas.{find-none}
 use Rattle.cycle_plan.specs.Plans.{IsPlanned, Planned, state_of_plan}
 use Rattle.client_kinds.specs.Standings.{HasGuest, HasScore, Standing}
 use Rattle.client_benches.specs.Seen.{HasScores, Remembered as Kept, Seen, bench_in, kept_after, kept_gives}
-use Rattle.client_benches.proofs.ScoreLemmas.{sequential-scores}
 use Rattle.client_wiring.specs.Wirings.{wired_of}
 use Rattle.bench_rack.specs.Racks.{Racked, bench_at}
 use Rattle.client_seats.specs.Owners.{Owned, owner_at}
@@ -28,13 +27,16 @@ use Rattle.client_seats.proofs.MemoryLemmas.{found_past, memory-owned, owned_or_
 use Rattle.client_seats.proofs.PlaceLemmas.{open_within, within_open}
 use Rattle.client_tasks.specs.Tasks.{AreSet, IsSet}
 use Rattle.driver_laws.specs.Drivers.{Remembered}
+use Rattle.ready_laws.specs.Quiet.{quiet}
 use Rattle.ready_laws.specs.Sources.{HasSources}
 use Rattle.ready_laws.proofs.ReadyLemmas.{task-ready}
 use Rattle.task_laws.specs.Calls.{IsOldKind}
+use Rattle.task_laws.specs.Edges.{HasAudioEdges}
 use Rattle.task_laws.proofs.PlayingLemmas.{idle-kept}
-use Rattle.stage_laws.specs.Stages.{Staged, bench_of}
+use Rattle.stage_laws.specs.Stages.{Staged, bench_of, bench_on}
 use Rattle.stage_laws.specs.Casts.{Casts}
 use Rattle.stage_laws.specs.Plays.{IsSettledOn, PlaysPlan}
+use Rattle.stage_laws.proofs.QuietLemmas.{HasOldKind, sequential-quiet}
 
 some_is : {X : Type 0} {a b : X} → Some a ≡ Some b → a ≡ b
 some_is e = cc
@@ -67,7 +69,7 @@ nat_cases a b = cases_lt a b
 module _ (course : Course) (old : Staged) (last plan : Planned) (moment : Moment) (period : ℕ) (channels : List (List ℤ)) (at : Settled)
     (seating : IsSeating old.racked old.owned) (planned : IsPlanned plan) (settled : IsSettledOn old last plan moment period channels at)
     (cast : Staged) (casts : Casts old last plan moment period cast) (scores_are : course.scores ≡ old.owned.scores)
-    (no_inputs : (name : List ℕ) → midi_inputs at.graph name ≡ []) (no_outputs : (name : List ℕ) → midi_outputs at.graph name ≡ [])
+    (edges : HasAudioEdges at.graph)
     (filled played : Racked) (sources : ℕ → List ℤ)
     (has_sources : (n : ℕ) → n < length plan.nodes → HasSources at (open_clients plan.nodes) (wired_of plan).joints n sources)
     (set : AreSet (wired_of plan) plan.links moment period sources (length plan.nodes) filled)
@@ -82,8 +84,12 @@ module _ (course : Course) (old : Staged) (last plan : Planned) (moment : Moment
   abbrev scores : List Score
   scores = old.owned.scores
 
+  -- with the MIDI ports of the node's client
+  abbrev its_bench : ℕ → Kept → Bench
+  its_bench n kept = quiet at.graph (node_at nodes n).name (bench_in scores kept)
+
   abbrev before : ℕ → Bench
-  before n = bench_in scores (bench_at filled n).kept
+  before n = its_bench n (bench_at filled n).kept
 
   scores_of : (n : ℕ) → HasScores scores (bench_at filled n).kept
   scores_of n turn e = by_place (nat_cases n (length plan.nodes))
@@ -99,13 +105,20 @@ module _ (course : Course) (old : Staged) (last plan : Planned) (moment : Moment
   kind_is : (n : ℕ) → n < length plan.nodes → (bench_at filled n).kept.standing.kind ≡ (node_at nodes n).kind
   kind_is n h = ap (λ (s : Standing). s.kind) (same_standing n) ∙ (casts.has n h).kind
 
+  has_old_kind : (n : ℕ) → HasOldKind (bench_at filled n).kept
+  has_old_kind n turn e = by_place (nat_cases n (length plan.nodes))
+    where
+      by_place : (n < length plan.nodes) ⊎ (length plan.nodes ≤ n) → IsOldKind (bench_at filled n).kept.standing.kind
+      by_place (inl h) = subst IsOldKind (sym (kind_is n h)) (old_kinds n h)
+      by_place (inr h) = absurd (none_some (sym (idle n h) ∙ e))
+
   no_player : (n list : ℕ) → n < length plan.nodes → (node_at nodes n).kind ≢ Midiplay list
   no_player n list h e = subst (λ k. IsOldKind k) e (old_kinds n h)
 
   task_is : (n : ℕ) → n < length plan.nodes → (before n).task ≡ Some (task_of course at nodes plan.links n)
   task_is n h =
-      ap (λ s. (bench_in s (bench_at filled n).kept).task) (sym scores_are)
-      ∙ task-ready plan at n sources (bench_at filled n) course planned settled.graph no_inputs no_outputs h
+      ap (λ s. (quiet at.graph (node_at nodes n).name (bench_in s (bench_at filled n).kept)).task) (sym scores_are)
+      ∙ task-ready plan at n sources (bench_at filled n) course planned settled.graph edges h
       (subst (λ m. IsSet (wired_of plan) plan.links m at.frames sources n (bench_at filled n)) (sym settled.moment_is)
       (subst (λ f. IsSet (wired_of plan) plan.links moment f sources n (bench_at filled n)) (sym settled.frames) (set n h)))
       (has_sources n h) (kind_is n h) (λ list. no_player n list h)
@@ -138,8 +151,8 @@ module _ (course : Course) (old : Staged) (last plan : Planned) (moment : Moment
 
   -- ---- played
 
-  plays_of : (n : ℕ) → n < length plan.nodes → bench_in scores (bench_at played n).kept ≡ sequential bench_after bench_gives plan.links before n
-  plays_of n h = ap (bench_in scores) (played_is n (omega (arith, h, few))) ∙ sequential-scores scores plan.links (λ n. (bench_at filled n).kept) scores_of n
+  plays_of : (n : ℕ) → n < length plan.nodes → its_bench n (bench_at played n).kept ≡ sequential bench_after bench_gives plan.links before n
+  plays_of n h = ap (its_bench n) (played_is n (omega (arith, h, few))) ∙ sequential-quiet scores at.graph plan.links (λ n. (node_at nodes n).name) (λ n. (bench_at filled n).kept) scores_of has_old_kind n
 
   remembered : (n : ℕ) → n < length plan.nodes → memory_of played cast.owned (node_at nodes n).birth ≡ Some (bench_in scores (bench_at played n).kept).memory
   remembered n h = memory-owned played cast.owned after_seating n (node_at nodes n).birth (casts.has n h).owner
@@ -175,13 +188,16 @@ module _ (course : Course) (old : Staged) (last plan : Planned) (moment : Moment
   plays new rack owned = record {
     before = before;
     ready = ready;
-    played = λ n h. is_bench n ∙ plays_of n h;
+    played = λ n h. is_its_bench n ∙ plays_of n h;
     remembered = λ n h. memories (node_at nodes n).birth ∙ remembered n h ∙ sym (ap (λ (b : Bench). Some b.memory) (is_bench n));
     others = λ birth none. memories birth ∙ others birth none;
   }
     where
       is_bench : (n : ℕ) → bench_of new n ≡ bench_in scores (bench_at played n).kept
       is_bench n = ap (λ s. bench_in s (bench_at new.racked n).kept) (ap (λ (o : Owned). o.scores) owned ∙ casts.scores) ∙ ap (λ (r : Racked). bench_in scores (bench_at r n).kept) rack
+
+      is_its_bench : (n : ℕ) → bench_on plan new n ≡ its_bench n (bench_at played n).kept
+      is_its_bench n = ap (λ state. quiet state (node_at nodes n).name (bench_of new n)) (sym settled.graph) ∙ ap (quiet at.graph (node_at nodes n).name) (is_bench n)
 
       memories : (birth : ℕ) → memory_of new.racked new.owned birth ≡ memory_of played cast.owned birth
       memories birth = ap (λ (o : Owned). memory_of new.racked o birth) owned ∙ ap (λ (r : Racked). memory_of r cast.owned birth) rack

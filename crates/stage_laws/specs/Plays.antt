@@ -12,7 +12,7 @@ use Rattle.session_model.specs.Kinds.{first}
 use Rattle.port_registry.specs.Registered.{open_clients}
 use Rattle.cycle_plan.specs.Plans.{Planned, state_of_plan}
 use Rattle.client_seats.specs.Seatings.{memory_of}
-use Rattle.stage_laws.specs.Stages.{Staged, bench_of}
+use Rattle.stage_laws.specs.Stages.{Staged, bench_of, bench_on}
 
 -- the plan's graph, the moment and the period; captured channels; what feedback edges give of the last cycle's outputs; each client's own memory, or the first of its kind
 pub record IsSettledOn (old : Staged) (last plan : Planned) (moment : Moment) (period : ℕ) (channels : List (List ℤ)) (at : Settled) : Type 0 where
@@ -31,6 +31,6 @@ pub record IsSettledOn (old : Staged) (last plan : Planned) (moment : Moment) (p
 pub record PlaysPlan (course : Course) (old : Staged) (plan : Planned) (at : Settled) (new : Staged) : Type 0 where
   pub before : ℕ → Bench
   pub ready : IsReady course at (open_clients plan.nodes) plan.links before
-  pub played : (n : ℕ) → n < length plan.nodes → bench_of new n ≡ sequential bench_after bench_gives plan.links before n
+  pub played : (n : ℕ) → n < length plan.nodes → bench_on plan new n ≡ sequential bench_after bench_gives plan.links before n
   pub remembered : (n : ℕ) → n < length plan.nodes → memory_of new.racked new.owned (node_at (open_clients plan.nodes) n).birth ≡ Some (bench_of new n).memory
   pub others : (birth : ℕ) → player_born (state_of_plan plan) birth ≡ None → memory_of new.racked new.owned birth ≡ memory_of old.racked old.owned birth

@@ -1,8 +1,10 @@
--- What holds of all commands of a script holds of all its planned calls, and of all changes that are of its calls.
+-- What holds of all commands of a script holds of all its planned calls, of all changes that are of its calls, and, step by step, behind these.
 --     planned-all      from the lines to the planned calls
 --     changes-all      from the planned calls to the changes
+--     changes-called      each change's command is one of the script's
 --     planned-lawful      the commands of a lawful script are in their ranges
-use Rattle.std.proofs.Common.{◌≡◌, ℕ, suc, ◌+◌, ◌*◌, List, [], ◌∷◌, ◌++◌, map, filter_map, take, slice_get, All, Contains, Option, Some, None, refl, subst}
+--     replay-keeps      what each accepted command keeps holds behind all changes
+use Rattle.std.proofs.Common.{◌≡◌, ℕ, suc, ◌+◌, ◌*◌, Bool, true, false, cond, List, [], ◌∷◌, ◌++◌, map, filter_map, take, slice_get, Contains, Option, Some, None, is_none, refl, subst}
 use Rattle.std.specs.List.{cons_option}
 use Rattle.std.proofs.lemmas.List.Elements.{All-contains}
 use Rattle.jack_types.specs.declared.commands.Call.{Call}
@@ -10,15 +12,15 @@ use Rattle.jack_types.specs.declared.commands.Change.{Change}
 use Rattle.jack_types.specs.declared.commands.Command.{Command}
 use Rattle.jack_types.specs.declared.scripts.Body.{Body}
 use Rattle.jack_types.specs.declared.scripts.Body.TheVariants.{Do, Run, Freewheel, Lane, Period}
+use Rattle.session_model.specs.Commands.{after, effect, refusal, replay}
 use Rattle.session_model.specs.Grammar.{IsScript, IsBody, IsCommand}
 use Rattle.session_model.specs.Scripts.{Script, Phase, LaneCall, Planned, Uncounted, phases, phases_of, planned, uncounted, lane_calls, with_do}
+use Rattle.session_model.specs.State.{State}
 use Rattle.session_laws.proofs.ListLemmas.{Each, Each-append, Each-contains, Each-from_contains, Each-map, Each-unmap}
 use Rattle.session_laws.proofs.SerialCallsLemmas.{Each-counted, dos_of, calls_at}
-use Rattle.session_laws.proofs.SoundLemmas.{contains-map}
+use Rattle.session_laws.proofs.SoundLemmas.{contains-map, map-contains}
 use Rattle.driver_laws.specs.Keeping.{AreOfCalls}
-
-pub each-all : {X : Type 0} (P : X → Type 0) (xs : List X) → All P xs → Each P xs
-each-all P xs h = Each-from_contains P xs (λ x m. All-contains P xs x h m)
+use Rattle.task_laws.specs.Calls.{commands}
 
 each-at : {X : Type 0} (P : X → Type 0) (xs : List X) → ((i : ℕ) (x : X) → slice_get xs i ≡ Some x → P x) → Each P xs
 each-at P [] h = tt
@@ -75,6 +77,10 @@ module _ (P : Command → Type 0) where
           let w = contains-map (λ (plan : Planned). plan.call) (planned script) call m in
           subst (λ (c : Call). P c.command) w.2 (Each-contains (λ (plan : Planned). P plan.call.command) (planned script) w.0 h w.1)
 
+pub changes-called : (script : Script) (changes : List Change) → AreOfCalls script changes → Each (λ (change : Change). Contains (commands script) change.command) changes
+changes-called script changes of = changes-all (Contains (commands script)) script changes of
+    (Each-from_contains (λ (plan : Planned). Contains (commands script) plan.call.command) (planned script) (λ plan m. map-contains (λ (p : Planned). p.call.command) (planned script) plan m))
+
 pub planned-lawful : (script : Script) → IsScript script → Each (λ (plan : Planned). IsCommand script.header plan.call.command) (planned script)
 planned-lawful script is = planned-all (IsCommand script.header) script (each-at (BodyHas (IsCommand script.header)) script.lines (λ i body e. one (take i script.lines) body (is.lines i body e)))
   where
@@ -92,3 +98,13 @@ each-filter_map {X} {Y} P f (x ∷ xs) h = go (f x) h.0 (each-filter_map P f xs 
     go : (o : Option Y) → ((y : Y) → o ≡ Some y → P y) → Each P (filter_map f xs) → Each P (cons_option o (filter_map f xs))
     go None here rest = rest
     go (Some y) here rest = (here y refl, rest)
+
+module _ (P : State → Type 0) (Asks : Command → Type 0)
+    (step : (state : State) (number : ℕ) (command : Command) → Asks command → is_none (refusal state command) ≡ true → P state → P (effect state number command)) where
+  pub replay-keeps : (changes : List Change) (state : State) → Each (λ (change : Change). Asks change.command) changes → P state → P (replay state changes)
+  replay-keeps [] state asked h = h
+  replay-keeps (change ∷ changes) state asked h = replay-keeps changes (after state change.number change.command) asked.1 (go (is_none (refusal state change.command)) refl)
+    where
+      go : (b : Bool) → is_none (refusal state change.command) ≡ b → P (cond b (effect state change.number change.command) state)
+      go true e = step state change.number change.command asked.0 e h
+      go false e = h

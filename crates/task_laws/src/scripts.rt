@@ -7,20 +7,20 @@ ghost use Rattle.jack_types.specs.declared.kinds.Kind.{Kind as KindValue};
 ghost use Rattle.jack_types.specs.declared.kinds.Kind.TheVariants.{Guest};
 ghost use Rattle.graph_word.specs.Publications.{IsFront};
 ghost use Rattle.session_model.specs.Commands.{replay};
-ghost use Rattle.session_model.specs.Cycles.{midi_inputs, midi_outputs};
 ghost use Rattle.session_model.specs.Grammar.{IsScript};
 ghost use Rattle.session_model.specs.Scripts.{Script};
 ghost use Rattle.session_model.specs.State.{OpenClient, is_system, opening};
 ghost use Rattle.client_kinds.specs.Standings.{IsPlayable};
 ghost use Rattle.driver_laws.specs.Keeping.{AreOfCalls};
-ghost use Rattle.task_laws.specs.Calls.{AreOwners, HasNoMidi, HasOpened, IsOldKind, guests_needed, open_kinds, opens};
+ghost use Rattle.task_laws.specs.Calls.{AreOwners, HasNoMidiEdge, HasOpened, IsOldKind, guests_needed, open_kinds, opens};
+ghost use Rattle.task_laws.specs.Edges.{HasAudioEdges};
 
-/// A script before version 3 opens no client of the kinds of version 3; where it registers no MIDI port, there is none.
+/// A script before version 3 opens no client of the kinds of version 3; where it connects no MIDI ports, each connection
+/// carries audio.
 pub fn old_scripts_are_plain()
     ensures kinds { (script : Script) (changes : List ChangeValue) (capture playback : ℕ) → IsScript script → script.header.version < 3 → AreOfCalls script changes
         → (client : OpenClient) → Contains (replay (opening capture playback) changes).clients client → IsOldKind client.kind }
-    ensures inputs { (script : Script) (changes : List ChangeValue) (capture playback : ℕ) (name : List ℕ) → HasNoMidi script → AreOfCalls script changes → midi_inputs (replay (opening capture playback) changes) name ≡ [] }
-    ensures outputs { (script : Script) (changes : List ChangeValue) (capture playback : ℕ) (name : List ℕ) → HasNoMidi script → AreOfCalls script changes → midi_outputs (replay (opening capture playback) changes) name ≡ [] }
+    ensures edges { (script : Script) (changes : List ChangeValue) (capture playback : ℕ) → HasNoMidiEdge script → AreOfCalls script changes → HasAudioEdges (replay (opening capture playback) changes) }
 {}
 
 /// The numbers of the kinds that a script opens are in range, and its guests are among those that it needs.

@@ -1,4 +1,4 @@
-use Rattle.std.proofs.Common.{◌≡◌, ◌<◌, ◌≤◌, ℕ, None, length, slice_index_or}
+use Rattle.std.proofs.Common.{◌≡◌, ◌<◌, ℕ, None, length, slice_index_or}
 use Rattle.std.specs.Vec.{vec_capacity}
 use Rattle.client_stage.proofs.turning.forget.Given as goal
 

@@ -1,12 +1,9 @@
-use Rattle.std.proofs.Common.{◌≡◌, ℕ, ◌<◌, ◌≤◌, List, length, true, refl, sym, ◌∙◌, ap, subst, arith}
+use Rattle.std.proofs.Common.{◌≡◌, ℕ, ◌≤◌, length, refl, sym, ◌∙◌, ap, subst, arith}
 use Rattle.std.specs.Prelude.{map}
 use Rattle.std.specs.List.Sorted.{IsPermutation}
 use Rattle.std.proofs.lemmas.List.{length-map}
 use Rattle.std.proofs.lemmas.List.Sorted.{IsPermutation-refl}
-use Rattle.jack_types.specs.declared.ports.Client.{Client}
 use Rattle.port_registry.specs.Registered.{open_client}
-use Rattle.cycle_plan.specs.Plans.{Planned}
-use Rattle.client_wiring.specs.Keeping.{GoesOn}
 use Rattle.client_wiring.specs.Wirings.{Wired, wired_of}
 use Rattle.bench_rack.specs.Racks.{Racked}
 use Rattle.client_tasks.specs.Fillings.{last_place}
@@ -14,10 +11,8 @@ use Rattle.client_seats.specs.Moves.{kinds_of}
 use Rattle.client_seats.specs.Seatings.{HavePeriod, standing_at}
 use Rattle.owner_laws.specs.Known.{AreKnown}
 use Rattle.stage_laws.specs.Casts.{Casts, GoesOnIn}
-use Rattle.stage_laws.specs.Stages.{Staged}
 use Rattle.stage_laws.proofs.GoingLemmas.{same-nodes}
 use Rattle.client_stage.specs.Insides.{staged_by}
-use Rattle.client_stage.specs.Standing.{StandsOn}
 use Rattle.client_stage.proofs.CastLemmas.{kinds-same}
 use Rattle.client_stage.proofs.TurnLemmas.{links-fit, may-go-on, moved-standings, nodes-staffed, same-changes, stands-anew, stands-on, stands-still}
 use Rattle.client_stage.proofs.turning.turn_to.Goals as goal

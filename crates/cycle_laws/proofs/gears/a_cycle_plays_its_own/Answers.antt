@@ -1,3 +1,4 @@
+use Rattle.std.proofs.Common.{◌≡◌, true}
 use Rattle.driver_laws.specs.Drivers.{content_now}
 use Rattle.driver_laws.specs.Cycling.{StepsOnce}
 use Rattle.driver_laws.specs.Keeping.{AreOfCalls}
@@ -11,15 +12,16 @@ returns c freewheel before after plan moment is may turns left course fits keeps
     let steps : StepsOnce (driver_of before) (driver_of after) = c.a_cycle_is_a_step.ensures freewheel before after plan moment is may turns in
     let of : AreOfCalls before.script (content_now (driver_of after)) = c.content_is_of_calls.ensures (driver_of before) (driver_of after) course steps fits in
     let of_plan : AreOfCalls before.script plan.changes = calls-now is may turns steps of in
-    plays-own is may turns steps of left
+    let staffed : after.stage.staged.is_staffed ≡ true =
+    c.all_have_their_benches.ensures after (c.a_cycle_leaves_the_parts.ensures freewheel before after plan moment is may turns) (calls-behind is may turns steps of) in
+    plays-own is may turns steps of left staffed
     (c.calls_have_targets.ensures.adopted before.script plan.changes (last_number (driver_of before)) is.served.lawful of_plan)
     (plays-now is may turns steps of left told
     c.a_period_is_what_the_capture_has.ensures.as_many
     c.a_period_is_what_the_capture_has.ensures.read
     c.a_period_is_what_the_capture_has.ensures.rest
     c.the_device_has_its_ports.ensures.capture
-    (λ capture playback name. c.old_scripts_are_plain.ensures.inputs before.script (content_now (driver_of after)) capture playback name is.served.no_midi of)
-    (λ capture playback name. c.old_scripts_are_plain.ensures.outputs before.script (content_now (driver_of after)) capture playback name is.served.no_midi of)
+    (λ capture playback. c.old_scripts_are_plain.ensures.edges before.script (content_now (driver_of after)) capture playback is.served.no_midi_edge of)
     (λ capture playback client member. c.old_scripts_are_plain.ensures.kinds before.script plan.changes capture playback is.served.lawful is.served.version of_plan client member)
     (c.all_have_their_benches.ensures before is (calls-last is may turns steps of))
-    (c.all_have_their_benches.ensures after (c.a_cycle_leaves_the_parts.ensures freewheel before after plan moment is may turns) (calls-behind is may turns steps of)))
+    staffed)

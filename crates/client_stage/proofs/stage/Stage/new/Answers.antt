@@ -1,10 +1,10 @@
-use Rattle.std.proofs.Common.{◌≡◌, ℕ, ◌≤◌, length, map, true, None, refl, sym, ◌∙◌, ap, subst}
-use Rattle.client_benches.specs.Seen.{Seen, new_bench}
+use Rattle.std.proofs.Common.{◌≡◌, ℕ, length, map, true, None, refl, sym, ◌∙◌, ap, subst}
+use Rattle.client_benches.specs.Seen.{new_bench}
 use Rattle.bench_rack.specs.Racks.{Racked}
 use Rattle.client_seats.specs.Owners.{Owned, owner_at}
 use Rattle.client_seats.specs.Seatings.{IsSeating}
 use Rattle.owner_laws.specs.Known.{AreKnown}
-use Rattle.client_stage.specs.Insides.{plan_in, staged_by}
+use Rattle.client_stage.specs.Insides.{staged_by}
 use Rattle.client_stage.specs.Standing.{EnoughLinks, StandsOn}
 use Rattle.client_stage.proofs.InsideLemmas.{plan-noted, whole}
 use Rattle.client_stage.proofs.OpeningLemmas.{all-the-same, stands-new}
