@@ -1,0 +1,80 @@
+//! A recorder with a ring of two blocks: its script in pieces, its capture, and runs in which each block is drained.
+
+ghost use Rattle.std.specs.Prelude.{◌≡◌, IfOk};
+ghost use Rattle.jack_host.specs.MemoryHost.{host_lent};
+
+use crate::building::{host_with, text, wave};
+use crate::running::{Played, RECORD, run};
+use jack_host::{MemoryHost, MemorySink};
+use jack_types::Format;
+use std::alloc::Global;
+use std::test::Fail;
+use std::thread::Threads;
+
+/// 8,000 frames a second of one channel, in 16 bits.
+pub const FORMAT: Format = Format {
+    rate: 8000,
+    channels: 1,
+    bits: 16,
+};
+
+/// The header without its version and its optional lines.
+pub const DEVICE: &str = "\
+rate 8000
+period 4
+capture 1
+playback 1 16
+mode serial
+";
+
+/// The header's optional lines, with a ring that is not drained before the end.
+pub const RING: &str = "\
+ring 2
+drain 0
+recorder 1 16
+";
+
+/// The header's optional lines, with a ring that is drained in each cycle.
+pub const DRAINED_RING: &str = "\
+ring 2
+drain 64
+recorder 1 16
+";
+
+/// The calls, by which the recorder gets the capture.
+pub const CALLS: &str = "\
+do open tape record 0
+do register tape:in in audio
+do activate tape
+do connect system:capture_1 tape:in
+";
+
+/// The samples of the capture.
+pub const SAMPLES: [i32; 20] = [
+    1, 2, 3, 4, 5, 6, 7, 8, 9, 10, 11, 12, 13, 14, 15, 16, 17, 18, 19, 20,
+];
+
+/// A host with the script that drains its ring and the capture.
+pub fn drained_host(alloc: Global) -> Result<MemoryHost, Fail>
+    ensures { IfOk result (λ host. host_lent host ≡ 0) }
+{
+    let script = text(
+        alloc,
+        &["jackd 1\n", DEVICE, DRAINED_RING, CALLS, "run 5\n"],
+    )?;
+    host_with(alloc, script.as_bytes(), &wave(alloc, FORMAT, &SAMPLES)?)
+}
+
+/// Plays what a host has, with one recorder.
+pub fn play_over<R: Threads + Sync + AllocGlobal>(
+    rt: &R,
+    host: MemoryHost,
+    out: MemorySink,
+) -> Result<Played, Fail>
+    requires { host_lent host ≡ 0 }
+{
+    let mut host = host;
+    let mut out = out;
+    let status = run(rt, &RECORD, &mut host, &mut out, Vec::new(rt.alloc()))?;
+    Ok(Played { status, host, out })
+}
