@@ -1,16 +1,22 @@
 -- The parts of an input, and their mix.
 --     parts-more, parts-other      one more wire, into this input or into another
 --     sums-padded      a part counts as far as there are frames
-use Rattle.std.proofs.Common.{◌≡◌, ℕ, ◌+◌, ◌<◌, ◌==◌, Bool, true, false, List, [], ◌∷◌, ◌++◌, length, map, filter, take, get_or, ℤ, sym, ◌∙◌, ap, subst, add-one}
-use Rattle.std.specs.Prelude.{if◌then◌else◌}
+--     mix-alone      a part that is mixed alone is copied
+--     IsOnly, only-one, only-mixed, two-pass      the part of an input that gets no more than one
+use Rattle.std.proofs.Common.{◌≡◌, ℕ, ◌+◌, ◌<◌, ◌==◌, Bool, true, false, List, [], ◌∷◌, ◌++◌, length, map, filter, take, drop, get_or, ℤ, pos, negsuc, ◌+ℤ◌, Bor, Option, Some, None, true≢false, sym, ◌∙◌, ap, subst, arith, add-one}
+use Rattle.std.specs.Int.{w32}
+use Rattle.std.specs.Prelude.{FitsSigned, MatchOption, if◌then◌else◌, is_some, unwrap_or}
+use Rattle.std.proofs.lemmas.Int.{ints}
+use Rattle.std.proofs.lemmas.List.{ext_get_or, length-append, take-append-drop}
+use Rattle.std.proofs.lemmas.List.Elements.{filter-append}
 use Rattle.std.proofs.Math.Seq.{take-suc}
 use Rattle.session_model.specs.Benches.{Part, Signal, audio_part}
 use Rattle.session_model.specs.Samples.{clamp, mix, sample, total}
-use Rattle.session_laws.proofs.ActivationLemmas.{length-map_below}
+use Rattle.session_laws.proofs.ActivationLemmas.{get_or-map_below, length-map_below}
 use Rattle.client_benches.specs.declared.wires.Wire.{Wire}
 use Rattle.client_benches.specs.Wires.{part_of, parts_into}
 use Rattle.client_benches.proofs.SliceLemmas.{map_below-same, map_more}
-use Rattle.port_mixer.specs.Sums.{sums_of}
+use Rattle.port_mixer.specs.Sums.{AreSamples, sums_of}
 
 pub take-next : {X : Type 0} (xs : List X) (i : ℕ) (d : X) → i < length xs → take (i + 1) xs ≡ take i xs ++ get_or xs i d ∷ []
 take-next xs i d low = ap (λ n. take n xs) (add-one i) ∙ take-suc xs i d low
@@ -79,3 +85,42 @@ module _ (given : List (List Signal)) (wires : List Wire) (i : ℕ) (d : Wire) (
 
 pub length-mix : (frames : ℕ) (parts : List (List ℤ)) → length (mix frames parts) ≡ frames
 length-mix frames parts = length-map_below (λ i. clamp (total (map (λ part. sample part i) parts))) frames
+
+-- a sample is its own clamp
+clamp-sample : (x : ℤ) → FitsSigned w32 x → clamp (pos 0 +ℤ x) ≡ x
+clamp-sample (pos n) fits = grind (arith, ints)
+clamp-sample (negsuc n) fits = grind (arith, ints)
+
+-- the mix of a part alone is the part, with silence behind its end
+pub mix-alone : (frames : ℕ) (samples part : List ℤ) → length samples ≡ frames → ((k : ℕ) → k < frames → sample samples k ≡ sample part k) → AreSamples part → samples ≡ mix frames (part ∷ [])
+mix-alone frames samples part long same small =
+    ext_get_or (pos 0) samples (mix frames (part ∷ [])) (long ∙ sym (length-mix frames (part ∷ [])))
+    (λ k h. same k (omega (arith, h, long)) ∙ sym (clamp-sample (sample part k) (small k))
+    ∙ sym (get_or-map_below (λ i. clamp (total (map (λ part. sample part i) (part ∷ [])))) frames k (pos 0) (omega (arith, h, long))))
+
+-- the only one of these parts, where there is one at all
+abbrev pub IsOnly : Option (Bor (List ℤ)) → List (List ℤ) → Type 0
+IsOnly only parts = MatchOption only (parts ≡ []) (λ part. parts ≡ part.now ∷ [])
+
+pub only-one : (only : Option (Bor (List ℤ))) (parts : List (List ℤ)) → true ≡ is_some only → IsOnly only parts → length parts ≡ 1
+only-one None parts there is = absurd (true≢false there)
+only-one (Some part) parts there is = ap length is
+
+-- it is mixed as all of them; no part is mixed as one of no samples
+pub only-mixed : (only : Option (Bor (List ℤ))) (parts : List (List ℤ)) (none result : Bor (List ℤ)) → none.now ≡ [] → result ≡ unwrap_or only none → IsOnly only parts
+    → (frames : ℕ) → mix frames parts ≡ mix frames (result.now ∷ [])
+only-mixed None parts none result empty is only frames = ap (mix frames) only ∙ ap (λ (part : List ℤ). mix frames (part ∷ [])) (sym empty) ∙ ap (λ (part : Bor (List ℤ)). mix frames (part.now ∷ [])) (sym is)
+only-mixed (Some part) parts none result empty is only frames = ap (mix frames) only ∙ ap (λ (part : Bor (List ℤ)). mix frames (part.now ∷ [])) (sym is)
+
+-- two items pass where one does before another
+pub two-pass : {X : Type 0} (test : X → Bool) (xs : List X) (i : ℕ) (d : X) → i < length xs → test (get_or xs i d) ≡ true → length (filter test (take i xs)) ≡ 1 → 1 < length (filter test xs)
+two-pass {X = X} test xs i d low on one =
+    omega (
+      arith,
+      one,
+      length-append (filter test (take i xs)) (get_or xs i d ∷ []),
+      ap length (filter-more test (take i xs) (get_or xs i d) on),
+      ap (λ (ys : List X). length (filter test ys)) (take-next xs i d low),
+      ap length (ap (filter test) (sym (take-append-drop (i + 1) xs)) ∙ filter-append test (take (i + 1) xs) (drop (i + 1) xs)),
+      length-append (filter test (take (i + 1) xs)) (filter test (drop (i + 1) xs)),
+    )

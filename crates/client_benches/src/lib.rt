@@ -19,7 +19,7 @@ mod wires;
 pub use benches::{BenchMemory, ClientBench, Turn};
 pub use known::Room;
 pub use laws::{crew_plays_by_all_scores, plays_by_all_scores};
-pub use mixing::add_part;
+pub use mixing::{add_part, copy_part};
 pub use values::{Rooms, Route};
 pub use wires::{Source, Wire};
 

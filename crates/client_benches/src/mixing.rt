@@ -1,10 +1,10 @@
 //! The mix of an input.
 
-ghost use Rattle.std.specs.Prelude.{◌≡◌, ℕ, ◌+◌, ◌*◌, ◌<◌, ◌≤◌, ◌++◌, ◌∷◌, [], ℤ, List, All, IsSome, length, map};
+ghost use Rattle.std.specs.Prelude.{◌≡◌, ℕ, ◌+◌, ◌*◌, ◌<◌, ◌≤◌, ◌++◌, ◌∷◌, [], ℤ, List, All, IsSome, MatchOption, length, map};
 ghost use Rattle.activation.specs.Values.{values_of};
 ghost use Rattle.session_model.specs.Benches.{audio_part};
 ghost use Rattle.session_model.specs.Samples.{mix, sample};
-ghost use Rattle.port_mixer.specs.Sums.{sums_of};
+ghost use Rattle.port_mixer.specs.Sums.{AreSamples, sums_of};
 ghost use Rattle.client_kinds.specs.Buffers.{buffers_of, with_buffer};
 ghost use Rattle.client_benches.specs.Wires.{inputs_of, parts_into};
 
@@ -13,14 +13,26 @@ use crate::wires::Wire;
 use client_kinds::Shape;
 use port_mixer::Mixer;
 
-/// Copies a part, with silence behind its end.
-fn pad(padded: &mut [i32], part: &[i32])
-    ensures length { length padded.new ≡ length padded.old }
-    ensures samples { (k : ℕ) → k < length padded.old → sample padded.new k ≡ sample part.now k }
+/// Sees that each sample is a number of 32 bits. Nothing else is done, and nothing is left of it in
+/// the program.
+fn see_samples(part: &[i32])
+    ensures { AreSamples part.now }
 {
-    let whole = part.len().min(padded.len());
-    padded[..whole].copy_from_slice(&part[..whole]);
-    padded[whole..].fill(0);
+    for sample in part {
+        let _seen = *sample;
+    }
+}
+
+/// Copies a part of any length in the place of a mix of it alone: what it lacks is silence, and what lies behind the last
+/// frame is not heard.
+pub fn copy_part(out: &mut [i32], part: &[i32])
+    ensures mixed { out.new ≡ mix (length out.old) (part.now ∷ []) }
+    ensures samples { (k : ℕ) → k < length out.old → sample out.new k ≡ sample part.now k }
+{
+    see_samples(part);
+    let whole = part.len().min(out.len());
+    out[..whole].copy_from_slice(&part[..whole]);
+    out[whole..].fill(0);
 }
 
 /// Adds a part of any length: what it lacks is silence, and what lies behind the last frame is not heard.
@@ -37,13 +49,33 @@ pub fn add_part(mixer: &mut Mixer, padded: &mut [i32], part: &[i32])
     if part.len() == padded.len() {
         mixer.add(part);
     } else {
-        pad(padded, part);
+        copy_part(padded, part);
         mixer.add(padded);
     }
 }
 
-/// Mixes an input from its wires.
-fn mix_input(
+/// The part of an input that gets no more than one, a part of no samples where it gets none.
+///
+/// No wire behind the second into this input is looked at.
+fn only_part<'a>(wires: &'a [Wire], given: &'a [Option<Rooms>], input: u16) -> Option<&'a [i32]>
+    requires { All IsSome given.now }
+    ensures { MatchOption result (1 < length (parts_into wires.now input)) (λ part. (frames : ℕ) → mix frames (map (audio_part (values_of given.now)) (parts_into wires.now input)) ≡ mix frames (part.now ∷ [])) }
+{
+    let mut only: Option<&[i32]> = None;
+    for wire in wires {
+        if wire.input != input {
+            continue;
+        }
+        if only.is_some() {
+            return None;
+        }
+        only = Some(wire.part(given));
+    }
+    Some(only.unwrap_or(&[]))
+}
+
+/// Mixes an input by the sums of its parts.
+fn mix_parts(
     mixer: &mut Mixer,
     padded: &mut [i32],
     wires: &[Wire],
@@ -66,6 +98,29 @@ fn mix_input(
         }
     }
     mixer.settle(out);
+}
+
+/// Mixes an input from its wires.
+fn mix_input(
+    mixer: &mut Mixer,
+    padded: &mut [i32],
+    wires: &[Wire],
+    given: &[Option<Rooms>],
+    input: u16,
+    out: &mut [i32],
+)
+    requires given { All IsSome given.now }
+    requires few { length wires.now ≤ 512 }
+    requires room { length out.old ≤ mixer.old.room }
+    requires frames { (length padded.old ≡ length out.old) × (length out.old ≤ 4096) }
+    ensures mixed { out.new ≡ mix (length out.old) (map (audio_part (values_of given.now)) (parts_into wires.now input)) }
+    ensures room { mixer.new.room ≡ mixer.old.room }
+    ensures frames { length padded.new ≡ length padded.old }
+{
+    match only_part(wires, given, input) {
+        Some(part) => copy_part(out, part),
+        None => mix_parts(mixer, padded, wires, given, input, out),
+    }
 }
 
 /// Mixes an input into its place among planar buffers.

@@ -1,19 +1,43 @@
 //! The channels of the playback.
 
-ghost use Rattle.std.specs.Prelude.{◌≡◌, ◌*◌, ◌<◌, ◌≤◌, length, map, take};
-ghost use Rattle.session_model.specs.Samples.{below, interleaved};
-ghost use Rattle.playback_mix.specs.Mixes.{channel_mix};
+ghost use Rattle.std.specs.Prelude.{◌≡◌, ℕ, ◌*◌, ◌<◌, ◌≤◌, ◌∷◌, [], MatchOption, length, map, take};
+ghost use Rattle.session_model.specs.Samples.{below, interleaved, mix};
+ghost use Rattle.playback_mix.specs.Mixes.{channel_mix, sounds_on};
 
 use crate::sounds::samples_of;
-use client_benches::{ClientBench, add_part};
+use client_benches::{ClientBench, add_part, copy_part};
 use client_kinds::Guest;
 use client_wiring::Heard;
 use device_periods::{Capture, lay_channel};
 use jack_host::Source;
 use port_mixer::Mixer;
 
-/// Mixes a channel from what its connections bring.
-fn mix_channel<G: Guest, S: Source>(
+/// The samples of a channel that gets no more than one sound, no samples where it gets none.
+///
+/// No connection behind the second into this channel is looked at.
+fn only_sound<'a, G: Guest, S: Source>(
+    benches: &'a [ClientBench<G>],
+    heard: &[Heard],
+    capture: &'a Capture<S>,
+    channel: usize,
+) -> Option<&'a [i32]>
+    ensures { MatchOption result (1 < length (sounds_on heard.now channel)) (λ samples. (frames : ℕ) → channel_mix frames benches.now capture.now.channels heard.now channel ≡ mix frames (samples.now ∷ [])) }
+{
+    let mut only: Option<&[i32]> = None;
+    for one in heard {
+        if one.channel != channel {
+            continue;
+        }
+        if only.is_some() {
+            return None;
+        }
+        only = Some(samples_of(one.sound, benches, capture));
+    }
+    Some(only.unwrap_or(&[]))
+}
+
+/// Mixes a channel by the sums of what its connections bring.
+fn mix_sounds<G: Guest, S: Source>(
     mixer: &mut Mixer,
     padded: &mut [i32],
     benches: &[ClientBench<G>],
@@ -36,6 +60,29 @@ fn mix_channel<G: Guest, S: Source>(
         }
     }
     mixer.settle(out);
+}
+
+/// Mixes a channel from what its connections bring.
+fn mix_channel<G: Guest, S: Source>(
+    mixer: &mut Mixer,
+    padded: &mut [i32],
+    benches: &[ClientBench<G>],
+    heard: &[Heard],
+    capture: &Capture<S>,
+    channel: usize,
+    out: &mut [i32],
+)
+    requires few { length heard.now ≤ 512 }
+    requires room { length out.old ≤ mixer.old.room }
+    requires frames { (length padded.old ≡ length out.old) × (length out.old ≤ 4096) }
+    ensures mixed { out.new ≡ channel_mix (length out.old) benches.now capture.now.channels heard.now channel }
+    ensures room { mixer.new.room ≡ mixer.old.room }
+    ensures frames { length padded.new ≡ length padded.old }
+{
+    match only_sound(benches, heard, capture, channel) {
+        Some(samples) => copy_part(out, samples),
+        None => mix_sounds(mixer, padded, benches, heard, capture, channel, out),
+    }
 }
 
 /// Mixes all channels, one after the other, into a block of as many frames as a channel has.

@@ -4,5 +4,5 @@ use Rattle.client_benches.proofs.mixing.add_part.Goals as goal
 
 pub returns-else-part-padded-clause-parts : goal.returns-else-part-padded-clause-parts
 returns-else-part-padded-clause-parts c = added-padded
-    (length c.args.padded.now) c.args.mixer.now.sums c.add-else-part-padded.new.self.sums c.pad.new.padded c.args.part.now
-    c.pad.ensures.length c.pad.ensures.samples c.add-else-part-padded.ensures.parts
+    (length c.args.padded.now) c.args.mixer.now.sums c.add-else-part-padded.new.self.sums c.copy_part.new.out c.args.part.now
+    c.copy_part.auto.out c.copy_part.ensures.samples c.add-else-part-padded.ensures.parts

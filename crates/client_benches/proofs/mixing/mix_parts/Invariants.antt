@@ -3,7 +3,7 @@ use Rattle.port_mixer.specs.Sums.{sums_of}
 use Rattle.session_model.specs.Benches.{audio_part}
 use Rattle.activation.specs.Values.{values_of}
 use Rattle.client_benches.specs.Wires.{parts_into}
-use Rattle.client_benches.proofs.mixing.mix_input.Given as goal
+use Rattle.client_benches.proofs.mixing.mix_parts.Given as goal
 
 abbrev pub invariant-loop-wire : goal.invariant-loop-wire
 invariant-loop-wire l = record {

@@ -5,8 +5,8 @@ use Rattle.client_wiring.specs.declared.joints.Sound.TheVariants.{Played}
 use Rattle.client_benches.proofs.PartLemmas.{length_sums}
 use Rattle.playback_mix.specs.Mixes.{sound_in, sounds_on}
 use Rattle.playback_mix.proofs.SoundLemmas.{sums-heard, sums-unheard, sums-whole}
-use Rattle.playback_mix.proofs.channels.mix_channel.Goals as goal
-use Rattle.playback_mix.proofs.channels.mix_channel.Goals.{then-one-channel, else-one-channel}
+use Rattle.playback_mix.proofs.channels.mix_sounds.Goals as goal
+use Rattle.playback_mix.proofs.channels.mix_sounds.Goals.{then-one-channel, else-one-channel}
 
 pub add_part-requires-clause-frames : goal.add_part-requires-clause-frames
 add_part-requires-clause-frames g c = length_sums (length c.loop-one.padded) c.loop-one.mixer.sums

@@ -1,7 +1,7 @@
 use Rattle.std.proofs.Common.{◌≡◌, ◌≤◌, take, length, map}
 use Rattle.port_mixer.specs.Sums.{sums_of}
 use Rattle.playback_mix.specs.Mixes.{sound_in, sounds_on}
-use Rattle.playback_mix.proofs.channels.mix_channel.Given as goal
+use Rattle.playback_mix.proofs.channels.mix_sounds.Given as goal
 
 abbrev pub invariant-loop-one : goal.invariant-loop-one
 invariant-loop-one g l = record {
