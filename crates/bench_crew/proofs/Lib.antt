@@ -1,3 +1,5 @@
 pub mod LinkLemmas
 pub mod ReadyLemmas
 pub mod KeptLemmas
+mod ListingLemmas
+mod TurnLemmas

@@ -1,1 +1,4 @@
 pub mod Ensembles
+pub mod Listings
+pub mod Meanings
+pub mod Turns

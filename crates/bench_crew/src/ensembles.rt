@@ -1,13 +1,17 @@
 //! A crew of clients' benches, with its seats.
 ghost use Rattle.std.specs.Prelude.{◌≡◌, ◌≤◌, ◌<◌, ℕ, All, IfOk, length};
 ghost use Rattle.session_model.specs.Activation.{AreLinks, sequential};
+ghost use Rattle.activation.specs.Rounds.{AreReturned};
 ghost use Rattle.client_benches.specs.Seen.{has_room_at, kept_after, kept_gives};
 ghost use Rattle.cycle_workers.specs.Runs.{HaveRoom};
 ghost use Rattle.bench_crew.specs.Ensembles.{bench_of};
+ghost use Rattle.bench_crew.specs.Meanings.{ensembled_of, IsReady};
 
+use crate::alone::play_alone;
 use crate::playing::play_over;
+use crate::sources::Sources;
 use activation::{Crew, Seat};
-use client_benches::ClientBench;
+use client_benches::{ClientBench, Rooms};
 use client_kinds::Guest;
 use jack_host::Gate;
 use jack_types::{Kind, Link, Memory};
@@ -15,24 +19,33 @@ use std::alloc::Global;
 use std::marker::Model;
 use std::thread::Threads;
 
+/// What plays a cycle: one seat by itself, in the order of the nodes, or a crew with its seats.
+///
+/// A crew is made over benches of nobody, which stand in for the session's benches between two cycles and
+/// are never played.
+#[derive(Drop)]
+enum Means<G: Guest> {
+    Alone(Sources, Vec<Option<Rooms>>),
+    Together(Crew<ClientBench<G>>, Vec<Seat<ClientBench<G>>>),
+}
+
 /// The crew of a session's benches, with its seats.
 ///
-/// Contracts see an `Ensembled`: how many nodes and how many seats it has. It is made once, over benches
-/// of nobody, which stand in for the session's benches between two cycles and are never played.
+/// Contracts see an `Ensembled`: how many nodes and how many seats it has.
 #[derive(Drop)]
 pub struct Ensemble<G: Guest> {
-    crew: Crew<ClientBench<G>>,
-    seats: Vec<Seat<ClientBench<G>>>,
+    means: Means<G>,
 }
 
 impl<G: Guest> Model for Ensemble<G> {
-    ghost use Rattle.bench_crew.specs.Ensembles.{Ensembled, AreReady};
+    ghost use Rattle.bench_crew.specs.Ensembles.{Ensembled};
+    ghost use Rattle.bench_crew.specs.Meanings.{ensembled_of, IsReady};
 
     ghost Value = { Ensembled };
 
-    ghost view = { λ e. record { nodes = e.crew.nodes; seats = e.crew.seats } };
+    ghost view = { λ e. ensembled_of e.means };
 
-    ghost invariant = { λ e. AreReady e.crew.board.shared.table_id e.crew.links.items e.crew.nodes e.crew.seats e.seats.items };
+    ghost invariant = { λ e. IsReady e.means };
 }
 
 /// So many benches of nobody.
@@ -48,6 +61,44 @@ fn stand_ins<G: Guest>(alloc: Global, nodes: u32) -> Result<Vec<ClientBench<G>>,
     Ok(benches)
 }
 
+/// One seat.
+fn alone<G: Guest>(alloc: Global, nodes: u32) -> Result<Means<G>, Memory>
+    requires nodes { nodes ≤ 64 }
+    ensures { IfOk result (λ means. (ensembled_of means ≡ record { nodes = nodes; seats = 1 }) × IsReady means) }
+{
+    let Ok(sources) = Sources::new(alloc, nodes) else {
+        return Err(Memory);
+    };
+    let Ok(given) = Vec::with_capacity(alloc, 512) else {
+        return Err(Memory);
+    };
+    Ok(Means::Alone(sources, given))
+}
+
+/// A crew, over benches of nobody.
+fn together<G: Guest>(alloc: Global, nodes: u32, seats: u32) -> Result<Means<G>, Memory>
+    requires nodes { nodes ≤ 64 }
+    requires seats { (0 < seats) × (seats ≤ 16) }
+    ensures { IfOk result (λ means. (ensembled_of means ≡ record { nodes = nodes; seats = seats }) × IsReady means) }
+{
+    let benches = stand_ins(alloc, nodes)?;
+    match Crew::new(alloc, &[], benches, seats) {
+        Ok((crew, seats)) => Ok(Means::Together(crew, seats)),
+        Err(_) => Err(Memory),
+    }
+}
+
+fn means_of<G: Guest>(alloc: Global, nodes: u32, seats: u32) -> Result<Means<G>, Memory>
+    requires nodes { nodes ≤ 64 }
+    requires seats { (0 < seats) × (seats ≤ 16) }
+    ensures { IfOk result (λ means. (ensembled_of means ≡ record { nodes = nodes; seats = seats }) × IsReady means) }
+{
+    if seats == 1 {
+        return alone(alloc, nodes);
+    }
+    together(alloc, nodes, seats)
+}
+
 impl<G: Guest> Ensemble<G> {
     /// A crew of so many nodes and seats, over benches of nobody.
     ///
@@ -57,18 +108,46 @@ impl<G: Guest> Ensemble<G> {
         requires seats { (0 < seats) × (seats ≤ 16) }
         ensures { IfOk result (λ made. (made.nodes ≡ nodes) × (made.seats ≡ seats)) }
     {
-        let benches = stand_ins(alloc, nodes)?;
-        match Crew::new(alloc, &[], benches, seats) {
-            Ok((crew, seats)) => Ok(Ensemble { crew, seats }),
-            Err(_) => Err(Memory),
-        }
+        let means = means_of(alloc, nodes, seats)?;
+        Ok(Ensemble { means })
     }
 
     /// How many nodes it has, one for each bench that it plays.
     pub fn nodes(&self) -> u32
         ensures { result ≡ self.now.nodes }
     {
-        self.crew.nodes()
+        match &self.means {
+            Means::Alone(sources, _) => sources.nodes(),
+            Means::Together(crew, _) => crew.nodes(),
+        }
+    }
+}
+
+/// Plays these benches, one a node, over these links.
+fn play_by<G: Guest + Send, K: Gate, T: Threads + Sync>(
+    means: &mut Means<G>,
+    threads: &T,
+    gate: &K,
+    links: &[Link],
+    benches: &mut [ClientBench<G>],
+)
+    requires ready { IsReady means.old }
+    requires links { AreLinks (ensembled_of means.old).nodes links.now × (length links.now ≤ 512) }
+    requires benches { (length benches.old ≡ (ensembled_of means.old).nodes) × HaveRoom has_room_at links.now benches.old }
+    ensures means { ensembled_of means.new ≡ ensembled_of means.old }
+    ensures ready { IsReady means.new }
+    ensures played { AreReturned (λ bench. bench.kept) has_room_at kept_after kept_gives links.now benches.old benches.new }
+{
+    match means {
+        Means::Alone(sources, given) => play_alone(gate, sources, given, links, benches),
+        Means::Together(crew, seats) => play_over(
+            threads,
+            gate,
+            crew,
+            seats.as_mut_slice(),
+            links,
+            benches,
+        ),
     }
 }
 
@@ -91,13 +170,6 @@ impl<G: Guest + Send> Ensemble<G> {
         ensures played { (n : ℕ) → n < length benches.old → (bench_of benches.new n).kept ≡ sequential kept_after kept_gives links.now (λ m. (bench_of benches.old m).kept) n }
         ensures rooms { (n : ℕ) (place : ℕ) → n < length benches.old → has_room_at (bench_of benches.new n) place ≡ has_room_at (bench_of benches.old n) place }
     {
-        play_over(
-            threads,
-            gate,
-            &mut self.crew,
-            self.seats.as_mut_slice(),
-            links,
-            benches,
-        );
+        play_by(&mut self.means, threads, gate, links, benches);
     }
 }

@@ -1,8 +1,10 @@
 //! A crew of clients' benches with its seats: it plays the benches of a cycle, whatever list they lie in.
 #![tactic(auto)]
 
+mod alone;
 mod ensembles;
 mod linking;
 mod playing;
+mod sources;
 
 pub use ensembles::Ensemble;

@@ -6,11 +6,11 @@ ghost use Rattle.bench_crew.specs.Ensembles.{AreReady};
 use activation::{Crew, Seat, Work};
 use jack_types::Link;
 
-/// Whether the crew plays over these links.
-fn has_links<B: Work>(crew: &Crew<B>, links: &[Link]) -> bool
-    ensures { IsTrue result ↔ (crew.now.links.items ≡ links.now) }
+/// Whether these are the links that were listed last.
+pub(crate) fn are_same(listed: &[Link], links: &[Link]) -> bool
+    ensures { IsTrue result ↔ (listed.now ≡ links.now) }
 {
-    crew.links() == links
+    listed == links
 }
 
 /// Makes the crew ready for these links, where its own are others.
@@ -20,7 +20,7 @@ pub(crate) fn relink<B: Work>(crew: &mut Crew<B>, seats: &mut [Seat<B>], links: 
     ensures crew { (crew.new.nodes ≡ crew.old.nodes) × (crew.new.seats ≡ crew.old.seats) × (crew.new.links.items ≡ links.now) }
     ensures ready { AreReady crew.new.board.shared.table_id crew.new.links.items crew.new.nodes crew.new.seats seats.new }
 {
-    if has_links(crew, links) {
+    if are_same(crew.links(), links) {
         return;
     }
     crew.reset(seats, links);
