@@ -121,6 +121,7 @@ impl<S: Source, W: Store, G: Guest> Driver<S, W, G> {
     pub fn into_capture(self) -> Wave<S>
         ensures { result ≡ self.capture.reading }
     {
-        self.works.capture.into_wave()
+        let works = self.works;
+        works.capture.into_wave()
     }
 }
