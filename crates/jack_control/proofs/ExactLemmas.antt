@@ -17,7 +17,7 @@ use Rattle.jack_control.specs.declared.status.Difference.{Difference}
 use Rattle.jack_control.specs.declared.status.Status.{Status}
 use Rattle.jack_control.specs.declared.status.Status.TheVariants.{Ok, NoMemory, Words, ReadFault, BadWave, BadScript, WriteFault, Differs, Wrong}
 use Rattle.jack_control.specs.Answers.{HasInput, HasRefusal, IfCapture, IfScript, IsFirstDifference, LacksInput, PlayStatus}
-use Rattle.jack_control.specs.Inputs.{Files, IfBytes, IsBadScript, IsBadWave, IsCapture, IsDifferent, IsPlayed, IsScriptOf, difference_in}
+use Rattle.jack_control.specs.Inputs.{Files, IfBytes, IsBadScript, IsBadWave, IsCapture, IsDifferent, IsPlayed, IsScriptOf, difference_in, unplayable}
 use Rattle.jack_control.specs.Openings.{IfInput}
 use Rattle.jack_control.specs.Plays.{IsExplained}
 use Rattle.jack_control.proofs.OpeningLemmas.{differs}
@@ -43,14 +43,14 @@ one_some o x y e f = cc
 good_script : (whole : List ℕ) (script : Script) (fault : ScriptFault) → IsScriptOf whole script → IsBadScript whole fault → ⊥
 good_script whole script fault is (inl found) = some_none (script_fault (take 1048577 whole)) fault found (no_fault (take 1048577 whole) script is.spelled)
 good_script whole script fault is (inr other) =
-    other.1.2 (subst (λ (s : Script). IsPlayed s) (one_script (take 1048577 whole) script other.1.0 is.spelled other.1.1) is.played)
+    other.2 (subst (λ (s : Script). IsPlayed s) (one_script (take 1048577 whole) script other.0 is.spelled other.1) is.played)
 
 -- and a script has one fault
 one_fault : (whole : List ℕ) (a b : ScriptFault) → IsBadScript whole a → IsBadScript whole b → a ≡ b
 one_fault whole a b (inl x) (inl y) = cc
-one_fault whole a b (inl x) (inr y) = absurd (some_none (script_fault (take 1048577 whole)) a x (no_fault (take 1048577 whole) y.1.0 y.1.1))
-one_fault whole a b (inr x) (inl y) = absurd (some_none (script_fault (take 1048577 whole)) b y (no_fault (take 1048577 whole) x.1.0 x.1.1))
-one_fault whole a b (inr x) (inr y) = x.0 ∙ sym y.0
+one_fault whole a b (inl x) (inr y) = absurd (some_none (script_fault (take 1048577 whole)) a x (no_fault (take 1048577 whole) y.0 y.1))
+one_fault whole a b (inr x) (inl y) = absurd (some_none (script_fault (take 1048577 whole)) b y (no_fault (take 1048577 whole) x.0 x.1))
+one_fault whole a b (inr x) (inr y) = x.3 ∙ ap (unplayable (take 1048577 whole)) (one_script (take 1048577 whole) x.0 y.0 x.1 y.1) ∙ sym y.3
 
 -- ---- a capture
 

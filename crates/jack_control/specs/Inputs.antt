@@ -1,14 +1,16 @@
 -- What a play is given by its files.
 --     IfBytes files name P      what holds of a name's bytes, where the files are told
 --     IsPlayed script      a script that is played yet
+--     line_at bytes place      the number of a line among those that are said
+--     unplayable bytes script      the fault of a lawful script that is not played yet
 --     IsBadScript bytes fault      why a script can't be played
 --     first_difference, difference_in      the comparisons, in their order
 --     IsInput script_bytes capture_bytes scores play given      what the two files and the guests give
-use Rattle.std.specs.Prelude.{◌≡◌, ◌⊎◌, ℕ, ◌==◌, nat_lt, not, List, [], length, take, ⊤, ℤ, Option, Some, None, Ok, Err, IsNone, if◌then◌else◌}
+use Rattle.std.specs.Prelude.{◌≡◌, ◌⊎◌, ℕ, ◌==◌, nat_lt, not, List, [], length, map, slice_index_or, take, ⊤, ℤ, Option, Some, None, Ok, Err, IsNone, is_some, if◌then◌else◌}
 use Rattle.jack_types.specs.declared.files.Format.{Format}
 use Rattle.jack_types.specs.declared.files.WaveFault.{WaveFault}
 use Rattle.jack_types.specs.declared.kinds.Score.{Score}
-use Rattle.jack_types.specs.declared.scripts.Cause.TheVariants.{Unknown}
+use Rattle.jack_types.specs.declared.scripts.Cause.TheVariants.{Choice, Unknown}
 use Rattle.jack_types.specs.declared.scripts.Header.{Header}
 use Rattle.jack_types.specs.declared.scripts.ScriptFault.{ScriptFault}
 use Rattle.jack_host.specs.Files.{bytes_under}
@@ -16,6 +18,7 @@ use Rattle.session_model.specs.Explanations.{Given}
 use Rattle.session_model.specs.Grammar.{Spells}
 use Rattle.session_model.specs.Reading.{script_fault}
 use Rattle.session_model.specs.Scripts.{Script}
+use Rattle.session_model.specs.Texts.{said}
 use Rattle.session_model.specs.WaveFiles.{IsWave, wave_fault}
 use Rattle.session_model.specs.WaveOpening.{Opened, opened, wave_in}
 use Rattle.task_laws.specs.Calls.{guests_needed}
@@ -38,13 +41,23 @@ pub record IsPlayed (script : Script) : Type 0 where
   pub served : IsServed script
   pub serial : IsNone script.header.threads
 
--- the fault of a lawful script that is none of these
-abbrev pub unplayable : ScriptFault
-unplayable = record { line = 0; cause = Unknown }
+-- the number of the line at a place among those that are said, counted from 0; 0 where there is none
+abbrev pub line_at : List ℕ → ℕ → ℕ
+line_at bytes place = slice_index_or (map (λ line. line.number) (said bytes)) place 0
+
+-- the fault of a lawful script that is not played yet:
+-- of version 3, a version that is none, on the version's line, which is the first that is said;
+-- else, with threads, an unknown word on the mode's line, which is the sixth;
+-- else MIDI ports are connected, which has no line of its own: an unknown word on line 0
+abbrev pub unplayable : List ℕ → Script → ScriptFault
+unplayable bytes script =
+    if script.header.version == 3 then record { line = line_at bytes 0; cause = Choice 3 }
+    else if is_some script.header.threads then record { line = line_at bytes 5; cause = Unknown }
+    else record { line = 0; cause = Unknown }
 
 -- the bytes have this fault, or spell a script that is not played yet
 abbrev pub IsFaulty : List ℕ → ScriptFault → Type 0
-IsFaulty bytes fault = (script_fault bytes ≡ Some fault) ⊎ ((fault ≡ unplayable) × ((script : Script) × Spells bytes script × (IsPlayed script → ⊥)))
+IsFaulty bytes fault = (script_fault bytes ≡ Some fault) ⊎ ((script : Script) × Spells bytes script × (IsPlayed script → ⊥) × (fault ≡ unplayable bytes script))
 
 -- 1,048,577 bytes are read at most
 abbrev pub IsBadScript : List ℕ → ScriptFault → Type 0

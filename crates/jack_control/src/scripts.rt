@@ -1,11 +1,12 @@
 //! The script of a play.
 
-ghost use Rattle.std.specs.Prelude.{◌≡◌, ◌<◌, ◌≤◌, ◌⊎◌, IfErr, IfOk, IsErrOf, IsTrue, ◌↔◌};
+ghost use Rattle.std.specs.Prelude.{◌≡◌, ◌<◌, ◌≤◌, ◌⊎◌, IfErr, IfOk, IsErrOf, IsTrue, length, ◌↔◌};
 ghost use Rattle.jack_host.specs.Causes.{Rose};
 ghost use Rattle.jack_host.specs.Files.{IsThere, SameFiles};
 ghost use Rattle.jack_types.specs.declared.scripts.ScriptFault.{ScriptFault as FaultValue};
+ghost use Rattle.session_model.specs.Grammar.{Spells};
 ghost use Rattle.task_laws.specs.Calls.{HasNoMidiEdge};
-ghost use Rattle.jack_control.specs.Inputs.{IfBytes, IsFaulty, IsPlayed, IsScriptOf, unplayable};
+ghost use Rattle.jack_control.specs.Inputs.{IfBytes, IsFaulty, IsPlayed, IsScriptOf, line_at, unplayable};
 ghost use Rattle.jack_control.specs.Scripts.{IsRead, ScriptStatus, status_of_script};
 
 use crate::Status;
@@ -13,11 +14,18 @@ use crate::reading::{LoadFault, load};
 use jack_host::Host;
 use jack_types::{Cause, ScriptFault};
 use script_ports::connects_no_midi;
+use script_words::Lines;
 use session_script::Script;
 use std::alloc::Global;
 
 // How many bytes of a script are read: one more than it may have.
 const MOST_READ: usize = 1_048_577;
+
+// The place of the version's line among those that are said.
+const VERSION_PLACE: usize = 0;
+
+// And of the mode's.
+const MODE_PLACE: usize = 5;
 
 // Whether a script is one that is played yet: in serial mode, before version 3, and without connections of MIDI ports.
 fn is_played(script: &Script) -> bool
@@ -28,6 +36,45 @@ fn is_played(script: &Script) -> bool
         return false;
     }
     connects_no_midi(script)
+}
+
+// The number of the line at a place among those that are said. Where there is none, 0.
+fn line_at(text: &[u8], place: usize) -> u32
+    requires { length text.now ≤ 1048576 }
+    ensures { result ≡ line_at text.now place }
+{
+    let mut lines = Lines::of(text);
+    let mut left = place;
+    'lines: while let Some(line) = lines.take() {
+        if left == 0 {
+            return line.number;
+        }
+        left -= 1;
+    }
+    0
+}
+
+// The fault of a script that is not played, which these bytes spell.
+fn fault_of(bytes: &[u8], script: &Script) -> ScriptFault
+    requires { Spells bytes.now script.now }
+    ensures { result ≡ unplayable bytes.now script.now }
+{
+    let header = script.header();
+    if header.version == 3 {
+        return ScriptFault {
+            line: line_at(bytes, VERSION_PLACE),
+            cause: Cause::Choice(3),
+        };
+    }
+    let line = if header.threads.is_some() {
+        line_at(bytes, MODE_PLACE)
+    } else {
+        0
+    };
+    ScriptFault {
+        line,
+        cause: Cause::Unknown,
+    }
 }
 
 // The status of a fault that the reading of a script met.
@@ -50,10 +97,7 @@ fn script_in(alloc: Global, bytes: &[u8]) -> Result<Script, Status>
             if is_played(&script) {
                 Ok(script)
             } else {
-                Err(Status::BadScript(ScriptFault {
-                    line: 0,
-                    cause: Cause::Unknown,
-                }))
+                Err(Status::BadScript(fault_of(bytes, &script)))
             }
         }
         Err(fault) => Err(status_of(fault)),

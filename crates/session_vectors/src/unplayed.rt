@@ -15,41 +15,87 @@ capture 1
 playback 1 16
 ";
 
-/// A script is refused as one with an unknown word in this line.
-fn is_unknown<R: Threads + Sync + AllocGlobal + Abort>(
+/// A script is refused with this cause on this line.
+fn has_fault<R: Threads + Sync + AllocGlobal + Abort>(
     rt: &R,
     script: &[&str],
     line: u32,
+    cause: Cause,
     out: &str,
 ) -> Result<(), Fail> {
-    let fault = ScriptFault {
-        line,
-        cause: Cause::Unknown,
-    };
+    let fault = ScriptFault { line, cause };
     let capture = wave(rt.alloc(), MONO, &[])?;
     refuses(rt, script, &capture, Status::BadScript(fault), out)
 }
 
 #[test]
-fn a_script_that_is_not_played_yet_is_refused(rt: HostRuntime) -> Result<(), Fail> {
-    let bodies = [
+fn threads_are_refused_on_the_line_of_the_mode(rt: HostRuntime) -> Result<(), Fail> {
+    let modes = [
         ("jackd 1\n", "mode threads 1\n"),
-        ("jackd 3\n", "mode steal 1\n"),
-        ("jackd 3\n", "mode serial\n"),
-        (
-            "jackd 1\n",
-            "mode serial\ndo connect m:out m:in\ndo register m:in in midi\ndo register m:out out midi\n",
-        ),
+        ("jackd 2\n", "mode threads 16\nring 8\ndo start\n"),
     ];
-    for (version, body) in bodies {
-        is_unknown(
+    for (version, mode) in modes {
+        has_fault(
             &rt,
-            &[version, DEVICE, body],
-            0,
-            "fault 5 script 0 Unknown\n",
+            &[version, DEVICE, mode],
+            6,
+            Cause::Unknown,
+            "fault 5 script 6 Unknown\n",
         )?;
     }
     Ok(())
+}
+
+#[test]
+fn version_3_is_refused_on_its_line(rt: HostRuntime) -> Result<(), Fail> {
+    let modes = ["mode serial\n", "mode threads 1\n", "mode steal 1\n"];
+    for mode in modes {
+        has_fault(
+            &rt,
+            &["jackd 3\n", DEVICE, mode],
+            1,
+            Cause::Choice(3),
+            "fault 5 script 1 Choice\n",
+        )?;
+    }
+    Ok(())
+}
+
+#[test]
+fn a_connection_of_midi_ports_is_refused_on_no_line(rt: HostRuntime) -> Result<(), Fail> {
+    let body = "\
+mode serial
+do connect m:out m:in
+do register m:in in midi
+do register m:out out midi
+";
+    has_fault(
+        &rt,
+        &["jackd 1\n", DEVICE, body],
+        0,
+        Cause::Unknown,
+        "fault 5 script 0 Unknown\n",
+    )
+}
+
+#[test]
+fn lines_that_say_nothing_are_counted(rt: HostRuntime) -> Result<(), Fail> {
+    let front = "# a session\n\n";
+    let mode = "  # no threads yet\n \t \nmode threads 2\n";
+    has_fault(
+        &rt,
+        &[front, "jackd 1\n", DEVICE, mode],
+        10,
+        Cause::Unknown,
+        "fault 5 script 10 Unknown\n",
+    )?;
+    has_fault(
+        &rt,
+        &[front, "jackd 3\n", DEVICE, mode],
+        3,
+        Cause::Choice(3),
+        "fault 5 script 3 Choice\n",
+    )
 }
 
 #[test]
@@ -70,7 +116,7 @@ fn a_word_of_a_later_version_is_unknown(rt: HostRuntime) -> Result<(), Fail> {
         ),
     ];
     for (body, line, out) in bodies {
-        is_unknown(&rt, &["jackd 2\n", DEVICE, body], line, out)?;
+        has_fault(&rt, &["jackd 2\n", DEVICE, body], line, Cause::Unknown, out)?;
     }
     Ok(())
 }
