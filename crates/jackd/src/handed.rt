@@ -1,6 +1,9 @@
 //! The guests that the program hands in.
 
+ghost use Rattle.std.specs.Prelude.{◌≡◌, ◌++◌, ◌∷◌, [], IfOk, OnOk, map};
+ghost use Rattle.guests.specs.Any.{any_score};
 ghost use Rattle.guests.specs.Guests.{IsPlayable};
+ghost use Rattle.jackd.specs.Handed.{handed_in};
 
 use guests::AnyGuest;
 use jack_types::{Memory, Score, Taps};
@@ -12,6 +15,7 @@ const TAPS: [i32; 3] = [1, 2, 1];
 // A guest more.
 fn add(alloc: Global, guests: &mut Vec<AnyGuest>, score: Score) -> Result<(), Memory>
     requires { IsPlayable score }
+    ensures { OnOk result (map any_score guests.new.items ≡ map any_score guests.old.items ++ score ∷ []) }
 {
     let guest = AnyGuest::new(alloc, score)?;
     match guests.push(guest) {
@@ -21,7 +25,9 @@ fn add(alloc: Global, guests: &mut Vec<AnyGuest>, score: Score) -> Result<(), Me
 }
 
 /// Guest 0 is an echo of a tenth of a second at 48,000 frames a second, guest 1 a filter, and guest 2 holds a sample.
-pub(crate) fn hand_in(alloc: Global) -> Result<Vec<AnyGuest>, Memory> {
+pub(crate) fn hand_in(alloc: Global) -> Result<Vec<AnyGuest>, Memory>
+    ensures { IfOk result (λ guests. map any_score guests.items ≡ handed_in) }
+{
     let mut guests = Vec::new(alloc);
     let echo = Score::Echo {
         frames: 4800,
