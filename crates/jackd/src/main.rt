@@ -43,6 +43,9 @@ fn code_of(printed: io::Result<()>) -> ExitCode {
 fn main(rt: HostRuntime) -> ExitCode {
     let words = match words(&rt) {
         Ok(words) => words,
+        Err(error) if error.kind() == io::ErrorKind::OutOfMemory => {
+            return ExitCode::from(Status::NoMemory.code());
+        }
         Err(_) => Vec::new(rt.alloc()),
     };
     if is_alone(&words, "--help") {
