@@ -8,9 +8,9 @@ use std::fs::{File, Files};
 use std::io::{Read, Seek, SeekFrom, Write};
 
 /// How many bytes one call of the system moves at most, so that a period of frames costs none.
-const GATHERED: usize = 16_384;
+const GATHERED: usize = 32_768;
 
-/// A file that is read, some 16 KiB at a time. It tells no bytes.
+/// A file that is read, some 32 KiB at a time. It tells no bytes.
 #[derive(Drop)]
 pub struct FileSource {
     file: File,
@@ -120,12 +120,14 @@ impl Gathered {
     }
 }
 
-/// A file that is written, some 16 KiB at a time. It tells neither its name nor its bytes.
+/// A file that is written, some 32 KiB at a time. It tells neither its name nor its bytes.
 ///
 /// A failed write of gathered bytes shows at the next write, or when the file is handed back.
 #[derive(Drop)]
 pub struct FileStore {
     file: File,
+    // Where the file stands, if that is known: a write at that place does not move it first.
+    stands: Option<u64>,
     gathered: Gathered,
     place: u64,
     faults: u64,
@@ -137,6 +139,7 @@ impl FileStore {
     {
         FileStore {
             file,
+            stands: None,
             gathered: Gathered::new(),
             place: 0,
             faults: 0,
@@ -148,7 +151,8 @@ impl FileStore {
         ensures cause { HasCause self.old.faults self.new.faults result }
         ensures empty { self.new.gathered.count ≡ 0 }
     {
-        let written = put(&mut self.file, self.place, self.gathered.as_bytes());
+        let bytes = self.gathered.as_bytes();
+        let written = put(&mut self.file, &mut self.stands, self.place, bytes);
         self.gathered.clear();
         self.told(written)
     }
@@ -157,7 +161,7 @@ impl FileStore {
     fn write_through(&mut self, place: u64, bytes: &[u8]) -> Result<(), Failed>
         ensures { HasCause self.old.faults self.new.faults result }
     {
-        let written = put(&mut self.file, place, bytes);
+        let written = put(&mut self.file, &mut self.stands, place, bytes);
         self.told(written)
     }
 
@@ -179,15 +183,22 @@ impl FileStore {
     }
 }
 
+// Moves a file to a place, if it does not stand there already, and says whether it stands there now.
+fn move_to(file: &mut File, stands: Option<u64>, place: u64) -> bool {
+    stands == Some(place) || file.seek(SeekFrom::Start(place)).is_ok()
+}
+
 // Writes bytes at a place of a file, and says whether they were all written.
-fn put(file: &mut File, place: u64, bytes: &[u8]) -> bool {
+fn put(file: &mut File, stands: &mut Option<u64>, place: u64, bytes: &[u8]) -> bool {
     if bytes.is_empty() {
         return true;
     }
-    if file.seek(SeekFrom::Start(place)).is_err() {
+    let before = stands.take();
+    if !move_to(file, before, place) || file.write_all(bytes).is_err() {
         return false;
     }
-    file.write_all(bytes).is_ok()
+    *stands = place.checked_add(bytes.len() as u64);
+    true
 }
 
 impl Store for FileStore {

@@ -7,15 +7,19 @@ use std::alloc::Global;
 use std::fs;
 use std::test::Fail;
 
-// Reads to the end by small reads.
-fn read_all<S: Source>(alloc: Global, source: &mut S) -> Result<Vec<u8>, Fail> {
+// Reads by 64 reads into such a piece.
+fn read_by<S: Source>(alloc: Global, source: &mut S, piece: &mut [u8]) -> Result<Vec<u8>, Fail> {
     let mut bytes = Vec::new(alloc);
-    let mut piece = [0; 2];
     for _ in 0..64_u32 {
-        let count = source.read(&mut piece).map_err(|_| "a read failed")?;
+        let count = source.read(piece).map_err(|_| "a read failed")?;
         bytes.extend_from_slice(&piece[..count])?;
     }
     Ok(bytes)
+}
+
+// Reads to the end by small reads.
+fn read_all<S: Source>(alloc: Global, source: &mut S) -> Result<Vec<u8>, Fail> {
+    read_by(alloc, source, &mut [0; 2])
 }
 
 #[test]
@@ -88,6 +92,31 @@ fn real_files_keep_what_was_written(rt: HostRuntime) -> Result<(), Fail> {
     fs::remove_file(&rt, "made")?;
     assert_eq!(rt; bytes.as_slice(), b"hello".as_slice());
     assert!(rt; host.open_in("made").is_err());
+    Ok(())
+}
+
+#[test]
+fn a_long_file_is_written_in_order(rt: HostRuntime) -> Result<(), Fail> {
+    let alloc = rt.alloc();
+    let piece = vec![in alloc; 7u8; 10_000]?;
+    let mut host = FileHost::new(&rt);
+    let mut output = host.make_out("long").map_err(|_| "not made")?;
+    for k in 0..8 {
+        assert_eq!(rt; output.write_at(10_000 * k, &piece), Ok(()));
+    }
+    assert_eq!(rt; output.write_at(0, b"a"), Ok(()));
+    assert_eq!(rt; output.write_at(40_000, b"b"), Ok(()));
+    assert_eq!(rt; output.write_at(80_000, b"c"), Ok(()));
+    assert_eq!(rt; host.done(output), Ok(()));
+    let mut input = host.open_in("long").map_err(|_| "not there")?;
+    let bytes = read_by(alloc, &mut input, &mut [0; 2_000])?;
+    host.back(input);
+    fs::remove_file(&rt, "long")?;
+    assert_eq!(rt; bytes.len(), 80_001);
+    assert_eq!(rt; bytes.iter().filter(|byte| **byte == 7).count(), 79_998);
+    assert_eq!(rt; bytes.first(), Some(&b'a'));
+    assert_eq!(rt; bytes.get(40_000), Some(&b'b'));
+    assert_eq!(rt; bytes.get(80_000), Some(&b'c'));
     Ok(())
 }
 
