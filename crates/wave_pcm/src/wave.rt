@@ -35,6 +35,8 @@ pub struct Wave<S: Source> {
     size: u32,
     given: u32,
     failed: bool,
+    // The bytes that were read last. They stay here, so that a read needs no buffer that is cleared first.
+    bytes: [u8; MOST_BYTES],
 }
 
 impl<S: Source> Model for Wave<S> {
@@ -72,6 +74,7 @@ impl<S: Source> Wave<S> {
                 size,
                 given: 0,
                 failed: false,
+                bytes: [0; MOST_BYTES],
             }),
             Err(fault) => Err((source, fault)),
         }
@@ -184,8 +187,8 @@ impl<S: Source> Wave<S> {
         ensures cause { HasCause self.old.faults self.new.faults result }
     {
         let frame = self.frame();
-        let mut buffer = [0u8; MOST_BYTES];
-        let bytes = &mut buffer[..frames * frame];
+        let all = &mut self.bytes[..];
+        let bytes = &mut all[..frames * frame];
         let filled = fill(&mut self.source, bytes);
         match filled {
             Ok(count) => {

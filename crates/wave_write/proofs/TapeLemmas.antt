@@ -1,6 +1,6 @@
 -- A file that is written: what it keeps, what it has after one piece and after several, and what it is in the end.
 use Rattle.std.proofs.Common.{◌≡◌, ℕ, zero, suc, ◌+◌, ◌-◌, ◌*◌, ◌/◌, ◌%◌, ◌<◌, ◌≤◌, List, [], ◌∷◌, ◌++◌, length, take, drop, Some, None, ◌⊎◌, inl, inr, min, Bool, true, false, refl, sym, ap, subst, ◌∙◌, arith, length-append, append_assoc, append-nil, ℤ}
-use Rattle.std.specs.Prelude.{All, IfSome, map, Option, Result, Ok, Err, OnOk, OnErr, replicate, slice_range}
+use Rattle.std.specs.Prelude.{All, IfSome, is_some, map, Option, Result, Ok, Err, OnOk, OnErr, replicate, slice_range}
 use Rattle.std.specs.Option.{ForSome}
 use Rattle.std.specs.Int.{w32}
 use Rattle.std.specs.Int.RustNames.{FitsSigned}
@@ -17,7 +17,7 @@ use Rattle.session_laws.proofs.WaveSamples.{by_width, length-bytes_of}
 use Rattle.session_laws.proofs.WaveWritten.{wave_text-wave}
 use Rattle.wave_write.specs.Tapes.{Tape, HasSamples, HasFront, HasUnfinished, AreInOrder, IsCut, IsHeaded, Gained, GainedPart, SameFile, IsKept}
 use Rattle.wave_write.specs.Finishing.{Opens, Finished, FinishedPart}
-use Rattle.wave_write.proofs.FinishingLemmas.{put_at_end, header-between, between-opens, none_is_not_some, opens, riff_of, size_of, take_past}
+use Rattle.wave_write.proofs.FinishingLemmas.{put_at_end, gains_at_end, header-between, between-opens, none_is_not_some, opens, riff_of, size_of, take_past}
 
 -- ---- what a file keeps
 
@@ -151,14 +151,34 @@ same_file-trans a b c f g =
     record { format = g.format ∙ f.format; name = g.name ∙ f.name; tells = g.tells ∙ f.tells; later = omega (arith, f.later, g.later) }
 
 -- one write has room: so many samples from a place on
-pub piece_fits : (n most w : ℕ) → n ≤ most → most * w ≤ 4096 → n * w ≤ 4096
-piece_fits n most w le h = omega (arith, mul-le n w most w le (omega arith), h)
-
 pub piece_room : (bits written now : ℕ) (samples : List ℤ) (at n : ℕ) → at + n ≤ length samples → written + length samples * width bits ≤ 4294967000 → now ≡ written + length (bytes_of bits (take at samples)) → now + n * width bits ≤ 4294967000
 piece_room bits written now samples at n le room is =
     let count : length (bytes_of bits (take at samples)) ≡ at * width bits = length-bytes_of bits (take at samples) ∙ ap (λ (k : ℕ). k * width bits) (length-take-le at samples (omega (arith, le))) in
     let rows : (at + n) * width bits ≤ length samples * width bits = mul-le (at + n) (width bits) (length samples) (width bits) le (omega arith) in
     omega (arith, is, count, rows, room)
+
+-- the bytes of samples for which there is room
+pub bytes_fit : (inside old : Tape) (samples : List ℤ) (piece : List ℕ) → inside ≡ old → piece ≡ bytes_of inside.format.bits samples → old.written + length samples * width old.format.bits ≤ 4294967000
+    → inside.written + length piece ≤ 4294967000
+bytes_fit inside old samples piece same stored room =
+    let count : length piece ≡ length samples * width inside.format.bits = ap length stored ∙ length-bytes_of inside.format.bits samples in
+    let fits : inside.written + length samples * width inside.format.bits ≤ 4294967000 = subst (λ (t : Tape). t.written + length samples * width t.format.bits ≤ 4294967000) (sym same) room in
+    omega (arith, count, fits)
+
+-- a write behind the last byte appends what it writes
+pub gained_by_write : (inside old new : Tape) (samples : List ℤ) (piece : List ℕ) (place : ℕ) → inside ≡ old → piece ≡ bytes_of inside.format.bits samples → place ≡ 44 + inside.written
+    → ForSome inside.bytes (λ bytes. length bytes ≡ 44 + inside.written) → new.written ≡ inside.written + length piece → Holds inside.bytes new.bytes place piece → Gained old new (bytes_of old.format.bits samples)
+gained_by_write inside old new samples piece place same stored at long more h =
+    subst (λ (t : Tape). Gained t new (bytes_of t.format.bits samples)) same
+    (subst (λ (bytes : List ℕ). Gained inside new bytes) stored
+    (record { told = gains_at_end inside.bytes new.bytes place piece (λ bytes is. long bytes is ∙ sym at) h; written = more }))
+
+pub part_by_write : (inside old new : Tape) (samples : List ℤ) (piece : List ℕ) (place k : ℕ) → inside ≡ old → piece ≡ bytes_of inside.format.bits samples → place ≡ 44 + inside.written
+    → ForSome inside.bytes (λ bytes. length bytes ≡ 44 + inside.written) → k ≤ length piece → Holds inside.bytes new.bytes place (take k piece) → GainedPart old new (bytes_of old.format.bits samples)
+part_by_write inside old new samples piece place k same stored at long le h =
+    subst (λ (t : Tape). GainedPart t new (bytes_of t.format.bits samples)) same
+    (subst (λ (bytes : List ℕ). GainedPart inside new bytes) stored
+    (k, le, gains_at_end inside.bytes new.bytes place (take k piece) (λ bytes is. long bytes is ∙ sym at) h))
 
 -- how many samples one write takes
 pub most_by_width : (bits : ℕ) → is_width bits ≡ true → (0 < 4096 / width bits) × (4096 / width bits ≤ 4096) × (4096 / width bits * width bits ≤ 4096)
@@ -295,6 +315,15 @@ finished_text tape samples None (Some ys) f h = absurd f
 finished_text tape samples (Some xs) None f h = absurd f
 finished_text tape samples (Some xs) (Some ys) f h =
     f tape.format (opens_as tape.format xs (bytes_of tape.format.bits samples) h) ∙ ap (file_text tape.format) (ap (drop 44) h)
+
+-- finishing leaves a store that tells one that tells
+pub finish_tells : {T E : Type 0} (r : Result T E) (told now : Option (List ℕ)) → OnOk r (Finished told now) → OnErr r (FinishedPart told now) → is_some now ≡ is_some told
+finish_tells r None None f p = refl
+finish_tells r (Some xs) (Some ys) f p = refl
+finish_tells (Ok v) None (Some ys) f p = absurd f
+finish_tells (Ok v) (Some xs) None f p = absurd f
+finish_tells (Err e) None (Some ys) f p = absurd p
+finish_tells (Err e) (Some xs) None f p = absurd p
 
 pub finish_text : {T E : Type 0} (r : Result T E) (tape : Tape) (now : Option (List ℕ)) → OnOk r (Finished tape.bytes now) → OnOk r ((samples : List ℤ) → HasSamples tape samples → IfSome now (λ text. text ≡ wave_text tape.format samples))
 finish_text (Err e) tape now f = tt

@@ -26,6 +26,8 @@ pub struct WaveOut<W: Store> {
     format: Format,
     written: u32,
     stopped: bool,
+    // The bytes that were written last. They stay here, so that a write needs no buffer that is cleared first.
+    bytes: [u8; MOST_BYTES],
 }
 
 impl<W: Store> Model for WaveOut<W> {
@@ -61,6 +63,7 @@ impl<W: Store> WaveOut<W> {
                 format,
                 written: 0,
                 stopped: false,
+                bytes: [0; MOST_BYTES],
             }),
             Err(_) => Err((store, WriteFailed)),
         }
@@ -128,23 +131,12 @@ impl<W: Store> WaveOut<W> {
         ensures cause { HasCause self.old.faults self.new.faults result }
     {
         let bits = self.format.bits;
-        let mut buffer = [0u8; MOST_BYTES];
-        let bytes = &mut buffer[..samples.len() * usize::from(bits / 8)];
+        let count = samples.len() * usize::from(bits / 8);
+        let all = &mut self.bytes[..];
+        let bytes = &mut all[..count];
         to_bytes(bits, samples, bytes);
-        self.append(bytes)
-    }
-
-    // Appends bytes, in one write.
-    fn append(&mut self, bytes: &[u8]) -> Result<(), WriteFailed>
-        requires going { self.old.stopped ≡ false }
-        requires room { self.old.written + length bytes.now ≤ 4294967000 }
-        ensures gained { OnOk result (Gained self.old self.new bytes.now) }
-        ensures part { OnErr result (GainedPart self.old self.new bytes.now) }
-        ensures stopped { self.new.stopped ≡ is_err result }
-        ensures file { SameFile self.old self.new }
-        ensures cause { HasCause self.old.faults self.new.faults result }
-    {
-        let written = write(&mut self.store, 44 + u64::from(self.written), bytes);
+        let place = 44 + u64::from(self.written);
+        let written = write(&mut self.store, place, bytes);
         match written {
             Ok(()) => {
                 self.written += bytes.len() as u32;
@@ -180,6 +172,7 @@ impl<W: Store> WaveOut<W> {
             format: _,
             written,
             stopped: _,
+            bytes: _,
         } = self;
         let result = complete(&mut store, written);
         (store, result)

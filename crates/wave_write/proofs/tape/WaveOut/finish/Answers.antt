@@ -1,11 +1,11 @@
-use Rattle.std.proofs.Common.{◌≡◌, ◌%◌, subst, length, List, ℤ, map}
-use Rattle.std.specs.Prelude.{All, IfSome, OnErr, OnOk}
+use Rattle.std.proofs.Common.{◌≡◌, ◌%◌, ap, subst, length, List, ℤ, map, ◌∙◌}
+use Rattle.std.specs.Prelude.{All, IfSome, OnErr, OnOk, is_some}
 use Rattle.std.specs.Int.{w32}
 use Rattle.std.specs.Int.RustNames.{FitsSigned}
 use Rattle.session_model.specs.Samples.{down, up}
 use Rattle.session_model.specs.WaveFiles.{IsWave, opening_text, wave_text}
 use Rattle.wave_write.specs.Tapes.{AreInOrder, HasFront, HasSamples, Tape}
-use Rattle.wave_write.proofs.TapeLemmas.{finish_front, finish_order, finish_text, finish_wave}
+use Rattle.wave_write.proofs.TapeLemmas.{finish_front, finish_order, finish_tells, finish_text, finish_wave}
 use Rattle.wave_write.proofs.tape.WaveOut.finish.Goals as goal
 
 pub returns-clause-finished : goal.returns-clause-finished
@@ -56,3 +56,8 @@ returns-clause-wave g c =
       written = c.self.inside.written;
       stopped = c.self.inside.stopped;
     }) (g.W.Store.content c.complete-result.new.store) c.self.invariant c.complete-result.ensures.finished)
+
+pub returns-clause-tells : goal.returns-clause-tells
+returns-clause-tells g c =
+    finish_tells c.complete-result.result (g.W.Store.content c.self.inside.store) (g.W.Store.content c.complete-result.new.store) c.complete-result.ensures.finished c.complete-result.ensures.part
+    ∙ ap (λ (t : Tape). is_some t.bytes) c.self.view_is
