@@ -1,17 +1,17 @@
 -- The lines of a delay.
 --     kept_whole, kept_last      what a ring keeps
---     sample_left, sample_right      a sample of a list and of another behind it
---     take_below      the first samples one by one
-use Rattle.std.proofs.Common.{◌≡◌, ℕ, zero, suc, ◌+◌, ◌-◌, ◌<◌, ◌≤◌, List, [], ◌∷◌, ◌++◌, length, map, take, drop, get_or, ℤ, pos, refl, sym, ◌∙◌, ap, ap₂, subst, arith, length-append, add-one, All}
+--     filled-none, filled-more, filled-all      a buffer that is filled step by step
+use Rattle.std.proofs.Common.{◌≡◌, ℕ, ◌+◌, ◌-◌, ◌<◌, ◌≤◌, ◌⊎◌, inl, inr, List, [], ◌∷◌, ◌++◌, length, map, take, drop, get_or, ℤ, refl, sym, ◌∙◌, ap, ap₂, subst, arith, length-append, add-one, All}
+use Rattle.std.specs.Prelude.{min}
+use Rattle.std.proofs.lemmas.Bool.{cases_lt}
 use Rattle.std.proofs.Math.ListN.{set}
-use Rattle.std.proofs.Math.Seq.{take-suc-set}
+use Rattle.std.proofs.Math.Seq.{take-append_seam, take-append-add, take-suc-set}
 use Rattle.std.proofs.lemmas.List.Elements.{All-set}
-use Rattle.std.proofs.lemmas.List.{ext_get_or, get_or_append_left, get_or-map, get_or-set_other, length-take-le, get_or-take}
+use Rattle.std.proofs.lemmas.List.{get_or-map, get_or-set_other, length-drop, length-take-le, take-append-le, take_all}
 use Rattle.circular_buffer.specs.Buffer.{Buffer, keep_last}
 use Rattle.session_model.specs.Kinds.{delayed, input_at}
-use Rattle.session_model.specs.Samples.{below, sample}
-use Rattle.client_kinds.specs.Lines.{IsWhole, items_of}
-use Rattle.session_laws.proofs.ActivationLemmas.{length-map_below, get_or-map_below}
+use Rattle.session_model.specs.Samples.{below}
+use Rattle.client_kinds.specs.Lines.{IsFilled, IsWhole, items_of}
 
 pub kept_whole : (xs : List ℤ) → keep_last (length xs) ([] ++ xs) ≡ xs
 kept_whole xs = ap (λ n. drop n xs) (none (length xs))
@@ -22,18 +22,74 @@ kept_whole xs = ap (λ n. drop n xs) (none (length xs))
 pub kept_last : (n : ℕ) (xs ys : List ℤ) → length xs ≡ n → keep_last n (xs ++ ys) ≡ drop (length ys) (xs ++ ys)
 kept_last n xs ys h = ap (λ m. drop m (xs ++ ys)) (omega (arith, h, length-append xs ys))
 
-pub sample_left : (xs ys : List ℤ) (i : ℕ) → i < length xs → sample (xs ++ ys) i ≡ sample xs i
-sample_left xs ys i h = get_or_append_left xs ys (pos 0) i h
+pub filled-none : (part : List ℤ) → IsFilled part 0 []
+filled-none part = record { most = omega arith; front = refl }
 
-pub sample_right : (xs ys : List ℤ) (i j : ℕ) → i ≡ length xs + j → sample (xs ++ ys) i ≡ sample ys j
-sample_right [] ys i j h = ap (λ n. sample ys n) (omega (arith, h))
-sample_right (x ∷ xs) ys zero j h = absurd (omega (arith, h))
-sample_right (x ∷ xs) ys (suc i) j h = sample_right xs ys i j (omega (arith, h))
+-- behind a front that ends within the buffer more samples come; one that is full stays
+pub filled-more : (part new before samples : List ℤ) (filled count : ℕ) → count ≡ min (length samples) (length part - filled)
+    → new ≡ take filled part ++ (take count samples ++ drop (filled + count) part) → IsFilled part filled before → IsFilled new (filled + count) (before ++ samples)
+filled-more part new before samples filled count many is done = record {
+  most = omega (arith, long, done.most, many, length-append before samples);
+  front = ap (take (filled + count)) is ∙ go (cases_lt (length before) (length part));
+}
+  where
+    most : filled ≤ length part
+    most = omega (arith, done.most)
 
-pub take_below : (n : ℕ) (xs : List ℤ) → n ≤ length xs → map (λ i. sample xs i) (below n) ≡ take n xs
-take_below n xs h =
-    ext_get_or (pos 0) (map (λ i. sample xs i) (below n)) (take n xs) (length-map_below (λ i. sample xs i) n ∙ sym (length-take-le n xs h))
-    (λ k within. let low : k < n = omega (arith, within, length-map_below (λ i. sample xs i) n) in get_or-map_below (λ i. sample xs i) n k (pos 0) low ∙ sym (get_or-take n xs k (pos 0) low))
+    put : List ℤ
+    put = take count samples ++ drop (filled + count) part
+
+    behind : (a b c : ℕ) → a ≤ b → c ≡ b - a → a + c ≤ b
+    behind a b c h e = omega (arith, h, e)
+
+    within : filled + count ≤ length part
+    within = omega (arith, many, most)
+
+    count_within : count ≤ length samples
+    count_within = omega (arith, many)
+
+    long : length new ≡ length part
+    long = ap length is
+        ∙ length-append (take filled part) put
+        ∙ omega (arith, length-take-le filled part most, length-append (take count samples) (drop (filled + count) part), length-take-le count samples count_within, length-drop (filled + count) part, within)
+
+    -- what was put behind the front
+    put-there : (xs : List ℤ) → length xs ≡ filled → take (filled + count) (xs ++ put) ≡ xs ++ take count samples
+    put-there xs e =
+        ap (λ n. take (n + count) (xs ++ put)) (sym e)
+        ∙ take-append-add xs put count
+        ∙ ap (λ ys. xs ++ ys) (ap (λ n. take n put) (sym (length-take-le count samples count_within)) ∙ take-append_seam (take count samples) (drop (filled + count) part))
+
+    nothing-more : (xs : List ℤ) → (xs ++ []) ≡ xs
+    nothing-more [] = refl
+    nothing-more (x ∷ xs) = ap (λ ys. x ∷ ys) (nothing-more xs)
+
+    go : (length before < length part) ⊎ (length part ≤ length before) → take (filled + count) (take filled part ++ put) ≡ take (filled + count) (before ++ samples)
+    go (inr full) =
+        put-there (take filled part) (length-take-le filled part most)
+        ∙ ap (λ n. take filled part ++ take n samples) none
+        ∙ nothing-more (take filled part)
+        ∙ done.front
+        ∙ sym (take-append-le filled before samples (omega (arith, done.most, full)))
+        ∙ ap (λ n. take n (before ++ samples)) (let same : filled ≡ filled + count = omega (arith, none) in same)
+      where
+        none : count ≡ 0
+        none = omega (arith, many, done.most, full)
+    go (inl more) =
+        put-there (take filled part) (length-take-le filled part most)
+        ∙ ap (λ xs. xs ++ take count samples) (done.front ∙ ap (λ n. take n before) all ∙ take_all (length before) before (omega arith))
+        ∙ sym (take-append-add before samples count)
+        ∙ ap (λ n. take (n + count) (before ++ samples)) (sym all)
+      where
+        all : filled ≡ length before
+        all = omega (arith, done.most, more)
+
+-- as many samples as there is room for fill it
+pub filled-all : (part samples : List ℤ) (filled n : ℕ) → length part ≡ n → n ≤ length samples → IsFilled part filled samples → part ≡ take n samples
+filled-all part samples filled n long enough done =
+    sym (take_all filled part (omega (arith, done.most, long, enough)))
+    ∙ done.front
+    ∙ ap (λ m. take m samples) (omega (arith, done.most, long, enough))
 
 pub lines-whole : (lines : List (Buffer ℤ)) (place : ℕ) (line : Buffer ℤ) → All IsWhole lines → IsWhole line → All IsWhole (set lines place line)
 lines-whole lines place line all one = All-set IsWhole lines place line one all

@@ -1,7 +1,8 @@
 -- The lines of a delay.
 --     items_of lines      what each line still has to play
 --     IsWhole line      it has room for no more samples
-use Rattle.std.specs.Prelude.{◌≡◌, List, map, length, ℤ}
+--     IsFilled part filled samples      of a buffer the front of these samples, as many as there is room for
+use Rattle.std.specs.Prelude.{◌≡◌, ℕ, List, map, length, min, take, ℤ}
 use Rattle.circular_buffer.specs.Buffer.{Buffer}
 
 abbrev pub items_of : List (Buffer ℤ) → List (List ℤ)
@@ -10,3 +11,7 @@ items_of lines = map (λ (line : Buffer ℤ). line.items) lines
 -- as many samples as there is room for
 pub record IsWhole (line : Buffer ℤ) : Type 0 where
   pub whole : length line.items ≡ line.capacity
+
+pub record IsFilled (part : List ℤ) (filled : ℕ) (samples : List ℤ) : Type 0 where
+  pub most : filled ≡ min (length part) (length samples)
+  pub front : take filled part ≡ take filled samples

@@ -5,7 +5,7 @@ ghost use Rattle.session_model.specs.Kinds.{delayed};
 ghost use Rattle.session_model.specs.Samples.{below, sample, silence};
 ghost use Rattle.client_kinds.specs.Buffers.{buffers_of};
 ghost use Rattle.circular_buffer.specs.Buffer.{buffer};
-ghost use Rattle.client_kinds.specs.Lines.{IsWhole, items_of};
+ghost use Rattle.client_kinds.specs.Lines.{IsFilled, IsWhole, items_of};
 
 use crate::buffers::heard;
 use crate::guests::Shape;
@@ -39,35 +39,37 @@ pub(crate) fn silent_lines(
     Ok(lines)
 }
 
-/// A sample of a line, or of the input behind it.
-#[tactic(auto, using(crate::proofs::LineLemmas::sample_left, crate::proofs::LineLemmas::sample_right))]
-fn delayed_sample(front: &[i32], back: &[i32], x: &[i32], i: usize) -> i32
-    requires { i < length front.now + length back.now + length x.now }
-    ensures { result ≡ sample ((front.now ++ back.now) ++ x.now) i }
+/// Copies samples to a place.
+fn put_at(part: &mut [i32], place: usize, samples: &[i32])
+    requires { place + length samples.now ≤ length part.old }
+    ensures { part.new ≡ take place part.old ++ (samples.now ++ drop (place + length samples.now) part.old) }
 {
-    if i < front.len() {
-        return front[i];
-    }
-    let behind = i - front.len();
-    if behind < back.len() {
-        return back[behind];
-    }
-    x[behind - back.len()]
+    part[place..place + samples.len()].copy_from_slice(samples);
+}
+
+/// Copies samples behind so many that are there, as many as there is room for. Says how many are there then.
+fn copy_behind(part: &mut [i32], filled: usize, samples: &[i32]) -> usize
+    requires { filled ≤ length part.old }
+    ensures within { result ≤ length part.new }
+    ensures length { length part.new ≡ length part.old }
+    ensures filled { (before : List ℤ) → IsFilled part.old filled before → IsFilled part.new result (before ++ samples.now) }
+{
+    let count = samples.len().min(part.len() - filled);
+    put_at(part, filled, &samples[..count]);
+    filled + count
 }
 
 /// The first samples of a line and of the input behind it.
-#[tactic(auto, using(crate::proofs::FillLemmas::fill_more))]
 fn fill_behind(front: &[i32], back: &[i32], x: &[i32], part: &mut [i32])
     requires { length x.now ≡ length part.old }
-    ensures { part.new ≡ map (λ i. sample ((front.now ++ back.now) ++ x.now) i) (below (length part.old)) }
+    ensures { part.new ≡ take (length part.old) ((front.now ++ back.now) ++ x.now) }
 {
-    for i in 0..part.len() {
-        part[i] = delayed_sample(front, back, x, i);
-    }
+    let filled = copy_behind(part, 0, front);
+    let filled = copy_behind(part, filled, back);
+    copy_behind(part, filled, x);
 }
 
 /// The first samples of a line and of the input behind it.
-#[tactic(auto, using(crate::proofs::LineLemmas::take_below))]
 pub(crate) fn fill_delayed(line: &HeapCircularBuffer<i32>, x: &[i32], part: &mut [i32])
     requires { length x.now ≡ length part.old }
     ensures { part.new ≡ take (length part.old) (line.now.items ++ x.now) }

@@ -14,8 +14,12 @@ use Rattle.session_model.specs.Samples.{below, clamp, sample, total}
 use Rattle.session_laws.proofs.ActivationLemmas.{get_or-map_below, length-map_below}
 use Rattle.session_laws.proofs.PlaceLemmas.{map-same}
 use Rattle.client_kinds.proofs.FillLemmas.{fill_more}
-use Rattle.client_kinds.proofs.LineLemmas.{sample_right}
 use Rattle.guests.specs.Turns.{SoundsAs, weighted}
+
+sample_right : (xs ys : List ℤ) (i j : ℕ) → i ≡ length xs + j → sample (xs ++ ys) i ≡ sample ys j
+sample_right [] ys i j h = ap (λ n. sample ys n) (omega (arith, h))
+sample_right (x ∷ xs) ys zero j h = absurd (omega (arith, h))
+sample_right (x ∷ xs) ys (suc i) j h = sample_right xs ys i j (omega (arith, h))
 
 pub weighted_more : (taps inputs : List ℤ) (at i : ℕ) → weighted taps inputs at (i + 1) ≡ weighted taps inputs at i +ℤ (sample taps i *ℤ sample inputs (at - i))
 weighted_more taps inputs at i =

@@ -4,16 +4,16 @@
 --     fill_more      one frame more
 --     front      what stands in front
 --     played-all      the same on all outputs
-use Rattle.std.proofs.Common.{◌≡◌, ℕ, zero, suc, ◌+◌, ◌-◌, ◌*◌, ◌<◌, ◌≤◌, List, [], ◌++◌, length, take, drop, replicate, ℤ, pos, refl, sym, ◌∙◌, ap, ap₂, subst, arith}
+use Rattle.std.proofs.Common.{◌≡◌, ℕ, zero, suc, ◌+◌, ◌-◌, ◌*◌, ◌<◌, ◌≤◌, List, [], ◌++◌, length, map, take, drop, replicate, ℤ, pos, refl, sym, ◌∙◌, ap, ap₂, subst, arith}
 use Rattle.std.proofs.Math.Seq.{take-append_seam}
-use Rattle.std.proofs.lemmas.List.{length-replicate, take_all}
+use Rattle.std.proofs.lemmas.List.{ext_get_or, get_or-take, length-replicate, length-take-le, take_all}
 use Rattle.session_model.specs.Kinds.{input_at}
 use Rattle.session_model.specs.Samples.{below, sample}
+use Rattle.session_laws.proofs.ActivationLemmas.{get_or-map_below, length-map_below}
 use Rattle.session_laws.proofs.PlaceLemmas.{map-same, sample-silence}
 use Rattle.client_kinds.specs.Buffers.{buffers_of}
 use Rattle.client_kinds.proofs.BufferLemmas.{buffer_past, buffer_within, length-buffer, place_within}
 pub use Rattle.client_kinds.proofs.FillLemmas.{fill_more}
-use Rattle.client_kinds.proofs.LineLemmas.{take_below}
 use Rattle.guests.specs.Turns.{SoundsAs, heard}
 
 pub none_heard : (inputs period : ℕ) (input : List ℤ) → inputs ≡ 0 → SoundsAs [] (input_at period (buffers_of inputs period input) 0)
@@ -32,6 +32,12 @@ pub length_heard : (inputs period : ℕ) (input : List ℤ) → length input ≡
 length_heard zero period input lengths = length-replicate period (pos 0)
 length_heard (suc inputs) period input lengths =
     ap length (buffer_within 0 (suc inputs) period input (omega arith)) ∙ length-buffer 0 (suc inputs) period input lengths (omega arith)
+
+-- the first samples one by one
+take_below : (n : ℕ) (xs : List ℤ) → n ≤ length xs → map (λ i. sample xs i) (below n) ≡ take n xs
+take_below n xs h =
+    ext_get_or (pos 0) (map (λ i. sample xs i) (below n)) (take n xs) (length-map_below (λ i. sample xs i) n ∙ sym (length-take-le n xs h))
+    (λ k within. let low : k < n = omega (arith, within, length-map_below (λ i. sample xs i) n) in get_or-map_below (λ i. sample xs i) n k (pos 0) low ∙ sym (get_or-take n xs k (pos 0) low))
 
 pub heard-is : (period : ℕ) (x sound : List ℤ) → SoundsAs x sound → length sound ≡ period → heard period x ≡ sound
 heard-is period x sound same size =
