@@ -1,7 +1,7 @@
 -- How many rooms the benches of a rack have.
 --     room_count-rooms, room_count-none, room_count-linked      a bench's rooms for links: by its rooms alone, none at first, and one more behind a link
---     kept_count-kept, kept_count-carried      a wire more
---     kept_count-filled      a wire that is filled stays one with a room
+--     kept_count-kept, kept_count-carried, kept_count-like      a wire more
+--     kept_count-filled      filling a wire neither takes its room nor gives it one
 --     wires-set, links-set      the totals with another bench at a place
 --     wires-most, links-most      each bench has at most the total
 --     wires-fresh, links-fresh      new benches have no rooms
@@ -13,10 +13,11 @@ use Rattle.jack_types.specs.declared.kinds.Kind.{Kind}
 use Rattle.jack_types.specs.declared.kinds.Kind.TheVariants.{Pass}
 use Rattle.session_model.specs.Benches.{Signal}
 use Rattle.session_model.specs.Samples.{below}
-use Rattle.client_benches.specs.declared.wires.Source.TheVariants.{Carried, Kept}
+use Rattle.client_benches.specs.declared.wires.Source.{Source}
+use Rattle.client_benches.specs.declared.wires.Source.TheVariants.{Carried, Kept, Like}
 use Rattle.client_benches.specs.declared.wires.Wire.{Wire}
 use Rattle.client_benches.specs.Seen.{Remembered, Seen, new_bench, room_at, room_count}
-use Rattle.client_benches.specs.Wires.{IsKept, is_kept, kept_count, no_wire, wire_at, with_samples}
+use Rattle.client_benches.specs.Wires.{filled_with, is_kept, kept_count, no_wire, wire_at, with_samples}
 use Rattle.client_benches.proofs.CountLemmas.{room_count-is}
 use Rattle.bench_rack.specs.Racks.{Racked, bench_at, link_total, linked, wire_total}
 
@@ -49,14 +50,26 @@ pub kept_count-carried : (wires : List Wire) (input link connection : ℕ) → k
 kept_count-carried wires input link connection =
     sum_by_push (λ (wire : Wire). cond (is_kept wire) 1 0) wires (record { input = input; source = Carried link connection }) ∙ (omega arith)
 
-pub kept_count-filled : (wires : List Wire) (place : ℕ) (samples : List ℤ) → place < length wires → IsKept (wire_at wires place) → kept_count (with_samples wires place samples) ≡ kept_count wires
-kept_count-filled wires place samples within kept = omega (arith, counted, one)
-  where
-    counted : kept_count (with_samples wires place samples) + cond (is_kept (wire_at wires place)) 1 0 ≡ kept_count wires + 1
-    counted = sum_by-set (λ (wire : Wire). cond (is_kept wire) 1 0) wires place (record (wire_at wires place) { source = Kept samples }) no_wire within
+pub kept_count-like : (wires : List Wire) (input place : ℕ) → kept_count (wires ++ record { input = input; source = Like place } ∷ []) ≡ kept_count wires
+kept_count-like wires input place =
+    sum_by_push (λ (wire : Wire). cond (is_kept wire) 1 0) wires (record { input = input; source = Like place }) ∙ (omega arith)
 
-    one : ◌≡◌ {A = ℕ} (cond (is_kept (wire_at wires place)) 1 0) 1
-    one = ap (λ (b : Bool). cond b 1 0) kept
+is_kept-filled : (input : ℕ) (samples : List ℤ) (source : Source) → is_kept (record { input = input; source = filled_with samples source }) ≡ is_kept (record { input = input; source = source })
+is_kept-filled input samples (Kept before) = refl
+is_kept-filled input samples (Carried link connection) = refl
+is_kept-filled input samples (Like place) = refl
+
+pub kept_count-filled : (wires : List Wire) (place : ℕ) (samples : List ℤ) → place < length wires → kept_count (with_samples wires place samples) ≡ kept_count wires
+kept_count-filled wires place samples within = omega (arith, counted, same)
+  where
+    new : Wire
+    new = record (wire_at wires place) { source = filled_with samples (wire_at wires place).source }
+
+    counted : kept_count (with_samples wires place samples) + cond (is_kept (wire_at wires place)) 1 0 ≡ kept_count wires + cond (is_kept new) 1 0
+    counted = sum_by-set (λ (wire : Wire). cond (is_kept wire) 1 0) wires place new no_wire within
+
+    same : ◌≡◌ {A = ℕ} (cond (is_kept new) 1 0) (cond (is_kept (wire_at wires place)) 1 0)
+    same = ap (λ (b : Bool). cond b 1 0) (is_kept-filled (wire_at wires place).input samples (wire_at wires place).source)
 
 module _ (rack : Racked) (place : ℕ) (within : place < length rack.benches) where
   pub wires-most : kept_count (bench_at rack place).kept.wires ≤ wire_total rack

@@ -3,14 +3,14 @@
 --     bench_at rack place      the bench at a place
 --     with_bench rack place bench      the rack with another bench there
 --     wire_total rack, link_total rack      how many rooms its benches have for connections, and for links
---     heard_kept, heard_carried, carrying, begun, linked, moved, filled      a bench with one connection, task, room, moment or content more
-use Rattle.std.specs.Prelude.{ℕ, List, [], ◌∷◌, ◌++◌, ℤ, Some, option_map, slice_index_or, slice_set, sum_by}
+--     heard_kept, heard_carried, heard_like, carrying, begun, linked, moved, filled      a bench with one connection, task, room, moment or content more
+use Rattle.std.specs.Prelude.{ℕ, List, Option, [], ◌∷◌, ◌++◌, ℤ, Some, option_map, slice_index_or, slice_set, sum_by}
 use Rattle.jack_types.specs.declared.kinds.Kind.TheVariants.{Pass}
 use Rattle.jack_types.specs.declared.moments.Moment.{Moment}
 use Rattle.client_benches.specs.Seen.{Seen, moved_to, new_bench, room_count}
 use Rattle.client_benches.specs.Wires.{kept_count, with_samples}
 use Rattle.client_benches.specs.declared.benches.Turn.{Turn}
-use Rattle.client_benches.specs.declared.wires.Source.TheVariants.{Carried, Kept}
+use Rattle.client_benches.specs.declared.wires.Source.TheVariants.{Carried, Kept, Like}
 
 pub record Racked : Type 0 where
   pub benches : List Seen
@@ -42,8 +42,12 @@ abbrev pub heard_carried : ℕ → ℕ → ℕ → Seen → Seen
 heard_carried input link connection bench =
     record bench { kept = record bench.kept { wires = bench.kept.wires ++ record { input = input; source = Carried link connection } ∷ [] } }
 
--- a connection that carries an output over an outgoing link
-abbrev pub carrying : ℕ → ℕ → Seen → Seen
+-- a connection into an input that brings what another wire brings by itself
+abbrev pub heard_like : ℕ → ℕ → Seen → Seen
+heard_like input wire bench = record bench { kept = record bench.kept { wires = bench.kept.wires ++ record { input = input; source = Like wire } ∷ [] } }
+
+-- a connection that carries an output over an outgoing link, or no audio
+abbrev pub carrying : ℕ → Option ℕ → Seen → Seen
 carrying link output bench = record bench { kept = record bench.kept { routes = bench.kept.routes ++ record { link = link; output = output } ∷ [] } }
 
 -- a room at a place of an outgoing link, with nothing in it
@@ -53,6 +57,6 @@ linked place bench = record bench { rooms = slice_set bench.rooms place (Some []
 abbrev pub moved : Moment → ℕ → Seen → Seen
 moved moment period bench = record bench { kept = record bench.kept { turn = option_map (moved_to moment period) bench.kept.turn } }
 
--- these samples in the room of a wire
+-- these samples in the room of a wire, if it has one
 abbrev pub filled : ℕ → List ℤ → Seen → Seen
 filled wire samples bench = record bench { kept = record bench.kept { wires = with_samples bench.kept.wires wire samples } }

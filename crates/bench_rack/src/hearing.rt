@@ -1,7 +1,6 @@
 //! What the inputs of the benches are mixed from.
 
 ghost use Rattle.std.specs.Prelude.{◌≡◌, ◌+◌, ◌<◌, [], length, slice_index_or, slice_set, vec_capacity};
-ghost use Rattle.client_benches.specs.Wires.{IsKept, wire_at};
 ghost use Rattle.bench_rack.specs.Insides.{bench_among};
 ghost use Rattle.bench_rack.specs.Racks.{filled};
 
@@ -24,17 +23,16 @@ fn take_room(spare: &mut Vec<Room>) -> Room
     }
 }
 
-/// Puts what an output of a bench gave into the room of one of its own wires.
+/// Puts what an output of a bench gave into the room of one of its own wires, if that has one.
 fn fill_own<G: Guest>(benches: &mut [ClientBench<G>], place: usize, wire: usize, output: usize)
     requires place { place < length benches.old }
     requires wire { wire < length (bench_among benches.old place).kept.wires }
-    requires kept { IsKept (wire_at (bench_among benches.old place).kept.wires wire) }
     ensures { benches.new ≡ slice_set benches.old place (filled wire (slice_index_or (bench_among benches.old place).kept.audio output []) (bench_among benches.old place)) }
 {
     benches[place].fill_own(wire, output);
 }
 
-/// Puts what an output of a bench gave into the room of a wire of a bench behind it.
+/// Puts what an output of a bench gave into the room of a wire of a bench behind it, if that has one.
 fn fill_behind<G: Guest>(
     benches: &mut [ClientBench<G>],
     place: usize,
@@ -45,14 +43,13 @@ fn fill_behind<G: Guest>(
     requires place { place < length benches.old }
     requires from { from < place }
     requires wire { wire < length (bench_among benches.old place).kept.wires }
-    requires kept { IsKept (wire_at (bench_among benches.old place).kept.wires wire) }
     ensures { benches.new ≡ slice_set benches.old place (filled wire (slice_index_or (bench_among benches.old from).kept.audio output []) (bench_among benches.old place)) }
 {
     let (front, back) = benches.split_at_mut(place);
     back[0].fill_from(wire, &front[from], output);
 }
 
-/// Puts what an output of a bench gave into the room of a wire of a bench before it.
+/// Puts what an output of a bench gave into the room of a wire of a bench before it, if that has one.
 fn fill_before<G: Guest>(
     benches: &mut [ClientBench<G>],
     place: usize,
@@ -63,14 +60,13 @@ fn fill_before<G: Guest>(
     requires place { place < from }
     requires from { from < length benches.old }
     requires wire { wire < length (bench_among benches.old place).kept.wires }
-    requires kept { IsKept (wire_at (bench_among benches.old place).kept.wires wire) }
     ensures { benches.new ≡ slice_set benches.old place (filled wire (slice_index_or (bench_among benches.old from).kept.audio output []) (bench_among benches.old place)) }
 {
     let (front, back) = benches.split_at_mut(from);
     front[place].fill_from(wire, &back[0], output);
 }
 
-/// Puts what an output of a bench gave into the room of a wire of a bench.
+/// Puts what an output of a bench gave into the room of a wire of a bench, if that has one.
 fn fill_among<G: Guest>(
     benches: &mut [ClientBench<G>],
     place: usize,
@@ -81,7 +77,6 @@ fn fill_among<G: Guest>(
     requires place { place < length benches.old }
     requires from { from < length benches.old }
     requires wire { wire < length (bench_among benches.old place).kept.wires }
-    requires kept { IsKept (wire_at (bench_among benches.old place).kept.wires wire) }
     ensures { benches.new ≡ slice_set benches.old place (filled wire (slice_index_or (bench_among benches.old from).kept.audio output []) (bench_among benches.old place)) }
 {
     if from == place {
@@ -95,8 +90,7 @@ fn fill_among<G: Guest>(
 
 impl<G: Guest> Rack<G> {
     ghost use Rattle.std.specs.Prelude.{◌≡◌, ◌<◌, ◌≤◌, [], length, slice_index_or};
-    ghost use Rattle.client_benches.specs.Wires.{IsKept, wire_at};
-    ghost use Rattle.bench_rack.specs.Racks.{bench_at, filled, heard_carried, heard_kept, wire_total, with_bench};
+    ghost use Rattle.bench_rack.specs.Racks.{bench_at, filled, heard_carried, heard_kept, heard_like, wire_total, with_bench};
 
     /// Adds a connection into an input of a bench, from a source that does not play in the cycle. It brings
     /// nothing yet.
@@ -120,24 +114,32 @@ impl<G: Guest> Rack<G> {
         self.benches[place].hear_carried(input, link, connection);
     }
 
-    /// Puts samples into the room of a bench's wire.
+    /// Adds a connection into an input of a bench, which brings what the bench's wire of this place brings by
+    /// itself. It takes no room.
+    pub fn hear_like(&mut self, place: usize, input: u16, wire: u32)
+        requires place { place < length self.old.benches }
+        requires few { length (bench_at self.old place).kept.wires < 512 }
+        ensures { self.new ≡ with_bench self.old place (heard_like input wire (bench_at self.old place)) }
+    {
+        self.benches[place].hear_like(input, wire);
+    }
+
+    /// Puts samples into the room of a bench's wire, if it has one.
     pub fn fill(&mut self, place: usize, wire: usize, samples: &[i32])
         requires place { place < length self.old.benches }
         requires wire { wire < length (bench_at self.old place).kept.wires }
-        requires kept { IsKept (wire_at (bench_at self.old place).kept.wires wire) }
         requires samples { length samples.now ≤ 4096 }
         ensures { self.new ≡ with_bench self.old place (filled wire samples.now (bench_at self.old place)) }
     {
         self.benches[place].fill(wire, samples);
     }
 
-    /// Puts what an output of a bench gave when it was last played into the room of a bench's wire; nothing
-    /// where there was no such output.
+    /// Puts what an output of a bench gave when it was last played into the room of a bench's wire, if it has
+    /// one; nothing where there was no such output.
     pub fn fill_back(&mut self, place: usize, wire: usize, from: usize, output: usize)
         requires place { place < length self.old.benches }
         requires from { from < length self.old.benches }
         requires wire { wire < length (bench_at self.old place).kept.wires }
-        requires kept { IsKept (wire_at (bench_at self.old place).kept.wires wire) }
         ensures { self.new ≡ with_bench self.old place (filled wire (slice_index_or (bench_at self.old from).kept.audio output []) (bench_at self.old place)) }
     {
         fill_among(&mut self.benches, place, wire, from, output);

@@ -18,7 +18,7 @@ fn take_rooms(spare: &mut Vec<Rooms>) -> Rooms
 }
 
 impl<G: Guest> Rack<G> {
-    ghost use Rattle.std.specs.Prelude.{◌≡◌, ◌<◌, None, length};
+    ghost use Rattle.std.specs.Prelude.{◌≡◌, ◌<◌, IfSome, None, length};
     ghost use Rattle.std.specs.Option.{ForSome};
     ghost use Rattle.client_benches.specs.Seen.{room_at};
     ghost use Rattle.bench_rack.specs.Racks.{bench_at, carrying, link_total, linked, with_bench};
@@ -35,11 +35,11 @@ impl<G: Guest> Rack<G> {
         self.benches[place].link(link, rooms);
     }
 
-    /// Adds a connection that carries an output of a bench over its outgoing link of this place.
-    pub fn carry(&mut self, place: usize, link: u32, output: u16)
+    /// Adds a connection that carries an output of a bench over its outgoing link of this place, or no audio.
+    pub fn carry(&mut self, place: usize, link: u32, output: Option<u16>)
         requires place { place < length self.old.benches }
         requires few { length (bench_at self.old place).kept.routes < 512 }
-        requires output { ForSome (bench_at self.old place).kept.turn (λ turn. output < turn.ports.outputs) }
+        requires output { IfSome output (λ output. ForSome (bench_at self.old place).kept.turn (λ turn. output < turn.ports.outputs)) }
         ensures { self.new ≡ with_bench self.old place (carrying link output (bench_at self.old place)) }
     {
         self.benches[place].carry(link, output);

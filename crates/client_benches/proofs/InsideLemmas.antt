@@ -2,9 +2,10 @@
 --     sound-lent      behind a guest that is lent
 --     room-carried, sound-carried      with one more route
 --     room-stays, shape-played, sound-played      behind a play
-use Rattle.std.proofs.Common.{◌≡◌, ℕ, ◌<◌, ◌*◌, List, [], ◌∷◌, ◌++◌, length, ℤ, Option, Some, None, sym, ◌∙◌, ap, subst, arith, true≢false}
+--     reached-none, reached-filled      where there is no room at all, and behind a play
+use Rattle.std.proofs.Common.{◌≡◌, ℕ, zero, suc, ◌<◌, ◌*◌, List, [], ◌∷◌, ◌++◌, length, replicate, ℤ, Option, Some, None, option_map, refl, sym, ◌∙◌, ap, subst, arith, true≢false}
 use Rattle.std.specs.Option.{ForSome}
-use Rattle.std.specs.Prelude.{is_some, vec_capacity}
+use Rattle.std.specs.Prelude.{IfSome, if◌then◌else◌, is_some, nat_lt, slice_index_or, vec_capacity}
 use Rattle.jack_types.specs.declared.kinds.Kind.{Kind}
 use Rattle.jack_types.specs.declared.kinds.Kind.TheVariants.{Pass, Gain, Mix as MixKind, Delay, Tone, Click, Meter, Tape, Guest, Midiplay, Midithru, Midilog, Disk}
 use Rattle.jack_types.specs.declared.kinds.Score.{Score}
@@ -16,9 +17,9 @@ use Rattle.client_kinds.specs.Standings.{Standing, HasGuest, HasScore, IsGuest}
 use Rattle.client_benches.specs.declared.benches.Turn.{Turn}
 use Rattle.client_benches.specs.declared.values.Route.{Route}
 use Rattle.client_benches.specs.declared.wires.Wire.{Wire}
-use Rattle.client_benches.specs.Insides.{HasAllRoom, IsPlayedShape, IsSound}
-use Rattle.client_benches.specs.Routes.{HasOutput}
-use Rattle.client_benches.specs.Seen.{MayPlay, own_scores}
+use Rattle.client_benches.specs.Insides.{HasAllRoom, IsPlayedShape, IsReached, IsSound}
+use Rattle.client_benches.specs.Routes.{HasOutput, IsBelow}
+use Rattle.client_benches.specs.Seen.{AreFilled, MayPlay, own_scores}
 use Rattle.client_benches.proofs.KeptLemmas.{HasScore-own, first-log, play-fed, play-log}
 use Rattle.client_benches.proofs.RouteLemmas.{All-more, length-more}
 
@@ -46,10 +47,14 @@ sound-lent standing new turn routes kind none fresh s = record {
   log = ap (λ memory. memory.log) (fresh (own_scores new) (HasScore-own new)) ∙ first-log (own_scores new) new.kind;
 }
 
-pub sound-carried : (standing : Standing) (turn : Option Turn) (routes : List Route) (route : Route) → ForSome turn (λ now. route.output < now.ports.outputs) → IsSound standing turn routes → IsSound standing turn (routes ++ route ∷ [])
+below-carried : (turn : Option Turn) (output : Option ℕ) → IfSome output (λ output. ForSome turn (λ now. output < now.ports.outputs)) → (now : Turn) → turn ≡ Some now → IsBelow now.ports.outputs output
+below-carried turn None there now e = tt
+below-carried turn (Some output) there now e = there now e
+
+pub sound-carried : (standing : Standing) (turn : Option Turn) (routes : List Route) (route : Route) → IfSome route.output (λ output. ForSome turn (λ now. output < now.ports.outputs)) → IsSound standing turn routes → IsSound standing turn (routes ++ route ∷ [])
 sound-carried standing turn routes route there s = record {
   task = s.task;
-  outputs = λ now e. All-more (HasOutput now.ports.outputs) routes route (s.outputs now e) (there now e);
+  outputs = λ now e. All-more (HasOutput now.ports.outputs) routes route (s.outputs now e) (below-carried turn route.output there now e);
   log = s.log;
 }
 
@@ -103,4 +108,21 @@ room-carried period mixer padded input output wires routes routes_now rooms rout
   few_wires = r.few_wires;
   few_routes = (omega (arith, few, ap length is, length-more routes.items route), omega (arith, capacity, r.few_routes.1));
   places = r.places;
+}
+
+abbrev no_room : Option (List Signal)
+no_room = None
+
+none-there : (n place : ℕ) → slice_index_or (replicate n no_room) place None ≡ None
+none-there zero place = refl
+none-there (suc n) zero = refl
+none-there (suc n) (suc place) = none-there n place
+
+pub reached-none : (rooms : List (Option (List Signal))) → rooms ≡ replicate 64 None → IsReached 0 rooms
+reached-none rooms is = record { within = omega arith; beyond = λ place h. ap (λ (l : List (Option (List Signal))). slice_index_or l place None) is ∙ none-there 64 place }
+
+pub reached-filled : (reached links : ℕ) (old new : List (Option (List Signal))) (value : ℕ → List Signal) → AreFilled old new links value → IsReached reached old → IsReached reached new
+reached-filled reached links old new value filled r = record {
+  within = r.within;
+  beyond = λ place h. filled place ∙ ap (option_map (λ _. if nat_lt place links then value place else [])) (r.beyond place h);
 }

@@ -146,7 +146,7 @@ module _ (kept : Remembered) (given : List (List Signal)) where
     same-routed p q [] same = refl
     same-routed p q (route ∷ routes) same =
         ap₂ (λ (one : Signal) (others : List Signal). one ∷ others)
-        (ap (λ (xs : List (List ℤ)). record { audio = input_at turn.ports.period xs route.output; midi = [] }) same)
+        (ap (λ (xs : List (List ℤ)). record { audio = option_map_or (λ j. input_at turn.ports.period xs j) route.output []; midi = [] }) same)
         (same-routed p q routes same)
 
     routes_at : (place : ℕ) → (if nat_lt place turn.links then routes_on kept.routes place else []) ≡ slice_index_or the_task.routes place []

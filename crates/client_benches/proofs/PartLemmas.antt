@@ -1,20 +1,16 @@
 -- The parts of an input, and their mix.
---     parts-more, parts-other      one more wire, into this input or into another
 --     sums-padded      a part counts as far as there are frames
 --     mix-alone      a part that is mixed alone is copied
 --     IsOnly, only-one, only-mixed, two-pass      the part of an input that gets no more than one
-use Rattle.std.proofs.Common.{◌≡◌, ℕ, ◌+◌, ◌<◌, ◌==◌, Bool, true, false, List, [], ◌∷◌, ◌++◌, length, map, filter, take, drop, get_or, ℤ, pos, negsuc, ◌+ℤ◌, Bor, Option, Some, None, true≢false, sym, ◌∙◌, ap, subst, arith, add-one}
+use Rattle.std.proofs.Common.{◌≡◌, ℕ, ◌+◌, ◌<◌, Bool, true, false, List, [], ◌∷◌, ◌++◌, length, map, filter, take, drop, get_or, ℤ, pos, negsuc, ◌+ℤ◌, Bor, Option, Some, None, true≢false, sym, ◌∙◌, ap, subst, arith, add-one}
 use Rattle.std.specs.Int.{w32}
 use Rattle.std.specs.Prelude.{FitsSigned, MatchOption, if◌then◌else◌, is_some, unwrap_or}
 use Rattle.std.proofs.lemmas.Int.{ints}
 use Rattle.std.proofs.lemmas.List.{ext_get_or, length-append, take-append-drop}
 use Rattle.std.proofs.lemmas.List.Elements.{filter-append}
 use Rattle.std.proofs.Math.Seq.{take-suc}
-use Rattle.session_model.specs.Benches.{Part, Signal, audio_part}
 use Rattle.session_model.specs.Samples.{clamp, mix, sample, total}
 use Rattle.session_laws.proofs.ActivationLemmas.{get_or-map_below, length-map_below}
-use Rattle.client_benches.specs.declared.wires.Wire.{Wire}
-use Rattle.client_benches.specs.Wires.{part_of, parts_into}
 use Rattle.client_benches.proofs.SliceLemmas.{map_below-same, map_more}
 use Rattle.port_mixer.specs.Sums.{AreSamples, sums_of}
 
@@ -38,13 +34,6 @@ filter-same test (y ∷ ys) x h = go (test y) (filter-same test ys x h)
     go true same = ap (λ l. y ∷ l) same
     go false same = same
 
-pub parts-more : (wires : List Wire) (wire : Wire) (input : ℕ) → (wire.input == input) ≡ true → parts_into (wires ++ wire ∷ []) input ≡ parts_into wires input ++ part_of wire ∷ []
-parts-more wires wire input h =
-    ap (map part_of) (filter-more (λ (w : Wire). w.input == input) wires wire h) ∙ map_more part_of (filter (λ (w : Wire). w.input == input) wires) wire
-
-pub parts-other : (wires : List Wire) (wire : Wire) (input : ℕ) → (wire.input == input) ≡ false → parts_into (wires ++ wire ∷ []) input ≡ parts_into wires input
-parts-other wires wire input h = ap (map part_of) (filter-same (λ (w : Wire). w.input == input) wires wire h)
-
 -- parts with the same samples within these frames have the same sums
 pub sums-padded : (frames : ℕ) (parts : List (List ℤ)) (part other : List ℤ) → ((k : ℕ) → k < frames → sample part k ≡ sample other k) → sums_of frames (parts ++ part ∷ []) ≡ sums_of frames (parts ++ other ∷ [])
 sums-padded frames parts part other same = map_below-same
@@ -63,25 +52,6 @@ added-padded frames sums new padded part long same adds parts before =
 
 pub length_sums : (frames : ℕ) (sums : List ℤ) (parts : List (List ℤ)) → sums ≡ sums_of frames parts → length sums ≡ frames
 length_sums frames sums parts is = ap length is ∙ length-map_below (λ i. total (map (λ part. sample part i) parts)) frames
-
--- a wire into this input is a part more, any other is none
-module _ (given : List (List Signal)) (wires : List Wire) (i : ℕ) (d : Wire) (input : ℕ) (low : i < length wires) where
-  pub sums-more : (frames : ℕ) (sums new part : List ℤ) → ((get_or wires i d).input == input) ≡ true → part ≡ audio_part given (part_of (get_or wires i d))
-      → ((parts : List (List ℤ)) → sums ≡ sums_of frames parts → new ≡ sums_of frames (parts ++ part ∷ []))
-      → sums ≡ sums_of frames (map (audio_part given) (parts_into (take i wires) input)) → new ≡ sums_of frames (map (audio_part given) (parts_into (take (i + 1) wires) input))
-  sums-more frames sums new part on is adds before =
-      adds (map (audio_part given) (parts_into (take i wires) input)) before
-      ∙ ap (λ (x : List ℤ). sums_of frames (map (audio_part given) (parts_into (take i wires) input) ++ x ∷ [])) is
-      ∙ ap (sums_of frames) (sym (map_more (audio_part given) (parts_into (take i wires) input) (part_of (get_or wires i d))))
-      ∙ ap (λ (ps : List (Part (List ℤ))). sums_of frames (map (audio_part given) ps)) (sym (parts-more (take i wires) (get_or wires i d) input on))
-      ∙ ap (λ (ws : List Wire). sums_of frames (map (audio_part given) (parts_into ws input))) (sym (take-next wires i d low))
-
-  pub sums-other : (frames : ℕ) (sums : List ℤ) → ((get_or wires i d).input == input) ≡ false
-      → sums ≡ sums_of frames (map (audio_part given) (parts_into (take i wires) input)) → sums ≡ sums_of frames (map (audio_part given) (parts_into (take (i + 1) wires) input))
-  sums-other frames sums other before =
-      before
-      ∙ ap (λ (ps : List (Part (List ℤ))). sums_of frames (map (audio_part given) ps)) (sym (parts-other (take i wires) (get_or wires i d) input other))
-      ∙ ap (λ (ws : List Wire). sums_of frames (map (audio_part given) (parts_into ws input))) (sym (take-next wires i d low))
 
 pub length-mix : (frames : ℕ) (parts : List (List ℤ)) → length (mix frames parts) ≡ frames
 length-mix frames parts = length-map_below (λ i. clamp (total (map (λ part. sample part i) parts))) frames

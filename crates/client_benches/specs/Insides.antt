@@ -1,5 +1,5 @@
 -- The fields of a client's bench, and what stays true of them. No public clause cites this module.
-use Rattle.std.specs.Prelude.{◌≡◌, ℕ, ◌*◌, ◌≤◌, List, [], ℤ, length, All, Option, Some, vec_capacity}
+use Rattle.std.specs.Prelude.{◌≡◌, ℕ, ◌*◌, ◌≤◌, List, [], ℤ, length, All, Option, Some, None, slice_index_or, vec_capacity}
 use Rattle.std.specs.Global.{Vec}
 use Rattle.session_model.specs.Benches.{Signal}
 use Rattle.client_kinds.specs.Buffers.{buffers_of}
@@ -41,6 +41,11 @@ pub record HasAllRoom (period : ℕ) (mixer : Mix) (padded input output : List �
   pub few_wires : (length wires.items ≤ 512) × (512 ≤ vec_capacity wires)
   pub few_routes : (length routes.items ≤ 512) × (512 ≤ vec_capacity routes)
   pub places : length rooms ≡ 64
+
+-- places of links from `reached` on have no room
+pub record IsReached (reached : ℕ) (rooms : List (Option (List Signal))) : Type 0 where
+  pub within : reached ≤ 64
+  pub beyond : (place : ℕ) → reached ≤ place → slice_index_or rooms place None ≡ None
 
 -- a task can be played, its routes name its outputs, and nothing is logged
 pub record IsSound (standing : Standing) (turn : Option Turn) (routes : List Route) : Type 0 where

@@ -60,6 +60,8 @@ pub(crate) struct Parts<G: Guest> {
     pub(crate) wires: Vec<Wire>,
     pub(crate) routes: Vec<Route>,
     pub(crate) rooms: Vec<Option<Rooms>>,
+    // Places of links from this one on have no room.
+    pub(crate) reached: usize,
 }
 
 impl<G: Guest> Model for ClientBench<G> {
@@ -67,11 +69,11 @@ impl<G: Guest> Model for ClientBench<G> {
 
     ghost Value = { Seen };
 
-    ghost use Rattle.client_benches.specs.Insides.{seen_of, HasAllRoom, IsPlayedShape, IsSound};
+    ghost use Rattle.client_benches.specs.Insides.{seen_of, HasAllRoom, IsPlayedShape, IsReached, IsSound};
 
     ghost view = { λ b. seen_of b.parts.value.bench b.parts.value.turn b.parts.value.wires.items b.parts.value.routes.items b.parts.value.played b.parts.value.input.items b.parts.value.output.items b.parts.value.rooms.items };
 
-    ghost invariant = { λ b. HasAllRoom b.parts.value.bench.period b.parts.value.mixer b.parts.value.padded.items b.parts.value.input.items b.parts.value.output.items b.parts.value.wires b.parts.value.routes b.parts.value.rooms.items × IsPlayedShape b.parts.value.bench.period b.parts.value.played × IsSound b.parts.value.bench b.parts.value.turn b.parts.value.routes.items };
+    ghost invariant = { λ b. HasAllRoom b.parts.value.bench.period b.parts.value.mixer b.parts.value.padded.items b.parts.value.input.items b.parts.value.output.items b.parts.value.wires b.parts.value.routes b.parts.value.rooms.items × IsPlayedShape b.parts.value.bench.period b.parts.value.played × IsSound b.parts.value.bench b.parts.value.turn b.parts.value.routes.items × IsReached b.parts.value.reached b.parts.value.rooms.items };
 }
 
 /// All room of a bench but that of its memory and its sums.
@@ -166,6 +168,7 @@ impl<G: Guest> ClientBench<G> {
             wires: space.wires,
             routes: space.routes,
             rooms: space.rooms,
+            reached: 0,
         };
         match Box::new(alloc, parts) {
             Ok(parts) => Ok(ClientBench { parts }),

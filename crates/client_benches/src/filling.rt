@@ -2,8 +2,8 @@
 
 ghost use Rattle.std.specs.Prelude.{◌≡◌, ◌+◌, ◌*◌, ◌<◌, ◌≤◌, ◌++◌, All, drop, length, map, slice_range, take, vec_capacity};
 ghost use Rattle.client_kinds.specs.Buffers.{buffers_of, with_buffer};
-ghost use Rattle.client_benches.specs.Rooms.{signal_of};
-ghost use Rattle.client_benches.specs.Routes.{carried_by, HasOutput};
+ghost use Rattle.client_benches.specs.Rooms.{signal_of, with_output};
+ghost use Rattle.client_benches.specs.Routes.{carried_by, HasOutput, IsBelow};
 
 use crate::values::Route;
 use client_kinds::Shape;
@@ -31,9 +31,21 @@ fn copy_output(buffers: &mut [i32], ports: Shape, outputs: &[i32], output: u16)
     );
 }
 
+/// Copies what a connection carries, if it carries audio.
+fn copy_carried(buffers: &mut [i32], ports: Shape, outputs: &[i32], output: Option<u16>)
+    requires port { IsBelow ports.outputs output }
+    requires room { ports.outputs * ports.period ≤ length buffers.old }
+    requires outputs { ports.outputs * ports.period ≤ length outputs.now }
+    ensures { buffers.new ≡ with_output ports.period outputs.now buffers.old output }
+{
+    if let Some(output) = output {
+        copy_output(buffers, ports, outputs, output);
+    }
+}
+
 /// Copies the outputs that the connections of a link carry, and lists which these are.
 pub(crate) fn copy_routes(
-    carried: &mut Vec<u16>,
+    carried: &mut Vec<Option<u16>>,
     buffers: &mut [i32],
     routes: &[Route],
     link: u32,
@@ -47,13 +59,13 @@ pub(crate) fn copy_routes(
     requires outputs { ports.outputs * ports.period ≤ length outputs.now }
     ensures capacity { vec_capacity carried.new ≡ vec_capacity carried.old }
     ensures room { length buffers.new ≡ length buffers.old }
-    ensures ports { All (λ output. output < ports.outputs) carried.new.items }
+    ensures ports { All (IsBelow ports.outputs) carried.new.items }
     ensures signals { map (signal_of ports.period buffers.new) carried.new.items ≡ carried_by ports.period (buffers_of ports.outputs ports.period outputs.now) link routes.now }
 {
     carried.clear();
     for route in routes {
         if route.link == link {
-            copy_output(buffers, ports, outputs, route.output);
+            copy_carried(buffers, ports, outputs, route.output);
             carried.push_reserved(route.output);
         }
     }

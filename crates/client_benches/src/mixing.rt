@@ -69,7 +69,7 @@ fn only_part<'a>(wires: &'a [Wire], given: &'a [Option<Rooms>], input: u16) -> O
         if only.is_some() {
             return None;
         }
-        only = Some(wire.part(given));
+        only = Some(wire.part(wires, given));
     }
     Some(only.unwrap_or(&[]))
 }
@@ -94,7 +94,7 @@ fn mix_parts(
     mixer.clear(out.len() as u32);
     for wire in wires {
         if wire.input == input {
-            add_part(mixer, padded, wire.part(given));
+            add_part(mixer, padded, wire.part(wires, given));
         }
     }
     mixer.settle(out);

@@ -4,6 +4,7 @@ ghost use Rattle.std.specs.Prelude.{◌≡◌, ◌+◌, ◌≤◌, ◌*◌, ◌<
 ghost use Rattle.session_model.specs.Kinds.{play};
 ghost use Rattle.client_kinds.specs.Buffers.{buffers_of};
 ghost use Rattle.client_kinds.specs.Standings.{HasGuest};
+ghost use Rattle.client_benches.specs.Insides.{IsReached};
 ghost use Rattle.client_benches.specs.Routes.{HasOutput, carried_by};
 ghost use Rattle.client_benches.specs.Seen.{AreFilled, own_scores};
 
@@ -15,9 +16,10 @@ use client_kinds::{Bench, Guest, Shape};
 use jack_types::Moment;
 
 /// Copies what each outgoing link carries into its room, if that is there. Past the last link nothing
-/// is carried.
+/// is carried. No place from `reached` on has a room.
 fn fill_rooms(
     rooms: &mut [Option<Rooms>],
+    reached: usize,
     routes: &[Route],
     links: u32,
     ports: Shape,
@@ -26,13 +28,14 @@ fn fill_rooms(
     requires few { length routes.now ≤ 512 }
     requires routes { All (HasOutput ports.outputs) routes.now }
     requires ports { ports.outputs ≤ 16 }
-    requires rooms { length rooms.old ≤ 64 }
+    requires rooms { length rooms.old ≡ 64 }
+    requires reached { IsReached reached rooms.old }
     requires frames { ports.period ≤ 4096 }
     requires outputs { ports.outputs * ports.period ≤ length outputs.now }
     ensures places { length rooms.new ≡ length rooms.old }
     ensures filled { AreFilled rooms.old rooms.new links (λ link. carried_by ports.period (buffers_of ports.outputs ports.period outputs.now) link routes.now) }
 {
-    for place in 0..rooms.len() {
+    for place in 0..reached {
         if let Some(room) = rooms[place].as_mut() {
             if (place as u32) < links {
                 room.fill(routes, place as u32, ports, outputs);
@@ -43,12 +46,14 @@ fn fill_rooms(
     }
 }
 
-/// Takes all connections off the links.
-fn clear_rooms(rooms: &mut [Option<Rooms>])
+/// Takes all connections off the links. No place from `reached` on has a room.
+fn clear_rooms(rooms: &mut [Option<Rooms>], reached: usize)
+    requires rooms { length rooms.old ≡ 64 }
+    requires reached { IsReached reached rooms.old }
     ensures places { length rooms.new ≡ length rooms.old }
     ensures cleared { (place : ℕ) → slice_index_or rooms.new place None ≡ option_map (λ _. []) (slice_index_or rooms.old place None) }
 {
-    for place in 0..rooms.len() {
+    for place in 0..reached {
         if let Some(room) = rooms[place].as_mut() {
             room.clear();
         }
@@ -111,6 +116,7 @@ impl<G: Guest> ClientBench<G> {
         parts.played = turn.ports;
         fill_rooms(
             &mut parts.rooms,
+            parts.reached,
             parts.routes.as_slice(),
             turn.links,
             turn.ports,
@@ -139,7 +145,10 @@ impl<G: Guest> Work for ClientBench<G> {
     fn play(&mut self, given: &[Option<Rooms>]) {
         match self.parts.turn {
             Some(turn) => self.play_turn(turn, given),
-            None => clear_rooms(&mut self.parts.rooms),
+            None => {
+                let parts = &mut *self.parts;
+                clear_rooms(&mut parts.rooms, parts.reached);
+            }
         }
     }
 
@@ -151,6 +160,8 @@ impl<G: Guest> Work for ClientBench<G> {
     }
 
     fn back(&mut self, place: u32, value: Rooms) {
-        self.parts.rooms[place as usize] = Some(value);
+        let parts = &mut *self.parts;
+        parts.rooms[place as usize] = Some(value);
+        parts.reached = parts.reached.max(place as usize + 1);
     }
 }

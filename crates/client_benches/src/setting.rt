@@ -45,9 +45,9 @@ impl<G: Guest> ClientBench<G> {
     ghost use Rattle.client_kinds.specs.Buffers.{channels_of};
     ghost use Rattle.client_kinds.specs.Standings.{HasScore, IsDisk, IsGuest};
     ghost use Rattle.client_benches.specs.Seen.{MayPlay, cleared, moved_to, room_count};
-    ghost use Rattle.client_benches.specs.Wires.{IsKept, kept_count, wire_at, with_samples};
+    ghost use Rattle.client_benches.specs.Wires.{kept_count, with_samples};
     ghost use Rattle.client_benches.specs.declared.benches.Turn.{Turn as TurnValue};
-    ghost use Rattle.client_benches.specs.declared.wires.Source.TheVariants.{Kept, Carried};
+    ghost use Rattle.client_benches.specs.declared.wires.Source.TheVariants.{Kept, Carried, Like};
 
     /// Lends a guest, which is reset.
     pub fn lend(&mut self, guest: G)
@@ -99,6 +99,7 @@ impl<G: Guest> ClientBench<G> {
         parts.routes.clear();
         unwire(&mut parts.wires, spare);
         empty_places(&mut parts.rooms, spare_links);
+        parts.reached = 0;
     }
 
     /// Sets what the client does in the next cycle. There are as many links out of its node.
@@ -138,10 +139,22 @@ impl<G: Guest> ClientBench<G> {
         });
     }
 
-    /// Adds a connection that carries an output over the outgoing link of this place.
-    pub fn carry(&mut self, link: u32, output: u16)
+    /// Adds a connection into an input, which brings what the wire of this place among all wires brings by
+    /// itself. It needs no room.
+    pub fn hear_like(&mut self, input: u16, place: u32)
+        requires { length self.old.kept.wires < 512 }
+        ensures { self.new ≡ record self.old { kept = record self.old.kept { wires = self.old.kept.wires ++ record { input = input; source = Like place } ∷ [] } } }
+    {
+        self.parts.wires.push_reserved(Wire {
+            input,
+            source: Source::Like { place },
+        });
+    }
+
+    /// Adds a connection that carries an output over the outgoing link of this place, or no audio.
+    pub fn carry(&mut self, link: u32, output: Option<u16>)
         requires few { length self.old.kept.routes < 512 }
-        requires output { ForSome self.old.kept.turn (λ turn. output < turn.ports.outputs) }
+        requires output { IfSome output (λ output. ForSome self.old.kept.turn (λ turn. output < turn.ports.outputs)) }
         ensures { self.new ≡ record self.old { kept = record self.old.kept { routes = self.old.kept.routes ++ record { link = link; output = output } ∷ [] } } }
     {
         self.parts.routes.push_reserved(Route { link, output });
@@ -155,7 +168,9 @@ impl<G: Guest> ClientBench<G> {
     {
         let mut room = room;
         room.clear();
-        self.parts.rooms[place as usize] = Some(room);
+        let parts = &mut *self.parts;
+        parts.rooms[place as usize] = Some(room);
+        parts.reached = parts.reached.max(place as usize + 1);
     }
 
     /// Sets the moment and the period of the next cycle.
@@ -169,9 +184,8 @@ impl<G: Guest> ClientBench<G> {
         }
     }
 
-    /// Puts samples into the room of the wire of this place among all wires.
+    /// Puts samples into the room of the wire of this place among all wires, if it has one.
     pub fn fill(&mut self, place: usize, samples: &[i32])
-        requires wire { IsKept (wire_at self.old.kept.wires place) }
         requires place { place < length self.old.kept.wires }
         requires samples { length samples.now ≤ 4096 }
         ensures { self.new ≡ record self.old { kept = record self.old.kept { wires = with_samples self.old.kept.wires place samples.now } } }
@@ -180,9 +194,8 @@ impl<G: Guest> ClientBench<G> {
     }
 
     /// Puts what an output of another bench gave when that was last played into the room of the wire of this
-    /// place among all wires; nothing where there was no such output.
+    /// place among all wires, if it has one; nothing where there was no such output.
     pub fn fill_from(&mut self, place: usize, other: &ClientBench<G>, output: usize)
-        requires wire { IsKept (wire_at self.old.kept.wires place) }
         requires place { place < length self.old.kept.wires }
         ensures { self.new ≡ record self.old { kept = record self.old.kept { wires = with_samples self.old.kept.wires place (slice_index_or other.now.kept.audio output []) } } }
     {
@@ -197,9 +210,8 @@ impl<G: Guest> ClientBench<G> {
     }
 
     /// Puts what its own output gave when it was last played into the room of the wire of this place among
-    /// all wires; nothing where there was no such output.
+    /// all wires, if it has one; nothing where there was no such output.
     pub fn fill_own(&mut self, place: usize, output: usize)
-        requires wire { IsKept (wire_at self.old.kept.wires place) }
         requires place { place < length self.old.kept.wires }
         ensures { self.new ≡ record self.old { kept = record self.old.kept { wires = with_samples self.old.kept.wires place (slice_index_or self.old.kept.audio output []) } } }
     {

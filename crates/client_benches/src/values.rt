@@ -12,16 +12,16 @@ use jack_types::Memory;
 use std::alloc::{AllocError, Global};
 use std::marker::Model;
 
-/// A connection over an outgoing link, which carries one of its client's outputs. Outputs and links are
-/// counted from 0.
+/// A connection over an outgoing link, which carries one of its client's outputs, or no audio at all.
+/// Outputs and links are counted from 0.
 #[derive(Clone, Copy, PartialEq, Eq, Debug, Drop)]
 pub struct Route {
     pub link: u32,
-    pub output: u16,
+    pub output: Option<u16>,
 }
 
 /// What goes along a link: for each of its connections, in the order of making, a period of one of its
-/// source's outputs.
+/// source's outputs, or nothing.
 ///
 /// There is room for sixteen outputs of 4,096 frames and for 512 connections, so that any rooms do for
 /// any link; of it no more is touched than was needed so far. An output that several connections carry
@@ -30,7 +30,7 @@ pub struct Route {
 pub struct Rooms {
     outputs: Vec<i32>,
     frames: usize,
-    carried: Vec<u16>,
+    carried: Vec<Option<u16>>,
 }
 
 impl Model for Rooms {
@@ -81,16 +81,16 @@ impl Rooms {
         }
     }
 
-    /// The samples that a connection carries, none where there is no such connection.
+    /// The samples that a connection carries, none where it carries no audio or there is no such connection.
     pub fn audio(&self, connection: usize) -> &[i32]
         ensures { result.now ≡ (slice_index_or self.now connection no_signal).audio }
     {
         match self.carried.get(connection) {
-            Some(output) => {
+            Some(Some(output)) => {
                 let first = usize::from(*output) * self.frames;
                 &self.outputs[first..first + self.frames]
             }
-            None => &[],
+            _ => &[],
         }
     }
 

@@ -24,7 +24,7 @@ impl<G: Guest + Send> Stage<G> {
     ghost use Rattle.cycle_plan.specs.Plans.{state_of_plan};
     ghost use Rattle.client_seats.specs.Moves.{kinds_of};
     ghost use Rattle.task_laws.specs.Calls.{IsOldKind};
-    ghost use Rattle.task_laws.specs.Edges.{HasAudioEdges};
+    ghost use Rattle.ready_laws.specs.Quiet.{HasNoEvents};
     ghost use Rattle.stage_laws.specs.Plays.{IsSettledOn, PlaysPlan};
     ghost use Rattle.client_stage.specs.Standing.{StandsOn};
 
@@ -51,7 +51,7 @@ impl<G: Guest + Send> Stage<G> {
         ensures period { self.new.staged.period ≡ period }
         ensures stands { StandsOn self.new.staged self.new.plan }
         ensures plays { (course : Course) (at : Settled) → self.old.staged.is_staffed ≡ true → result ≡ true → IsSettledOn self.old.staged self.old.plan plan.now moment.now period capture.now.channels at → course.scores ≡ self.old.staged.owned.scores
-            → HasAudioEdges at.graph → length capture.now.channels ≡ length (audio_outputs (state_of_plan plan.now) system_name)
+            → HasNoEvents at → length capture.now.channels ≡ length (audio_outputs (state_of_plan plan.now) system_name)
             → ((n : ℕ) → n < length plan.now.nodes → IsOldKind (node_at (open_clients plan.now.nodes) n).kind) → PlaysPlan course self.old.staged plan.now at self.new.staged }
         ensures kinds { IsPermutation (kinds_of self.old.staged.racked) (kinds_of self.new.staged.racked) }
         ensures scores { self.new.staged.owned.scores ≡ self.old.staged.owned.scores }

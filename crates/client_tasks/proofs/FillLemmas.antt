@@ -5,7 +5,7 @@
 --     own-at      a joint's wire stands behind those of the earlier joints of its node
 --     others-filled      nothing but wires changes
 --     known-same      what is known rests on what was given
-use Rattle.std.proofs.Common.{◌≡◌, ◌≢◌, ℕ, zero, suc, ◌+◌, ◌<◌, ◌≤◌, Bool, true, false, cond, ◌==◌, ◌⊎◌, inl, inr, List, [], ◌∷◌, ◌++◌, length, map, filter, count_by, get_or, set, ℤ, Option, refl, sym, ◌∙◌, ap, ap₂, subst, arith, eq-eqb}
+use Rattle.std.proofs.Common.{◌≡◌, ◌≢◌, ℕ, zero, suc, ◌+◌, ◌<◌, ◌≤◌, Bool, true, false, cond, ◌==◌, ◌⊎◌, inl, inr, List, [], ◌∷◌, ◌++◌, length, map, filter, count_by, get_or, set, take, ℤ, Option, Some, None, refl, sym, ◌∙◌, ap, ap₂, subst, arith, eq-eqb}
 use Rattle.std.proofs.lemmas.Bool.{cases_eq, cases_lt, le-ltb, lt-ltb}
 use Rattle.std.proofs.lemmas.List.{get_or-map, length-map, map-append, set-append_left}
 use Rattle.std.proofs.Math.Seq.{set-append_seam}
@@ -14,16 +14,16 @@ use Rattle.std.proofs.lemmas.List.Sums.{length-filter}
 use Rattle.session_model.specs.Samples.{below}
 use Rattle.session_laws.proofs.SequentialLemmas.{filter_below-at}
 use Rattle.client_benches.specs.Seen.{Seen}
-use Rattle.client_benches.specs.Wires.{no_wire, wire_at}
-use Rattle.client_benches.specs.declared.wires.Source.TheVariants.{Kept as KeptSource}
+use Rattle.client_benches.specs.Wires.{filled_with, no_wire, wire_at}
+use Rattle.client_benches.specs.declared.wires.Source.{Source}
 use Rattle.client_benches.specs.declared.wires.Wire.{Wire}
 use Rattle.client_wiring.specs.declared.joints.Joint.{Joint}
 use Rattle.client_wiring.specs.declared.joints.Origin.{Origin}
 use Rattle.client_wiring.specs.declared.joints.Origin.TheVariants.{Handed, Kept, Captured}
 use Rattle.bench_rack.specs.Racks.{Racked, bench_at, filled, with_bench}
 use Rattle.client_tasks.specs.Fillings.{kept_at, known_by, with_wires}
-use Rattle.client_tasks.specs.Steps.{HasRoomFor, mixed, own_joints, with_samples_of}
-use Rattle.client_tasks.specs.Tasks.{joint_at, source_by, wire_by}
+use Rattle.client_tasks.specs.Steps.{mixed, own_joints, with_samples_of}
+use Rattle.client_tasks.specs.Tasks.{first_like, joint_at, source_by, wire_by}
 use Rattle.client_tasks.proofs.ListLemmas.{eqb-no}
 use Rattle.client_tasks.proofs.RackLemmas.{bench_at-other, bench_at-put, length-put}
 
@@ -121,14 +121,42 @@ wire-there sources joints k wires h are = (
       ∙ ap (wire_by sources joints) (own-at joints k h).1,
 )
 
--- what is not handed over has a room there
-pub has-room : (sources : ℕ → List ℤ) (joints : List Joint) (k : ℕ) (wire : Wire) → wire ≡ wire_by sources joints k → HasRoomFor wire (joint_at joints k).origin
-has-room sources joints k wire is = subst (λ (one : Wire). HasRoomFor one (joint_at joints k).origin) (sym is) (go (joint_at joints k).origin)
-  where
-    go : (origin : Origin) → HasRoomFor (record { input = (joint_at joints k).input; source = source_by (sources k) origin }) origin
-    go (Handed link connection) = tt
-    go (Kept node output birth) = refl
-    go (Captured channel) = refl
+-- ---- what a wire is filled with
+
+-- what is handed over is not filled, and neither is what another wire brings
+source-handed : (like : Option ℕ) (before samples : List ℤ) (link connection : ℕ) → source_by like before (Handed link connection) ≡ source_by like samples (Handed link connection)
+source-handed None before samples link connection = refl
+source-handed (Some place) before samples link connection = refl
+
+-- all else is filled, where no other wire brings it
+source-kept : (like : Option ℕ) (before samples : List ℤ) (from output birth : ℕ) → filled_with samples (source_by like before (Kept from output birth)) ≡ source_by like samples (Kept from output birth)
+source-kept None before samples from output birth = refl
+source-kept (Some place) before samples from output birth = refl
+
+source-captured : (like : Option ℕ) (before samples : List ℤ) (channel : ℕ) → filled_with samples (source_by like before (Captured channel)) ≡ source_by like samples (Captured channel)
+source-captured None before samples channel = refl
+source-captured (Some place) before samples channel = refl
+
+-- where a joint's node has its channel from already
+abbrev like_at : List Joint → ℕ → Option ℕ
+like_at joints i = first_like (take i joints) (joint_at joints i)
+
+abbrev wire_with : List Joint → ℕ → Source → Wire
+wire_with joints i source = record { input = (joint_at joints i).input; source = source }
+
+abbrev filled_wire : List ℤ → Wire → Wire
+filled_wire samples wire = record wire { source = filled_with samples wire.source }
+
+wire-same : (joints : List Joint) (before behind : ℕ → List ℤ) (i : ℕ) → before i ≡ behind i → wire_by before joints i ≡ wire_by behind joints i
+wire-same joints before behind i e = ap (λ samples. wire_with joints i (source_by (like_at joints i) samples (joint_at joints i).origin)) e
+
+wire-handed : (joints : List Joint) (before behind : ℕ → List ℤ) (i link connection : ℕ) → (joint_at joints i).origin ≡ Handed link connection → wire_by before joints i ≡ wire_by behind joints i
+wire-handed joints before behind i link connection e =
+    ap (λ origin. wire_with joints i (source_by (like_at joints i) (before i) origin)) e
+    ∙ ap (wire_with joints i) (source-handed (like_at joints i) (before i) (behind i) link connection)
+    ∙ sym (ap (λ origin. wire_with joints i (source_by (like_at joints i) (behind i) origin)) e)
+
+-- ---- all wires of a node
 
 pub wires-filled : (joints : List Joint) (known sources : ℕ → List ℤ) (k : ℕ) (samples : List ℤ) (now new : Racked)
     → k < length joints → (joint_at joints k).node < length now.benches → samples ≡ known k
@@ -144,35 +172,32 @@ wires-filled joints known sources k samples now new h within are is n was = go (
     place = length (own_joints joints (joint_at joints k).node k)
 
     others : (i : ℕ) → i ≢ k → wire_by (mixed known sources k) joints i ≡ wire_by (mixed known sources (k + 1)) joints i
-    others i d = ap (λ samples. (let wire : Wire = record { input = (joint_at joints i).input; source = source_by samples (joint_at joints i).origin } in wire)) (mixed-other known sources k i d)
+    others i d = wire-same joints (mixed known sources k) (mixed known sources (k + 1)) i (mixed-other known sources k i d)
 
     handed : (link connection : ℕ) → (joint_at joints k).origin ≡ Handed link connection → (i : ℕ) → wire_by (mixed known sources k) joints i ≡ wire_by (mixed known sources (k + 1)) joints i
     handed link connection e i = by (cases_eq i k)
       where
         by : (i ≡ k) ⊎ (i ≢ k) → wire_by (mixed known sources k) joints i ≡ wire_by (mixed known sources (k + 1)) joints i
-        by (inl same) =
-            ap (λ origin. (let wire : Wire = record { input = (joint_at joints i).input; source = source_by (mixed known sources k i) origin } in wire)) (ap (λ j. (joint_at joints j).origin) same ∙ e)
-            ∙ sym (ap (λ origin. (let wire : Wire = record { input = (joint_at joints i).input; source = source_by (mixed known sources (k + 1) i) origin } in wire)) (ap (λ j. (joint_at joints j).origin) same ∙ e))
+        by (inl same) = wire-handed joints (mixed known sources k) (mixed known sources (k + 1)) i link connection (ap (λ j. (joint_at joints j).origin) same ∙ e)
         by (inr d) = others i d
 
-    -- a wire with a room is filled
-    put : ((joint_at joints k).origin ≡ (joint_at joints k).origin) → source_by samples (joint_at joints k).origin ≡ KeptSource samples
+    put : ((before : List ℤ) → filled_with samples (source_by (like_at joints k) before (joint_at joints k).origin) ≡ source_by (like_at joints k) samples (joint_at joints k).origin)
         → new ≡ with_bench now node (filled place samples (bench_at now node)) → (n ≡ node) ⊎ (n ≢ node) → (bench_at new n).kept.wires ≡ map (wire_by (mixed known sources (k + 1)) joints) (own_joints joints n (length joints))
-    put same source put-there (inl e) =
+    put source put-there (inl e) =
         let there : bench_at new n ≡ filled place samples (bench_at now node) =
         ap (λ (rack : Racked). bench_at rack n) put-there ∙ ap (bench_at (with_bench now node (filled place samples (bench_at now node)))) e ∙ bench_at-put now node (filled place samples (bench_at now node)) within in
         let wires-now : (bench_at now node).kept.wires ≡ map (wire_by (mixed known sources k) joints) (own_joints joints node (length joints)) =
         subst (λ m. (bench_at now m).kept.wires ≡ map (wire_by (mixed known sources k) joints) (own_joints joints m (length joints))) e was in
         let wire : wire_at (bench_at now node).kept.wires place ≡ wire_by (mixed known sources k) joints k = (wire-there (mixed known sources k) joints k (bench_at now node).kept.wires h wires-now).1 in
-        let one : (let made : Wire = record (wire_at (bench_at now node).kept.wires place) { source = KeptSource samples } in made) ≡ wire_by (mixed known sources (k + 1)) joints k =
-        ap (λ (old : Wire). (let made : Wire = record old { source = KeptSource samples } in made)) wire
-        ∙ ap (λ source. (let made : Wire = record { input = (joint_at joints k).input; source = source } in made)) (sym source ∙ ap (λ list. source_by list (joint_at joints k).origin) (are ∙ sym (mixed-here known sources k))) in
+        let one : filled_wire samples (wire_at (bench_at now node).kept.wires place) ≡ wire_by (mixed known sources (k + 1)) joints k =
+        ap (filled_wire samples) wire
+        ∙ ap (wire_with joints k) (source (mixed known sources k k) ∙ ap (λ list. source_by (like_at joints k) list (joint_at joints k).origin) (are ∙ sym (mixed-here known sources k))) in
         ap (λ (bench : Seen). bench.kept.wires) there
-        ∙ ap (λ wires. set wires place (record (wire_at (bench_at now node).kept.wires place) { source = KeptSource samples })) wires-now
+        ∙ ap (λ wires. set wires place (filled_wire samples (wire_at (bench_at now node).kept.wires place))) wires-now
         ∙ set-own (λ i. (joint_at joints i).node == node) (wire_by (mixed known sources k) joints) (wire_by (mixed known sources (k + 1)) joints) k (length joints)
-        (record (wire_at (bench_at now node).kept.wires place) { source = KeptSource samples }) (eq-eqb node node refl) h one others
+        (filled_wire samples (wire_at (bench_at now node).kept.wires place)) (eq-eqb node node refl) h one others
         ∙ ap (λ m. map (wire_by (mixed known sources (k + 1)) joints) (own_joints joints m (length joints))) (sym e)
-    put same source put-there (inr d) =
+    put source put-there (inr d) =
         ap (λ (rack : Racked). (bench_at rack n).kept.wires) put-there
         ∙ ap (λ (bench : Seen). bench.kept.wires) (bench_at-other now node n (filled place samples (bench_at now node)) d)
         ∙ was
@@ -183,20 +208,20 @@ wires-filled joints known sources k samples now new h within are is n was = go (
     go (Handed link connection) e there which =
         ap (λ (rack : Racked). (bench_at rack n).kept.wires) there ∙ was
         ∙ map-all (λ i. true) (wire_by (mixed known sources k) joints) (wire_by (mixed known sources (k + 1)) joints) (own_joints joints n (length joints)) (handed link connection e)
-    go (Kept from output birth) e there which = put refl (ap (source_by samples) e) there which
-    go (Captured channel) e there which = put refl (ap (source_by samples) e) there which
+    go (Kept from output birth) e there which = put (λ before. subst (λ o. filled_with samples (source_by (like_at joints k) before o) ≡ source_by (like_at joints k) samples o) (sym e) (source-kept (like_at joints k) before samples from output birth)) there which
+    go (Captured channel) e there which = put (λ before. subst (λ o. filled_with samples (source_by (like_at joints k) before o) ≡ source_by (like_at joints k) samples o) (sym e) (source-captured (like_at joints k) before samples channel)) there which
 
 pub wires-first : (joints : List Joint) (known sources : ℕ → List ℤ) (n : ℕ) (wires : List Wire) → wires ≡ map (wire_by sources joints) (own_joints joints n (length joints))
     → wires ≡ map (wire_by (mixed known sources 0) joints) (own_joints joints n (length joints))
 wires-first joints known sources n wires are =
     are ∙ map-all (λ i. true) (wire_by sources joints) (wire_by (mixed known sources 0) joints) (own_joints joints n (length joints))
-    (λ i. ap (λ samples. (let wire : Wire = record { input = (joint_at joints i).input; source = source_by samples (joint_at joints i).origin } in wire)) (sym (ap (λ b. cond b (known i) (sources i)) (le-ltb i 0 (omega arith)))))
+    (λ i. wire-same joints sources (mixed known sources 0) i (sym (ap (λ b. cond b (known i) (sources i)) (le-ltb i 0 (omega arith)))))
 
 pub wires-last : (joints : List Joint) (known sources : ℕ → List ℤ) (n k : ℕ) → length joints ≤ k
     → map (wire_by (mixed known sources k) joints) (own_joints joints n (length joints)) ≡ map (wire_by known joints) (own_joints joints n (length joints))
 wires-last joints known sources n k h =
     map-low (λ i. (joint_at joints i).node == n) (wire_by (mixed known sources k) joints) (wire_by known joints) (length joints)
-    (λ i l. ap (λ samples. (let wire : Wire = record { input = (joint_at joints i).input; source = source_by samples (joint_at joints i).origin } in wire)) (ap (λ b. cond b (known i) (sources i)) (lt-ltb i k (omega (arith, l, h)))))
+    (λ i l. wire-same joints (mixed known sources k) known i (ap (λ b. cond b (known i) (sources i)) (lt-ltb i k (omega (arith, l, h)))))
 
 -- nothing but wires changes
 pub others-filled : (now new : Racked) (node place : ℕ) (samples : List ℤ) (origin : Origin) → node < length now.benches → new ≡ with_samples_of now node place samples origin → (p : ℕ) → with_wires [] (bench_at new p) ≡ with_wires [] (bench_at now p)

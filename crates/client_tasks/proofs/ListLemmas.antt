@@ -10,12 +10,11 @@
 --     find-first, find-none      the first that passes, and none
 --     count-more      one element more, counted
 --     count-front      how many numbers are below one
-use Rattle.std.proofs.Common.{◌≡◌, ◌≢◌, ℕ, zero, suc, ◌+◌, ◌<◌, ◌≤◌, Bool, true, false, cond, ◌==◌, ◌⊎◌, inl, inr, List, [], ◌∷◌, ◌++◌, length, map, filter, filter_map, count_by, get_or, take, All, ℤ, Option, Some, None, find, refl, sym, ◌∙◌, ap, ap₂, arith, add-one, eq-eqb, eqb-true, length-append}
+use Rattle.std.proofs.Common.{◌≡◌, ◌≢◌, ℕ, zero, suc, ◌+◌, ◌<◌, ◌≤◌, Bool, true, false, cond, ◌==◌, ◌⊎◌, inl, inr, List, [], ◌∷◌, ◌++◌, length, map, filter, count_by, get_or, take, All, ℤ, Some, None, find, refl, sym, ◌∙◌, ap, ap₂, arith, add-one, eq-eqb, eqb-true, length-append}
 use Rattle.std.specs.Prelude.{nat_lt}
-use Rattle.std.specs.List.{cons_option}
 use Rattle.std.proofs.lemmas.Bool.{cases_lt, lt-ltb, le-ltb}
 use Rattle.std.proofs.lemmas.List.{get_or_default, length-map, length-take-le, map-append, take_more}
-use Rattle.std.proofs.lemmas.List.Elements.{filter-append, filter_map-append}
+use Rattle.std.proofs.lemmas.List.Elements.{filter-append}
 use Rattle.std.proofs.lemmas.List.Sums.{count_by-le-length, fold-append, length-filter}
 use Rattle.jack_types.specs.declared.ports.Link.{Link}
 use Rattle.session_model.specs.Activation.{link_at, outgoing}
@@ -69,44 +68,30 @@ length-wires sources joints n k =
     omega (arith, length-map (own_joints joints n k) (wire_by sources joints), length-filter (λ i. (joint_at joints i).node == n) (below k), count_by-le-length (λ i. (joint_at joints i).node == n) (below k), length-below k)
 
 pub routes-more : (carried : List Carried) (d : Carried) (n k : ℕ) → k < length carried → (get_or carried k d).node ≡ n
-    → routes_of (take (k + 1) carried) n ≡ routes_of (take k carried) n ++ cons_option (route_to (get_or carried k d).place (get_or carried k d).output) []
+    → routes_of (take (k + 1) carried) n ≡ routes_of (take k carried) n ++ route_to (get_or carried k d) ∷ []
 routes-more carried d n k h e =
     ap (λ ones. routes_of ones n) (take_more carried k d h)
-    ∙ ap routes (filter-append (λ (one : Carried). one.node == n) (take k carried) (get_or carried k d ∷ []))
-    ∙ ap (λ b. routes (filter (λ (one : Carried). one.node == n) (take k carried) ++ cond b (get_or carried k d ∷ []) [])) (eq-eqb (get_or carried k d).node n e)
-    ∙ filter_map-append (λ (one : Carried). route_to one.place one.output) (filter (λ (one : Carried). one.node == n) (take k carried)) (get_or carried k d ∷ [])
-  where
-    routes : List Carried → List Route
-    routes ones = filter_map (λ (one : Carried). route_to one.place one.output) ones
+    ∙ ap (map route_to) (filter-append (λ (one : Carried). one.node == n) (take k carried) (get_or carried k d ∷ []))
+    ∙ ap (λ b. map route_to (filter (λ (one : Carried). one.node == n) (take k carried) ++ cond b (get_or carried k d ∷ []) [])) (eq-eqb (get_or carried k d).node n e)
+    ∙ map-append route_to (filter (λ (one : Carried). one.node == n) (take k carried)) (get_or carried k d ∷ [])
 
 pub routes-other : (carried : List Carried) (d : Carried) (n k : ℕ) → k < length carried → (get_or carried k d).node ≢ n → routes_of (take (k + 1) carried) n ≡ routes_of (take k carried) n
 routes-other carried d n k h e =
     ap (λ ones. routes_of ones n) (take_more carried k d h)
-    ∙ ap routes (filter-append (λ (one : Carried). one.node == n) (take k carried) (get_or carried k d ∷ []))
-    ∙ ap (λ b. routes (filter (λ (one : Carried). one.node == n) (take k carried) ++ cond b (get_or carried k d ∷ []) [])) (eqb-no (get_or carried k d).node n e)
-    ∙ filter_map-append (λ (one : Carried). route_to one.place one.output) (filter (λ (one : Carried). one.node == n) (take k carried)) []
+    ∙ ap (map route_to) (filter-append (λ (one : Carried). one.node == n) (take k carried) (get_or carried k d ∷ []))
+    ∙ ap (λ b. map route_to (filter (λ (one : Carried). one.node == n) (take k carried) ++ cond b (get_or carried k d ∷ []) [])) (eqb-no (get_or carried k d).node n e)
+    ∙ map-append route_to (filter (λ (one : Carried). one.node == n) (take k carried)) []
     ∙ nothing-more (routes_of (take k carried) n)
   where
-    routes : List Carried → List Route
-    routes ones = filter_map (λ (one : Carried). route_to one.place one.output) ones
-
     nothing-more : (xs : List Route) → (xs ++ []) ≡ xs
     nothing-more [] = refl
     nothing-more (x ∷ xs) = ap (λ ys. x ∷ ys) (nothing-more xs)
-
-length-cons_option : {X : Type 0} (f : Carried → Option X) (ones : List Carried) → length (filter_map f ones) ≤ length ones
-length-cons_option f [] = omega arith
-length-cons_option {X} f (one ∷ ones) = go (f one) (length-cons_option f ones)
-  where
-    go : (o : Option X) → length (filter_map f ones) ≤ length ones → length (cons_option o (filter_map f ones)) ≤ length (one ∷ ones)
-    go None h = omega (arith, h)
-    go (Some x) h = omega (arith, h)
 
 pub length-routes : (carried : List Carried) (n k : ℕ) → k ≤ length carried → length (routes_of (take k carried) n) ≤ k
 length-routes carried n k h =
     omega (
       arith,
-      length-cons_option (λ (one : Carried). route_to one.place one.output) (filter (λ (one : Carried). one.node == n) (take k carried)),
+      length-map (filter (λ (one : Carried). one.node == n) (take k carried)) route_to,
       length-filter (λ (one : Carried). one.node == n) (take k carried),
       count_by-le-length (λ (one : Carried). one.node == n) (take k carried),
       length-take-le k carried h,
@@ -183,7 +168,7 @@ wires-none sources joints n p (suc k) low past h =
 pub routes-none : (carried : List Carried) (n p : ℕ) → All (λ (one : Carried). one.node < n) carried → n ≤ p → routes_of carried p ≡ []
 routes-none [] n p low past = refl
 routes-none (one ∷ carried) n p low past =
-    ap (λ b. filter_map (λ (one : Carried). route_to one.place one.output) (cond b (one ∷ filter (λ (one : Carried). one.node == p) carried) (filter (λ (one : Carried). one.node == p) carried))) (eqb-no one.node p apart)
+    ap (λ b. map route_to (cond b (one ∷ filter (λ (one : Carried). one.node == p) carried) (filter (λ (one : Carried). one.node == p) carried))) (eqb-no one.node p apart)
     ∙ routes-none carried n p (λ i d h. low (suc i) d (omega (arith, h))) past
   where
     apart : one.node ≢ p

@@ -2,14 +2,14 @@
 --     count_out links n k      how many of the first links go out from a node
 --     wires_from sources joints n k      the wires of a node, of the first joints
 --     with_routes routes bench      a bench with these routes
---     heard joint bench, sounded one bench      a bench with one connection more
+--     heard like joint bench, routed one bench      a bench with one connection more
 --     IsSmall joint      what a wire can say
+--     IsNarrow output      a route has room for its number
 --     IsAmong count output      an audio output is one of so many
 --     IsOutput benches one      what a route can say
 --     mixed known sources k i      where a joint has its samples from, when the first are filled
---     HasRoomFor wire origin, with_samples_of rack node wire samples origin      the room of a wire, and what lies in it
+--     with_samples_of rack node wire samples origin      what lies in the room of a wire
 use Rattle.std.specs.Prelude.{ℕ, ◌<◌, ◌^◌, ◌==◌, List, [], ◌∷◌, ◌++◌, count_by, filter, map, nat_lt, ℤ, ⊤, Option, if◌then◌else◌}
-use Rattle.std.specs.List.{cons_option}
 use Rattle.std.specs.Option.{ForSome}
 use Rattle.jack_types.specs.declared.ports.Link.{Link}
 use Rattle.session_model.specs.Activation.{link_at}
@@ -24,7 +24,6 @@ use Rattle.client_wiring.specs.declared.joints.Origin.{Origin}
 use Rattle.client_wiring.specs.declared.joints.Origin.TheVariants.{Handed}
 use Rattle.client_wiring.specs.declared.joints.Output.{Output}
 use Rattle.client_wiring.specs.declared.joints.Output.TheVariants.{Audio, Midi}
-use Rattle.client_benches.specs.Wires.{IsKept}
 use Rattle.bench_rack.specs.Racks.{Racked, bench_at, filled, with_bench}
 use Rattle.client_tasks.specs.Fillings.{with_wires}
 use Rattle.client_tasks.specs.Tasks.{joint_at, route_to, source_by, wire_by}
@@ -42,13 +41,13 @@ wires_from sources joints n k = map (wire_by sources joints) (own_joints joints 
 abbrev pub with_routes : List Route → Seen → Seen
 with_routes routes bench = record bench { kept = record bench.kept { routes = routes } }
 
--- a joint's wire, which brings nothing yet
-abbrev pub heard : Joint → Seen → Seen
-heard joint bench = with_wires (bench.kept.wires ++ record { input = joint.input; source = source_by [] joint.origin } ∷ []) bench
+-- a joint's wire, which brings nothing yet by itself
+abbrev pub heard : Option ℕ → Joint → Seen → Seen
+heard like joint bench = with_wires (bench.kept.wires ++ record { input = joint.input; source = source_by like [] joint.origin } ∷ []) bench
 
--- a carried output's route, if it is audio
-abbrev pub sounded : Carried → Seen → Seen
-sounded one bench = with_routes (bench.kept.routes ++ cons_option (route_to one.place one.output) []) bench
+-- a carried output's route
+abbrev pub routed : Carried → Seen → Seen
+routed one bench = with_routes (bench.kept.routes ++ route_to one ∷ []) bench
 
 -- numbers that a wire has room for
 abbrev pub IsSmallOrigin : Origin → Type 0
@@ -57,6 +56,10 @@ IsSmallOrigin _ = ⊤
 
 abbrev pub IsSmall : Joint → Type 0
 IsSmall joint = (joint.input < 2 ^ 16) × IsSmallOrigin joint.origin
+
+abbrev pub IsNarrow : Output → Type 0
+IsNarrow (Audio output) = output < 2 ^ 16
+IsNarrow (Midi output) = ⊤
 
 -- an audio output is one of so many
 abbrev pub IsAmong : ℕ → Output → Type 0
@@ -74,11 +77,6 @@ IsOutput rack one = (one.place < 2 ^ 32) × IsOneOf (bench_at rack one.node).kep
 -- where the first joints have their samples from what is known, and the others from where they had it
 abbrev pub mixed : (ℕ → List ℤ) → (ℕ → List ℤ) → ℕ → ℕ → List ℤ
 mixed known sources k i = if nat_lt i k then known i else sources i
-
--- what is not handed over has a room
-abbrev pub HasRoomFor : Wire → Origin → Type 0
-HasRoomFor wire (Handed link connection) = ⊤
-HasRoomFor wire _ = IsKept wire
 
 -- samples in the room of a wire, where it has one
 abbrev pub with_samples_of : Racked → ℕ → ℕ → List ℤ → Origin → Racked

@@ -4,8 +4,8 @@ ghost use Rattle.std.specs.Prelude.{◌≡◌, ◌≤◌, ◌<◌, ℕ, All, Non
 ghost use Rattle.jack_types.specs.declared.ports.Link.{Link as LinkValue};
 ghost use Rattle.client_wiring.specs.declared.joints.Carried.{Carried as CarriedValue};
 ghost use Rattle.bench_rack.specs.Racks.{bench_at, with_bench};
-ghost use Rattle.client_tasks.specs.Steps.{IsOutput, count_out, sounded, with_routes};
-ghost use Rattle.client_tasks.specs.Tasks.{HasRooms, routes_of};
+ghost use Rattle.client_tasks.specs.Steps.{IsNarrow, IsOutput, count_out, routed, with_routes};
+ghost use Rattle.client_tasks.specs.Tasks.{HasRooms, audio_of, routes_of};
 
 use crate::turns::count_from;
 use bench_rack::Rack;
@@ -13,16 +13,25 @@ use client_kinds::Guest;
 use client_wiring::{Carried, Output};
 use jack_types::Link;
 
-/// Adds the route of an audio output. There is no route of a MIDI output.
+/// The audio output, if it is one. A MIDI output carries no audio.
+fn audio_output(output: Output) -> Option<u16>
+    requires { IsNarrow output }
+    ensures { result ≡ audio_of output }
+{
+    match output {
+        Output::Audio(output) => Some(output as u16),
+        Output::Midi(_) => None,
+    }
+}
+
+/// Adds the route of an output.
 fn carry<G: Guest>(rack: &mut Rack<G>, one: Carried)
     requires node { one.node < length rack.old.benches }
     requires output { IsOutput rack.old one }
     requires few { length (bench_at rack.old one.node).kept.routes < 512 }
-    ensures { rack.new ≡ with_bench rack.old one.node (sounded one (bench_at rack.old one.node)) }
+    ensures { rack.new ≡ with_bench rack.old one.node (routed one (bench_at rack.old one.node)) }
 {
-    if let Output::Audio(output) = one.output {
-        rack.carry(one.node, one.place as u32, output as u16);
-    }
+    rack.carry(one.node, one.place as u32, audio_output(one.output));
 }
 
 /// Adds the routes of all connections that links carry, in the order of making, to benches that have none.

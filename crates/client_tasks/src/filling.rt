@@ -3,11 +3,10 @@
 ghost use Rattle.std.specs.Prelude.{◌≡◌, ◌≤◌, ◌<◌, ℕ, List, ℤ, length};
 ghost use Rattle.jack_types.specs.declared.moments.Moment.{Moment as MomentValue};
 ghost use Rattle.jack_types.specs.declared.ports.Link.{Link as LinkValue};
-ghost use Rattle.client_benches.specs.Wires.{IsKept, wire_at};
 ghost use Rattle.client_wiring.specs.Wirings.{Wired};
 ghost use Rattle.bench_rack.specs.Racks.{bench_at, filled, with_bench};
 ghost use Rattle.client_tasks.specs.Fillings.{AreJoints, KeepsFrom, kept_at, known_at, known_by, with_wires};
-ghost use Rattle.client_tasks.specs.Steps.{HasRoomFor, with_samples_of};
+ghost use Rattle.client_tasks.specs.Steps.{with_samples_of};
 ghost use Rattle.client_tasks.specs.Tasks.{AreSet, joint_at, wires_of};
 
 use bench_rack::Rack;
@@ -19,7 +18,8 @@ use jack_host::Source;
 /// The greatest number of nodes.
 const MOST_NODES: usize = 64;
 
-/// Puts what an output gave when its bench was last played into the room of a wire; silence where no place is told.
+/// Puts what an output gave when its bench was last played into the room of a wire, if that has one; silence where no
+/// place is told.
 fn fill_kept<G: Guest>(
     rack: &mut Rack<G>,
     node: usize,
@@ -31,7 +31,6 @@ fn fill_kept<G: Guest>(
     requires node { node < length rack.old.benches }
     requires from { from < length rack.old.benches }
     requires wire { wire < length (bench_at rack.old node).kept.wires }
-    requires kept { IsKept (wire_at (bench_at rack.old node).kept.wires wire) }
     requires silence { length silence.now ≤ 4096 }
     ensures { rack.new ≡ with_bench rack.old node (filled wire (kept_at (bench_at rack.old from).kept.audio silence.now last) (bench_at rack.old node)) }
 {
@@ -41,7 +40,7 @@ fn fill_kept<G: Guest>(
     }
 }
 
-/// Puts what a connection brings into the room of its wire, if it has one. The wire is of this place among those of
+/// Puts what a connection brings into the room of its wire, if that has one. The wire is of this place among those of
 /// its node.
 fn fill_wire<G: Guest, S: Source>(
     rack: &mut Rack<G>,
@@ -54,7 +53,6 @@ fn fill_wire<G: Guest, S: Source>(
     requires node { joint.node < length rack.old.benches }
     requires from { KeepsFrom (length rack.old.benches) joint.origin }
     requires wire { wire < length (bench_at rack.old joint.node).kept.wires }
-    requires kept { HasRoomFor (wire_at (bench_at rack.old joint.node).kept.wires wire) joint.origin }
     requires silence { length silence.now ≤ 4096 }
     ensures { rack.new ≡ with_samples_of rack.old joint.node wire (known_by rack.old capture.now.channels silence.now last joint.origin) joint.origin }
 {

@@ -1,6 +1,6 @@
 -- What the calls of a cycle played is the driver's own.
 --     calls-now, calls-last, calls-behind      what the cycle took is of the script's calls; so is what the one before took, and what the stage has behind it
---     plays-now      what the stage played is of a script before version 3, and no connection carries MIDI
+--     plays-now      what the stage played is of a script before version 3, and no event comes from the cycle before
 --     plays-own      so the cycle played what is the driver's own
 use Rattle.std.proofs.Common.{◌≡◌, ℕ, ◌+◌, ◌*◌, ◌<◌, Bool, true, ◌&&◌, not, List, [], ◌∷◌, ◌++◌, length, map, drop, replicate, All, Contains, ℤ, Some, refl, sym, ◌∙◌, ap, ap₂, subst, arith}
 use Rattle.std.specs.Prelude.{Option, slice_index_or}
@@ -31,14 +31,13 @@ use Rattle.driver_laws.specs.Drivers.{Driver, bench_at, content_now, graph_now}
 use Rattle.driver_laws.specs.Keeping.{AreOfCalls}
 use Rattle.driver_laws.specs.Playing.{PlaysOwn, adopted_now, last_number, own_course, settled_now}
 use Rattle.task_laws.specs.Calls.{IsOldKind}
-use Rattle.task_laws.specs.Edges.{HasAudioEdges}
 use Rattle.stage_laws.specs.Plays.{PlaysPlan}
 use Rattle.stage_laws.specs.Stages.{bench_on}
 use Rattle.cycle_laws.specs.Gears.{Gear, IsGear, driver_of}
 use Rattle.cycle_laws.specs.Turnings.{Turns}
 use Rattle.cycle_laws.proofs.FrontLemmas.{AreOfCalls-last}
 use Rattle.cycle_laws.proofs.SeenLemmas.{bench-seen, memory-seen}
-use Rattle.cycle_laws.proofs.SettledLemmas.{base-now, channels-now, content-now, graph-now, moment-now, settled-now}
+use Rattle.cycle_laws.proofs.SettledLemmas.{base-now, channels-now, content-now, events-now, graph-now, moment-now, settled-now}
 
 module _ {freewheel : Bool} {before after : Gear} {plan : Planned} {moment : Moment} (gear : IsGear before) (may : MayCycle (driver_of before) freewheel) (turns : Turns freewheel before plan moment after)
     (steps : StepsOnce (driver_of before) (driver_of after)) (of_calls : AreOfCalls before.script (content_now (driver_of after))) where
@@ -125,7 +124,6 @@ module _ {freewheel : Bool} {before after : Gear} {plan : Planned} {moment : Mom
       → slice_index_or channels c [] ≡ map (λ i. sample left (i * count + c)) (below frames))
       (rested : (channels : List (List ℤ)) (count frames : ℕ) → channels ≡ replicate count (silence frames) → (length channels ≡ count) × ((c : ℕ) → c < count → slice_index_or channels c [] ≡ silence frames))
       (has_ports : (capture playback : ℕ) (changes : List Change) → audio_outputs (replay (opening capture playback) changes) system_name ≡ map capture_port (below capture))
-      (edges : (capture playback : ℕ) → HasAudioEdges (replay (opening capture playback) (content_now played)))
       (old_kinds : (capture playback : ℕ) (client : OpenClient) → Contains (replay (opening capture playback) plan.changes).clients client → IsOldKind client.kind) where
     kinds-now : (n : ℕ) → n < length plan.nodes → IsOldKind (node_at (open_clients plan.nodes) n).kind
     kinds-now n low = old_kinds plan.base.capture plan.base.playback (node_at (open_clients plan.nodes) n) (open-now n low)
@@ -135,6 +133,6 @@ module _ {freewheel : Bool} {before after : Gear} {plan : Planned} {moment : Mom
     plays-now staffed staffed_now = turns.plays (own_course driver) (settled_now driver played left) staffed staffed_now
         (settled-now gear may turns steps left told as_many_read was_read rested kinds-now)
         refl
-        (edges after.script.header.capture after.script.header.playback)
+        (events-now gear may turns steps left)
         (channels-now gear may turns steps left told as_many_read was_read rested ∙ sym (device-now has_ports))
         kinds-now

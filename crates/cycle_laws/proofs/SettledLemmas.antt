@@ -3,12 +3,14 @@
 --     moment-now      what the transport shows
 --     channels-now      as many channels as the script's capture
 --     settled-now      all that is settled
-use Rattle.std.proofs.Common.{◌≡◌, ℕ, ◌+◌, ◌*◌, ◌<◌, cond, Bool, true, false, List, [], length, map, replicate, ℤ, Some, refl, sym, ◌∙◌, ap, ap₂, subst}
+--     events-now      no event comes from the cycle before
+use Rattle.std.proofs.Common.{◌≡◌, ℕ, ◌+◌, ◌*◌, ◌<◌, ◌==◌, ◌&&◌, cond, Bool, true, false, List, [], length, map, replicate, ℤ, Some, refl, sym, ◌∙◌, ap, ap₂, subst}
 use Rattle.std.specs.Prelude.{Option, slice_index_or, unwrap_or}
 use Rattle.jack_types.specs.declared.commands.Change.{Change}
 use Rattle.jack_types.specs.declared.moments.Moment.{Moment}
 use Rattle.session_model.specs.Benches.{node_at, outputs_of}
 use Rattle.session_model.specs.Commands.{replay}
+use Rattle.session_model.specs.Cycles.{was_there}
 use Rattle.session_model.specs.Driving.{kept_from}
 use Rattle.session_model.specs.Kinds.{first}
 use Rattle.session_model.specs.Samples.{below, sample, silence}
@@ -22,14 +24,15 @@ use Rattle.graph_word.specs.Publications.{Reading}
 use Rattle.transport.specs.Standings.{Standing}
 use Rattle.device_periods.specs.Captures.{Captured, Reads}
 use Rattle.driver_laws.specs.Cycling.{MayCycle, StepsOnce}
-use Rattle.driver_laws.specs.Drivers.{Driver, bench_at, content_now, graph_now, graph_of, memory_in, run}
+use Rattle.driver_laws.specs.Drivers.{Driver, bench_at, content_now, graph_now, graph_of, memory_in, run, turn_of}
 use Rattle.driver_laws.specs.Playing.{capture_now, fed_now, kept_now, moment_now, settled_last, settled_now}
 use Rattle.task_laws.specs.Calls.{IsOldKind}
+use Rattle.ready_laws.specs.Quiet.{HasNoEvents}
 use Rattle.stage_laws.specs.Plays.{IsSettledOn}
 use Rattle.stage_laws.specs.Stages.{bench_of}
 use Rattle.cycle_laws.specs.Gears.{Gear, IsGear, IsInStep, driver_of}
 use Rattle.cycle_laws.specs.Turnings.{Turns}
-use Rattle.cycle_laws.proofs.SeenLemmas.{audio-seen, memory-plain, outputs-same}
+use Rattle.cycle_laws.proofs.SeenLemmas.{audio-seen, events-none, memory-plain, midi-seen, outputs-same}
 
 module _ {freewheel : Bool} {before after : Gear} {plan : Planned} {moment : Moment} (gear : IsGear before) (may : MayCycle (driver_of before) freewheel) (turns : Turns freewheel before plan moment after)
     (steps : StepsOnce (driver_of before) (driver_of after)) where
@@ -75,6 +78,14 @@ module _ {freewheel : Bool} {before after : Gear} {plan : Planned} {moment : Mom
     where
       kept_at : ℕ → State → State → (List ℕ → List ℤ) → List ℤ
       kept_at period last state audio = (kept_from period last (record { audio = audio; midi = λ _. [] }) state before.set).audio port
+
+  -- no bench gave an event, so feedback edges give none
+  pub events-now : (left : List ℤ) → HasNoEvents (settled_now driver played left)
+  events-now left port = none-kept ((turn_of before.script (run driver)).period == before.set && was_there (graph_now driver) (graph_now played) port) (events-none (settled_last driver) driver.nodes (bench_at driver) (midi-seen before) port)
+    where
+      none-kept : (b : Bool) → (outputs_of (settled_last driver) driver.nodes (bench_at driver)).midi port ≡ [] → cond b ((outputs_of (settled_last driver) driver.nodes (bench_at driver)).midi port) [] ≡ []
+      none-kept true none = none
+      none-kept false none = refl
 
   module _ (left : List ℤ) (told : driver.left ≡ Some left)
       (as_many_read : (left : List ℤ) (rest : Option (List ℤ)) (channels : List (List ℤ)) (count frames : ℕ) → Reads (Some left) rest channels count frames → length channels ≡ count)

@@ -19,7 +19,7 @@ use Rattle.driver_laws.specs.Drivers.{Driver, frames_run, greatest_period, turn_
 use Rattle.client_seats.specs.Moves.{kinds_of}
 use Rattle.client_seats.specs.Seatings.{memories}
 use Rattle.recorder_rings.specs.Sending.{Sent}
-use Rattle.task_laws.specs.Calls.{HasNoMidiEdge, guests_needed, open_kinds}
+use Rattle.task_laws.specs.Calls.{guests_needed, open_kinds}
 use Rattle.stage_laws.specs.Stages.{bench_on}
 use Rattle.client_stage.specs.Standing.{OnStage, StandsOn}
 
@@ -61,11 +61,10 @@ driver_of gear = record {
   memories = memories gear.stage.staged.racked gear.stage.staged.owned;
 }
 
--- a lawful script before version 3, which connects no MIDI ports
+-- a lawful script before version 3
 pub record IsServed (script : Script) : Type 0 where
   pub lawful : IsScript script
   pub version : script.header.version < 3
-  pub no_midi_edge : HasNoMidiEdge script
 
 -- where no cycle failed, the parts stand behind the same cycles
 pub record IsInStep (gear : Gear) : Type 0 where

@@ -18,7 +18,7 @@ use Rattle.device_periods.specs.Captures.{Reads}
 use Rattle.driver_laws.specs.Playing.{last_number}
 use Rattle.client_seats.specs.Moves.{kinds_of}
 use Rattle.task_laws.specs.Calls.{IsOldKind}
-use Rattle.task_laws.specs.Edges.{HasAudioEdges}
+use Rattle.ready_laws.specs.Quiet.{HasNoEvents}
 use Rattle.stage_laws.specs.Plays.{IsSettledOn, PlaysPlan}
 use Rattle.client_stage.specs.Standing.{StandsOn}
 use Rattle.cycle_blocks.specs.Blocks.{Sends}
@@ -48,7 +48,7 @@ pub record Turns (freewheel : Bool) (before : Gear) (plan : Planned) (moment : M
   pub period : after.stage.staged.period ≡ before.set
   pub stands : StandsOn after.stage.staged plan
   pub plays : (course : Course) (at : Settled) → before.stage.staged.is_staffed ≡ true → after.stage.staged.is_staffed ≡ true → IsSettledOn before.stage.staged before.stage.plan plan moment before.set after.capture.channels at
-      → course.scores ≡ before.stage.staged.owned.scores → HasAudioEdges at.graph
+      → course.scores ≡ before.stage.staged.owned.scores → HasNoEvents at
       → length after.capture.channels ≡ length (audio_outputs (state_of_plan plan) system_name) → ((n : ℕ) → n < length plan.nodes → IsOldKind (node_at (open_clients plan.nodes) n).kind)
       → PlaysPlan course before.stage.staged plan at after.stage.staged
   pub kinds : IsPermutation (kinds_of before.stage.staged.racked) (kinds_of after.stage.staged.racked)

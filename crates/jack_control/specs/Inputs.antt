@@ -6,7 +6,7 @@
 --     IsBadScript bytes fault      why a script can't be played
 --     first_difference, difference_in      the comparisons, in their order
 --     IsInput script_bytes capture_bytes scores play given      what the two files and the guests give
-use Rattle.std.specs.Prelude.{◌≡◌, ◌⊎◌, ℕ, ◌==◌, nat_lt, not, List, [], length, map, slice_index_or, take, ⊤, ℤ, Option, Some, None, Ok, Err, IsNone, is_some, if◌then◌else◌}
+use Rattle.std.specs.Prelude.{◌≡◌, ◌⊎◌, ℕ, ◌==◌, nat_lt, not, List, [], length, map, slice_index_or, take, ⊤, ℤ, Option, Some, None, Ok, Err, IsNone, if◌then◌else◌}
 use Rattle.jack_types.specs.declared.files.Format.{Format}
 use Rattle.jack_types.specs.declared.files.WaveFault.{WaveFault}
 use Rattle.jack_types.specs.declared.kinds.Score.{Score}
@@ -36,7 +36,7 @@ abbrev pub IfBytes : Option Files → List ℕ → (List ℕ → Type 0) → Typ
 IfBytes None name P = ⊤
 IfBytes (Some files) name P = (bytes : List ℕ) × (bytes_under files name ≡ Some bytes) × P bytes
 
--- a script in serial mode before version 3, which connects no MIDI ports
+-- a script in serial mode before version 3
 pub record IsPlayed (script : Script) : Type 0 where
   pub served : IsServed script
   pub serial : IsNone script.header.threads
@@ -47,13 +47,11 @@ line_at bytes place = slice_index_or (map (λ line. line.number) (said bytes)) p
 
 -- the fault of a lawful script that is not played yet:
 -- of version 3, a version that is none, on the version's line, which is the first that is said;
--- else, with threads, an unknown word on the mode's line, which is the sixth;
--- else MIDI ports are connected, which has no line of its own: an unknown word on line 0
+-- else there are threads: an unknown word on the mode's line, which is the sixth
 abbrev pub unplayable : List ℕ → Script → ScriptFault
 unplayable bytes script =
     if script.header.version == 3 then record { line = line_at bytes 0; cause = Choice 3 }
-    else if is_some script.header.threads then record { line = line_at bytes 5; cause = Unknown }
-    else record { line = 0; cause = Unknown }
+    else record { line = line_at bytes 5; cause = Unknown }
 
 -- the bytes have this fault, or spell a script that is not played yet
 abbrev pub IsFaulty : List ℕ → ScriptFault → Type 0

@@ -5,7 +5,6 @@ ghost use Rattle.jack_host.specs.Causes.{Rose};
 ghost use Rattle.jack_host.specs.Files.{IsThere, SameFiles};
 ghost use Rattle.jack_types.specs.declared.scripts.ScriptFault.{ScriptFault as FaultValue};
 ghost use Rattle.session_model.specs.Grammar.{Spells};
-ghost use Rattle.task_laws.specs.Calls.{HasNoMidiEdge};
 ghost use Rattle.jack_control.specs.Inputs.{IfBytes, IsFaulty, IsPlayed, IsScriptOf, line_at, unplayable};
 ghost use Rattle.jack_control.specs.Scripts.{IsRead, ScriptStatus, status_of_script};
 
@@ -13,7 +12,6 @@ use crate::Status;
 use crate::reading::{LoadFault, load};
 use jack_host::Host;
 use jack_types::{Cause, ScriptFault};
-use script_ports::connects_no_midi;
 use script_words::Lines;
 use session_script::Script;
 use std::alloc::Global;
@@ -27,15 +25,12 @@ const VERSION_PLACE: usize = 0;
 // And of the mode's.
 const MODE_PLACE: usize = 5;
 
-// Whether a script is one that is played yet: in serial mode, before version 3, and without connections of MIDI ports.
+// Whether a script is one that is played yet: in serial mode, before version 3.
 fn is_played(script: &Script) -> bool
     ensures { IsTrue result ↔ IsPlayed script.now }
 {
     let header = script.header();
-    if header.threads.is_some() || header.version >= 3 {
-        return false;
-    }
-    connects_no_midi(script)
+    header.threads.is_none() && header.version < 3
 }
 
 // The number of the line at a place among those that are said. Where there is none, 0.
@@ -66,13 +61,8 @@ fn fault_of(bytes: &[u8], script: &Script) -> ScriptFault
             cause: Cause::Choice(3),
         };
     }
-    let line = if header.threads.is_some() {
-        line_at(bytes, MODE_PLACE)
-    } else {
-        0
-    };
     ScriptFault {
-        line,
+        line: line_at(bytes, MODE_PLACE),
         cause: Cause::Unknown,
     }
 }

@@ -234,3 +234,100 @@ fn midi_ports_change_nothing_that_is_heard(rt: HostRuntime) -> Result<(), Fail> 
     let playback = wave(rt.alloc(), MONO, &[1, 2, 3, 4, 5, 6, 7, 8])?;
     sounds(&rt, &[HEADER, MIDI_PORTS], &capture, &playback)
 }
+
+// One link carries both connections of the clients, that of the MIDI ports first.
+const BEHIND_MIDI: &str = "\
+do open g gain 3 0
+do register g:in in audio
+do register g:events out midi
+do register g:out out audio
+do activate g
+do open d pass
+do register d:notes in midi
+do register d:in in audio
+do register d:out out audio
+do activate d
+do connect g:events d:notes
+do connect system:capture_1 g:in
+do connect g:out d:in
+do connect d:out system:playback_1
+run 2
+";
+
+#[test]
+fn audio_is_heard_behind_a_midi_connection(rt: HostRuntime) -> Result<(), Fail> {
+    let capture = wave(rt.alloc(), MONO, &[1, 2, 3, 4, 5, 6, 7, 8])?;
+    let playback = wave(rt.alloc(), MONO, &[3, 6, 9, 12, 15, 18, 21, 24])?;
+    sounds(&rt, &[HEADER, BEHIND_MIDI], &capture, &playback)
+}
+
+// Two channels change places over one link, with a connection of MIDI ports between them.
+const AROUND_MIDI: &str = "\
+jackd 1
+rate 48000
+period 4
+capture 2
+playback 2 16
+mode serial
+do open p pass
+do register p:in_1 in audio
+do register p:in_2 in audio
+do register p:out_1 out audio
+do register p:events out midi
+do register p:out_2 out audio
+do activate p
+do open d pass
+do register d:in_1 in audio
+do register d:notes in midi
+do register d:in_2 in audio
+do register d:out_1 out audio
+do register d:out_2 out audio
+do activate d
+do connect p:out_1 d:in_2
+do connect p:events d:notes
+do connect p:out_2 d:in_1
+do connect system:capture_1 p:in_1
+do connect system:capture_2 p:in_2
+do connect d:out_1 system:playback_1
+do connect d:out_2 system:playback_2
+run 1
+";
+
+#[test]
+fn channels_are_heard_around_a_midi_connection(rt: HostRuntime) -> Result<(), Fail> {
+    let two = Format {
+        channels: 2,
+        ..MONO
+    };
+    let capture = wave(rt.alloc(), two, &[1, 10, 2, 20, 3, 30, 4, 40])?;
+    let playback = wave(rt.alloc(), two, &[10, 1, 20, 2, 30, 3, 40, 4])?;
+    sounds(&rt, &[AROUND_MIDI], &capture, &playback)
+}
+
+// While the connection of MIDI ports is there, the one of audio ports closes a loop, and so is late by a cycle.
+const MIDI_LOOP: &str = "\
+do open p pass
+do register p:notes in midi
+do register p:in in audio
+do register p:out out audio
+do activate p
+do open d pass
+do register d:in in audio
+do register d:events out midi
+do register d:out out audio
+do activate d
+do connect d:events p:notes
+do connect system:capture_1 p:in
+do connect p:out d:in
+do connect d:out system:playback_1
+run 2
+do disconnect d:events p:notes
+run 1
+";
+
+#[test]
+fn a_midi_connection_orders_its_clients(rt: HostRuntime) -> Result<(), Fail> {
+    let capture = wave(rt.alloc(), MONO, &[1, 2, 3, 4, 5, 6, 7, 8, 9, 10, 11, 12])?;
+    let playback = wave(rt.alloc(), MONO, &[0, 0, 0, 0, 1, 2, 3, 4, 9, 10, 11, 12])?;
+    sounds(&rt, &[HEADER, MIDI_LOOP], &capture, &playback)
+}

@@ -62,23 +62,6 @@ fn version_3_is_refused_on_its_line(rt: HostRuntime) -> Result<(), Fail> {
 }
 
 #[test]
-fn a_connection_of_midi_ports_is_refused_on_no_line(rt: HostRuntime) -> Result<(), Fail> {
-    let body = "\
-mode serial
-do connect m:out m:in
-do register m:in in midi
-do register m:out out midi
-";
-    has_fault(
-        &rt,
-        &["jackd 1\n", DEVICE, body],
-        0,
-        Cause::Unknown,
-        "fault 5 script 0 Unknown\n",
-    )
-}
-
-#[test]
 fn lines_that_say_nothing_are_counted(rt: HostRuntime) -> Result<(), Fail> {
     let front = "# a session\n\n";
     let mode = "  # no threads yet\n \t \nmode threads 2\n";

@@ -8,7 +8,7 @@ use Rattle.jack_types.specs.declared.kinds.Kind.{Kind}
 use Rattle.jack_types.specs.declared.kinds.Kind.TheVariants.{Pass, Gain, Mix, Delay, Tone, Click, Meter, Tape, Guest, Midiplay, Midithru, Midilog, Disk}
 use Rattle.jack_types.specs.declared.kinds.Score.{Score}
 use Rattle.jack_types.specs.declared.moments.Moment.{Moment}
-use Rattle.session_model.specs.Activation.{given_to, sequential}
+use Rattle.session_model.specs.Activation.{given_to, outgoing, sequential}
 use Rattle.session_model.specs.Benches.{Bench, IsReady, bench_after, bench_gives, node_at, task_of}
 use Rattle.session_model.specs.Courses.{Course}
 use Rattle.session_model.specs.Cycles.{Settled, player_born}
@@ -19,6 +19,7 @@ use Rattle.port_registry.proofs.PlaceLemmas.{find-none}
 use Rattle.cycle_plan.specs.Plans.{IsPlanned, Planned, state_of_plan}
 use Rattle.client_kinds.specs.Standings.{HasGuest, HasScore, Standing}
 use Rattle.client_benches.specs.Seen.{HasScores, Remembered as Kept, Seen, bench_in, kept_after, kept_gives}
+use Rattle.client_benches.specs.declared.benches.Turn.{Turn}
 use Rattle.client_wiring.specs.Wirings.{wired_of}
 use Rattle.bench_rack.specs.Racks.{Racked, bench_at}
 use Rattle.client_seats.specs.Owners.{Owned, owner_at}
@@ -27,16 +28,15 @@ use Rattle.client_seats.proofs.MemoryLemmas.{found_past, memory-owned, owned_or_
 use Rattle.client_seats.proofs.PlaceLemmas.{open_within, within_open}
 use Rattle.client_tasks.specs.Tasks.{AreSet, IsSet}
 use Rattle.driver_laws.specs.Drivers.{Remembered}
-use Rattle.ready_laws.specs.Quiet.{quiet}
+use Rattle.ready_laws.specs.Quiet.{AreStill, HasNoEvents, quiet}
 use Rattle.ready_laws.specs.Sources.{HasSources}
-use Rattle.ready_laws.proofs.ReadyLemmas.{task-ready}
+use Rattle.ready_laws.proofs.ReadyLemmas.{routes-still, task-ready}
 use Rattle.task_laws.specs.Calls.{IsOldKind}
-use Rattle.task_laws.specs.Edges.{HasAudioEdges}
 use Rattle.task_laws.proofs.PlayingLemmas.{idle-kept}
 use Rattle.stage_laws.specs.Stages.{Staged, bench_of, bench_on}
 use Rattle.stage_laws.specs.Casts.{Casts}
 use Rattle.stage_laws.specs.Plays.{IsSettledOn, PlaysPlan}
-use Rattle.stage_laws.proofs.QuietLemmas.{HasOldKind, sequential-quiet}
+use Rattle.stage_laws.proofs.QuietLemmas.{HasOldKind, IsRouted, sequential-quiet}
 
 some_is : {X : Type 0} {a b : X} → Some a ≡ Some b → a ≡ b
 some_is e = cc
@@ -69,7 +69,7 @@ nat_cases a b = cases_lt a b
 module _ (course : Course) (old : Staged) (last plan : Planned) (moment : Moment) (period : ℕ) (channels : List (List ℤ)) (at : Settled)
     (seating : IsSeating old.racked old.owned) (planned : IsPlanned plan) (settled : IsSettledOn old last plan moment period channels at)
     (cast : Staged) (casts : Casts old last plan moment period cast) (scores_are : course.scores ≡ old.owned.scores)
-    (edges : HasAudioEdges at.graph)
+    (no_events : HasNoEvents at)
     (filled played : Racked) (sources : ℕ → List ℤ)
     (has_sources : (n : ℕ) → n < length plan.nodes → HasSources at (open_clients plan.nodes) (wired_of plan).joints n sources)
     (set : AreSet (wired_of plan) plan.links moment period sources (length plan.nodes) filled)
@@ -84,9 +84,9 @@ module _ (course : Course) (old : Staged) (last plan : Planned) (moment : Moment
   abbrev scores : List Score
   scores = old.owned.scores
 
-  -- with the MIDI ports of the node's client
+  -- with the MIDI ports of the node's client, and all that is connected there
   abbrev its_bench : ℕ → Kept → Bench
-  its_bench n kept = quiet at.graph (node_at nodes n).name (bench_in scores kept)
+  its_bench n kept = quiet at.graph nodes plan.links n (bench_in scores kept)
 
   abbrev before : ℕ → Bench
   before n = its_bench n (bench_at filled n).kept
@@ -112,13 +112,24 @@ module _ (course : Course) (old : Staged) (last plan : Planned) (moment : Moment
       by_place (inl h) = subst IsOldKind (sym (kind_is n h)) (old_kinds n h)
       by_place (inr h) = absurd (none_some (sym (idle n h) ∙ e))
 
+  -- it knows what its client's connections carry of audio
+  is_routed : (n : ℕ) → IsRouted at.graph nodes plan.links n (bench_at filled n).kept
+  is_routed n turn e = by_place (nat_cases n (length plan.nodes))
+    where
+      by_place : (n < length plan.nodes) ⊎ (length plan.nodes ≤ n) → (turn.links ≡ length (outgoing plan.links n)) × AreStill (bench_at filled n).kept at.graph nodes plan.links n
+      by_place (inl h) = (
+        ap (λ (t : Turn). t.links) (some_is (sym e ∙ (set n h).turn)),
+        subst (λ state. AreStill (bench_at filled n).kept state nodes plan.links n) (sym settled.graph) (routes-still plan moment period n sources (bench_at filled n) planned h (set n h)),
+      )
+      by_place (inr h) = absurd (none_some (sym (idle n h) ∙ e))
+
   no_player : (n list : ℕ) → n < length plan.nodes → (node_at nodes n).kind ≢ Midiplay list
   no_player n list h e = subst (λ k. IsOldKind k) e (old_kinds n h)
 
   task_is : (n : ℕ) → n < length plan.nodes → (before n).task ≡ Some (task_of course at nodes plan.links n)
   task_is n h =
-      ap (λ s. (quiet at.graph (node_at nodes n).name (bench_in s (bench_at filled n).kept)).task) (sym scores_are)
-      ∙ task-ready plan at n sources (bench_at filled n) course planned settled.graph edges h
+      ap (λ s. (quiet at.graph nodes plan.links n (bench_in s (bench_at filled n).kept)).task) (sym scores_are)
+      ∙ task-ready plan at n sources (bench_at filled n) course planned settled.graph no_events h
       (subst (λ m. IsSet (wired_of plan) plan.links m at.frames sources n (bench_at filled n)) (sym settled.moment_is)
       (subst (λ f. IsSet (wired_of plan) plan.links moment f sources n (bench_at filled n)) (sym settled.frames) (set n h)))
       (has_sources n h) (kind_is n h) (λ list. no_player n list h)
@@ -152,7 +163,7 @@ module _ (course : Course) (old : Staged) (last plan : Planned) (moment : Moment
   -- ---- played
 
   plays_of : (n : ℕ) → n < length plan.nodes → its_bench n (bench_at played n).kept ≡ sequential bench_after bench_gives plan.links before n
-  plays_of n h = ap (its_bench n) (played_is n (omega (arith, h, few))) ∙ sequential-quiet scores at.graph plan.links (λ n. (node_at nodes n).name) (λ n. (bench_at filled n).kept) scores_of has_old_kind n
+  plays_of n h = ap (its_bench n) (played_is n (omega (arith, h, few))) ∙ sequential-quiet scores at.graph nodes plan.links (λ n. (bench_at filled n).kept) scores_of has_old_kind is_routed n
 
   remembered : (n : ℕ) → n < length plan.nodes → memory_of played cast.owned (node_at nodes n).birth ≡ Some (bench_in scores (bench_at played n).kept).memory
   remembered n h = memory-owned played cast.owned after_seating n (node_at nodes n).birth (casts.has n h).owner
@@ -197,7 +208,7 @@ module _ (course : Course) (old : Staged) (last plan : Planned) (moment : Moment
       is_bench n = ap (λ s. bench_in s (bench_at new.racked n).kept) (ap (λ (o : Owned). o.scores) owned ∙ casts.scores) ∙ ap (λ (r : Racked). bench_in scores (bench_at r n).kept) rack
 
       is_its_bench : (n : ℕ) → bench_on plan new n ≡ its_bench n (bench_at played n).kept
-      is_its_bench n = ap (λ state. quiet state (node_at nodes n).name (bench_of new n)) (sym settled.graph) ∙ ap (quiet at.graph (node_at nodes n).name) (is_bench n)
+      is_its_bench n = ap (λ state. quiet state nodes plan.links n (bench_of new n)) (sym settled.graph) ∙ ap (quiet at.graph nodes plan.links n) (is_bench n)
 
       memories : (birth : ℕ) → memory_of new.racked new.owned birth ≡ memory_of played cast.owned birth
       memories birth = ap (λ (o : Owned). memory_of new.racked o birth) owned ∙ ap (λ (r : Racked). memory_of r cast.owned birth) rack

@@ -1,33 +1,49 @@
--- A bench without MIDI plays as its client does, where nothing is connected to the client's MIDI ports.
+-- A bench without MIDI plays as its client does, where no client plays an event.
 --     HasOldKind kept      where it has a task, its kind is of the versions before 3
+--     IsRouted state nodes links n kept      where it has a task, it knows its outgoing links, and what they carry of audio
+--     IsSilent given      no connection carries an event
 --     after-quiet, gives-quiet      behind a play, and over a link
+--     given-silent      what benches without MIDI are given
 --     sequential-quiet      over a graph
-use Rattle.std.proofs.Common.{◌≡◌, ℕ, zero, suc, List, [], ◌∷◌, length, map, filter, replicate, ◌==◌, ℤ, Option, Some, None, refl, sym, ◌∙◌, ap}
-use Rattle.std.specs.Prelude.{slice_index_or}
+use Rattle.std.proofs.Common.{◌≡◌, ℕ, zero, suc, ◌<◌, ◌≤◌, ◌==◌, ◌⊎◌, inl, inr, List, [], ◌∷◌, ◌++◌, length, map, filter, take, replicate, Option, Some, None, refl, sym, ◌∙◌, ap, ap₂, arith}
+use Rattle.std.specs.Prelude.{flat_map, slice_index_or}
+use Rattle.std.specs.Option.{option_map_or}
+use Rattle.std.proofs.lemmas.Bool.{cases_lt}
+use Rattle.std.proofs.lemmas.List.{get_or_past, length-map}
+use Rattle.jack_types.specs.Names.{client_part}
 use Rattle.jack_types.specs.declared.events.Event.{Event}
 use Rattle.jack_types.specs.declared.kinds.Kind.{Kind}
 use Rattle.jack_types.specs.declared.kinds.Kind.TheVariants.{Pass, Gain, Mix, Delay, Tone, Click, Meter, Tape, Guest, Midiplay, Midithru, Midilog, Disk}
 use Rattle.jack_types.specs.declared.kinds.Score.{Score}
 use Rattle.jack_types.specs.declared.moments.Moment.{Moment}
 use Rattle.jack_types.specs.declared.ports.Link.{Link}
-use Rattle.session_model.specs.Activation.{given_to, given_within, incoming, link_at, place_among, sequential}
-use Rattle.session_model.specs.Benches.{Bench, Signal, Task, bench_after, bench_gives, merged, midi_part, mixed, routed, task_turn}
-use Rattle.session_model.specs.Cycles.{midi_inputs, midi_outputs}
-use Rattle.session_model.specs.Events.{merge}
+use Rattle.jack_types.specs.declared.ports.Mark.{Mark}
+use Rattle.jack_types.specs.declared.ports.Mark.TheVariants.{Direct, Feedback}
+use Rattle.session_model.specs.Activation.{given_to, given_within, incoming, link_at, outgoing, place_among, sequential}
+use Rattle.session_model.specs.Benches.{Bench, Route as Carrying, Signal, Task, bench_after, bench_gives, direct_part, edge_place, edges_between, link_place, marked_part, merged, midi_part, mixed, no_signal, node_at, place_in, routed, signal_at, task_turn}
+use Rattle.session_model.specs.Cycles.{ClientPlayed, edges_into, midi_inputs, midi_outputs}
+use Rattle.session_model.specs.Events.{by_offset, merge}
 use Rattle.session_model.specs.Kinds.{Memory, MidiPlayed, midi_play, play}
-use Rattle.session_model.specs.Samples.{below}
-use Rattle.session_model.specs.State.{OpenPort, State}
+use Rattle.session_model.specs.Samples.{below, silence}
+use Rattle.session_model.specs.State.{Connection, OpenClient, OpenPort, State}
+use Rattle.session_laws.proofs.ActivationLemmas.{get_or-map_below, length-map_below}
 use Rattle.session_laws.proofs.PlaceLemmas.{map-after, map-same}
 use Rattle.client_benches.specs.Routes.{route_of, routes_on}
-use Rattle.client_benches.specs.Seen.{HasScores, Remembered, bench_in, kept_after, kept_gives, task_in}
+use Rattle.client_benches.specs.Seen.{HasScores, Remembered, bench_in, kept_after, kept_gives, own_scores, task_in}
 use Rattle.client_benches.specs.declared.benches.Turn.{Turn}
 use Rattle.client_benches.specs.declared.values.Route.{Route}
 use Rattle.client_benches.proofs.ScoreLemmas.{after-scores, gives-scores}
-use Rattle.ready_laws.specs.Quiet.{quiet, quiet_task}
+use Rattle.ready_laws.specs.Quiet.{AreStill, quiet, quiet_part, quiet_task, routes_along, still}
 use Rattle.task_laws.specs.Calls.{IsOldKind}
 
 abbrev pub HasOldKind : Remembered → Type 0
 HasOldKind kept = (turn : Turn) → kept.turn ≡ Some turn → IsOldKind kept.standing.kind
+
+abbrev pub IsRouted : State → List OpenClient → List Link → ℕ → Remembered → Type 0
+IsRouted state nodes links n kept = (turn : Turn) → kept.turn ≡ Some turn → (turn.links ≡ length (outgoing links n)) × AreStill kept state nodes links n
+
+abbrev pub IsSilent : List (List Signal) → Type 0
+IsSilent given = (i j : ℕ) → (signal_at given i j).midi ≡ []
 
 -- such a kind plays no events and hears none
 midi-old : (list : List (ℕ × Event)) (kind : Kind) (memory : Memory) (outputs : ℕ) (moment : Moment) (period : ℕ) (inputs : List (List Event)) → IsOldKind kind
@@ -46,38 +62,103 @@ midi-old list Midithru memory outputs moment period inputs h = absurd h
 midi-old list Midilog memory outputs moment period inputs h = absurd h
 midi-old list (Disk disk) memory outputs moment period inputs h = absurd h
 
--- the routes of a bench carry audio
-routed-quiet : (frames : ℕ) (audio : List (List ℤ)) (midi midi2 : List (List Event)) (memory memory2 : Memory) (routes : List Route) (links : List ℕ) (place : ℕ)
-    → map (routed frames (record { audio = audio; midi = midi; memory = memory })) (slice_index_or (map (routes_on routes) links) place [])
-    ≡ map (routed frames (record { audio = audio; midi = midi2; memory = memory2 })) (slice_index_or (map (routes_on routes) links) place [])
-routed-quiet frames audio midi midi2 memory memory2 routes [] place = refl
-routed-quiet frames audio midi midi2 memory memory2 routes (link ∷ links) zero =
-    map-after (routed frames (record { audio = audio; midi = midi; memory = memory })) route_of (filter (λ (route : Route). route.link == link) routes)
-    ∙ sym (map-after (routed frames (record { audio = audio; midi = midi2; memory = memory2 })) route_of (filter (λ (route : Route). route.link == link) routes))
-routed-quiet frames audio midi midi2 memory memory2 routes (link ∷ links) (suc place) = routed-quiet frames audio midi midi2 memory memory2 routes links place
+-- ---- no events
 
-module _ (scores : List Score) (state : State) where
-  module _ (client : List ℕ) (kept : Remembered) (given : List (List Signal)) where
+merge-none : {X : Type 0} (events : X → List Event) → ((x : X) → events x ≡ []) → (xs : List X) → merge (map events xs) ≡ []
+merge-none {X} events none xs = ap (λ all. take 256 (by_offset all)) (all-none xs)
+  where
+    all-none : (ys : List X) → flat_map (λ found. found) (map events ys) ≡ []
+    all-none [] = refl
+    all-none (y ∷ ys) = ap₂ (λ found others. found ++ others) (none y) (all-none ys)
+
+-- nor does an output give one that gives none
+none-at : (outputs j : ℕ) → slice_index_or (replicate {A = List Event} outputs []) j [] ≡ []
+none-at zero j = refl
+none-at (suc outputs) zero = refl
+none-at (suc outputs) (suc j) = none-at outputs j
+
+none-given : (outputs : ℕ) (midi : List (List Event)) → midi ≡ replicate outputs [] → (output : Option ℕ) → option_map_or (λ j. slice_index_or midi j []) output [] ≡ []
+none-given outputs midi e None = refl
+none-given outputs midi e (Some j) = ap (λ lists. slice_index_or lists j []) e ∙ none-at outputs j
+
+-- what is not handed over is no event, and what is handed over carries none
+part-none : (state : State) (nodes : List OpenClient) (links : List Link) (n : ℕ) (given : List (List Signal)) → IsSilent given → (edge : Connection) → midi_part given (quiet_part state nodes links n edge) ≡ []
+part-none state nodes links n given silent edge = by_mark edge.mark
+  where
+    by_source : (source : Option ℕ) → midi_part given (direct_part state nodes links n edge [] source) ≡ []
+    by_source None = refl
+    by_source (Some source) = silent (link_place links source n) (edge_place edge (edges_between state (node_at nodes source).name (node_at nodes n).name))
+
+    by_mark : (mark : Mark) → midi_part given (marked_part state nodes links n edge [] [] mark) ≡ []
+    by_mark Direct = by_source (place_in nodes (client_part edge.source))
+    by_mark Feedback = refl
+
+-- ---- what a bench without MIDI gives
+
+carried-silent : (frames : ℕ) (played : ClientPlayed) (routes : List Route) (j : ℕ) → (slice_index_or (map (routed frames played) (map route_of routes)) j no_signal).midi ≡ []
+carried-silent frames played [] j = refl
+carried-silent frames played (route ∷ routes) zero = refl
+carried-silent frames played (route ∷ routes) (suc j) = carried-silent frames played routes j
+
+link-silent : (frames : ℕ) (played : ClientPlayed) (routes : List Route) (links : List ℕ) (place j : ℕ) → (slice_index_or (map (routed frames played) (slice_index_or (map (routes_on routes) links) place [])) j no_signal).midi ≡ []
+link-silent frames played routes [] place j = refl
+link-silent frames played routes (link ∷ links) zero j = carried-silent frames played (filter (λ (route : Route). route.link == link) routes) j
+link-silent frames played routes (link ∷ links) (suc place) j = link-silent frames played routes links place j
+
+gives-silent : (kept : Remembered) (given : List (List Signal)) (place j : ℕ) → (slice_index_or (kept_gives kept given place) j no_signal).midi ≡ []
+gives-silent kept given place j = go kept.turn
+  where
+    go : (o : Option Turn) → (slice_index_or (kept_gives (record kept { turn = o }) given place) j no_signal).midi ≡ []
+    go None = refl
+    go (Some turn) = link-silent turn.ports.period (task_turn (task_in (own_scores kept.standing) kept turn) kept.standing.memory given) kept.routes (below turn.links) place j
+
+pub given-silent : (links : List Link) (before : ℕ → Remembered) (depth n : ℕ) → IsSilent (given_within kept_after kept_gives links before depth n)
+given-silent links before zero n i j = refl
+given-silent links before (suc depth) n i j = each (incoming links n) i
+  where
+    value : ℕ → List Signal
+    value l = kept_gives (before (link_at links l).from) (given_within kept_after kept_gives links before depth (link_at links l).from) (place_among links l)
+
+    each : (ls : List ℕ) (i : ℕ) → (signal_at (map value ls) i j).midi ≡ []
+    each [] i = refl
+    each (l ∷ ls) zero = gives-silent (before (link_at links l).from) (given_within kept_after kept_gives links before depth (link_at links l).from) (place_among links l) j
+    each (l ∷ ls) (suc i) = each ls i
+
+-- ---- with the MIDI ports of its client, and all that is connected there
+
+module _ (scores : List Score) (state : State) (nodes : List OpenClient) (links : List Link) where
+  module _ (n : ℕ) (kept : Remembered) (given : List (List Signal)) where
     abbrev with_turn : Option Turn → Remembered
     with_turn turn = record kept { turn = turn }
+
+    abbrev its_quiet : Bench → Bench
+    its_quiet bench = quiet state nodes links n bench
 
     abbrev task : Turn → Task
     task turn = task_in scores kept turn
 
     abbrev client_task : Turn → Task
-    client_task turn = quiet_task state client (task turn)
+    client_task turn = quiet_task state nodes links n (task turn)
 
     abbrev sounded : Turn → Memory
     sounded turn = (play scores kept.standing.kind kept.standing.memory turn.ports.outputs turn.moment turn.ports.period (mixed (task turn) given)).memory
 
+    abbrev name : List ℕ
+    name = (node_at nodes n).name
+
     abbrev no_notes : List (List Event)
-    no_notes = map (λ (port : OpenPort). []) (midi_inputs state client)
+    no_notes = map (λ (port : OpenPort). []) (midi_inputs state name)
 
     abbrev outputs : ℕ
-    outputs = length (midi_outputs state client)
+    outputs = length (midi_outputs state name)
 
-    notes-quiet : (turn : Turn) → merged (client_task turn) given ≡ no_notes
-    notes-quiet turn = map-after (λ parts. merge (map (midi_part given) parts)) (λ (port : OpenPort). []) (midi_inputs state client)
+    notes-quiet : IsSilent given → (turn : Turn) → merged (client_task turn) given ≡ no_notes
+    notes-quiet silent turn =
+        map-after (λ parts. merge (map (midi_part given) parts)) (λ (port : OpenPort). map (quiet_part state nodes links n) (edges_into state port.name)) (midi_inputs state name)
+        ∙ map-same (λ (port : OpenPort). merge (map (midi_part given) (map (quiet_part state nodes links n) (edges_into state port.name)))) (λ (port : OpenPort). []) (midi_inputs state name)
+        (λ port.
+        ap merge (map-after (midi_part given) (quiet_part state nodes links n) (edges_into state port.name))
+        ∙ merge-none (λ edge. midi_part given (quiet_part state nodes links n edge)) (part-none state nodes links n given silent) (edges_into state port.name))
 
     -- with the client's MIDI ports, and without
     abbrev played : Turn → MidiPlayed
@@ -86,35 +167,56 @@ module _ (scores : List Score) (state : State) where
     abbrev played_bare : Turn → MidiPlayed
     played_bare turn = midi_play [] kept.standing.kind (sounded turn) 0 turn.moment turn.ports.period (merged (task turn) given)
 
-    after-played : HasOldKind kept → quiet state client (bench_after (bench_in scores kept) given) ≡ bench_after (quiet state client (bench_in scores kept)) given
-    after-played is_old = go kept.turn is_old
+    after-played : HasOldKind kept → IsSilent given → its_quiet (bench_after (bench_in scores kept) given) ≡ bench_after (its_quiet (bench_in scores kept)) given
+    after-played is_old silent = go kept.turn is_old
       where
         behind : Turn → Memory → List (List Event) → List (List Event) → Bench
         behind turn memory notes midi = record { task = Some (client_task turn); memory = memory; sounds = mixed (task turn) given; notes = notes; audio = (task_turn (task turn) kept.standing.memory given).audio; midi = midi }
 
-        go : (o : Option Turn) → HasOldKind (with_turn o) → quiet state client (bench_after (bench_in scores (with_turn o)) given) ≡ bench_after (quiet state client (bench_in scores (with_turn o))) given
+        go : (o : Option Turn) → HasOldKind (with_turn o) → its_quiet (bench_after (bench_in scores (with_turn o)) given) ≡ bench_after (its_quiet (bench_in scores (with_turn o))) given
         go None h = refl
         go (Some turn) h =
             ap (λ (midi : MidiPlayed). behind turn midi.memory no_notes (replicate outputs [])) (midi-old [] kept.standing.kind (sounded turn) 0 turn.moment turn.ports.period (merged (task turn) given) (h turn refl))
             ∙ sym (ap (λ (midi : MidiPlayed). behind turn midi.memory no_notes midi.outputs) (midi-old [] kept.standing.kind (sounded turn) outputs turn.moment turn.ports.period (merged (client_task turn) given) (h turn refl)))
-            ∙ ap (λ notes. behind turn (played turn).memory notes (played turn).outputs) (sym (notes-quiet turn))
+            ∙ ap (λ notes. behind turn (played turn).memory notes (played turn).outputs) (sym (notes-quiet silent turn))
 
-    pub after-quiet : HasScores scores kept → HasOldKind kept → quiet state client (bench_in scores (kept_after kept given)) ≡ bench_after (quiet state client (bench_in scores kept)) given
-    after-quiet fits is_old = ap (quiet state client) (after-scores scores kept given fits) ∙ after-played is_old
+    pub after-quiet : HasScores scores kept → HasOldKind kept → IsSilent given → its_quiet (bench_in scores (kept_after kept given)) ≡ bench_after (its_quiet (bench_in scores kept)) given
+    after-quiet fits is_old silent = ap its_quiet (after-scores scores kept given fits) ∙ after-played is_old silent
 
-    gives-played : (place : ℕ) → bench_gives (bench_in scores kept) given place ≡ bench_gives (quiet state client (bench_in scores kept)) given place
-    gives-played place = go kept.turn
+    -- what the client's connections at a place carry
+    abbrev theirs : ℕ → List Carrying
+    theirs place = slice_index_or (map (routes_along state nodes links n) (outgoing links n)) place []
+
+    routes-still : (place : ℕ) (turn : Turn) → turn.links ≡ length (outgoing links n) → AreStill kept state nodes links n → slice_index_or (map (routes_on kept.routes) (below turn.links)) place [] ≡ map still (theirs place)
+    routes-still place turn e are_still = ap (λ count. slice_index_or (map (routes_on kept.routes) (below count)) place []) e ∙ go (cases_lt place (length (outgoing links n)))
       where
-        go : (o : Option Turn) → bench_gives (bench_in scores (with_turn o)) given place ≡ bench_gives (quiet state client (bench_in scores (with_turn o))) given place
-        go None = refl
-        go (Some turn) = routed-quiet turn.ports.period (task_turn (task turn) kept.standing.memory given).audio (played_bare turn).outputs (played turn).outputs (played_bare turn).memory (played turn).memory kept.routes (below turn.links) place
+        go : (place < length (outgoing links n)) ⊎ (length (outgoing links n) ≤ place) → slice_index_or (map (routes_on kept.routes) (below (length (outgoing links n)))) place [] ≡ map still (theirs place)
+        go (inl low) = get_or-map_below (routes_on kept.routes) (length (outgoing links n)) place [] low ∙ are_still place low
+        go (inr high) =
+            get_or_past (map (routes_on kept.routes) (below (length (outgoing links n)))) place [] (omega (arith, high, length-map_below (routes_on kept.routes) (length (outgoing links n))))
+            ∙ ap (map still) (sym (get_or_past (map (routes_along state nodes links n) (outgoing links n)) place [] (omega (arith, high, length-map (outgoing links n) (routes_along state nodes links n)))))
 
-    pub gives-quiet : (place : ℕ) → HasScores scores kept → kept_gives kept given place ≡ bench_gives (quiet state client (bench_in scores kept)) given place
-    gives-quiet place fits = gives-scores scores kept given place fits ∙ gives-played place
+    gives-played : (place : ℕ) → HasOldKind kept → IsRouted state nodes links n kept → bench_gives (bench_in scores kept) given place ≡ bench_gives (its_quiet (bench_in scores kept)) given place
+    gives-played place is_old is_routed = go kept.turn is_old is_routed
+      where
+        same : (turn : Turn) → IsOldKind kept.standing.kind → (route : Carrying) → routed turn.ports.period (task_turn (task turn) kept.standing.memory given) (still route) ≡ routed turn.ports.period (task_turn (client_task turn) kept.standing.memory given) route
+        same turn h route =
+            ap (λ events. record { audio = option_map_or (λ j. slice_index_or (task_turn (task turn) kept.standing.memory given).audio j (silence turn.ports.period)) route.audio []; midi = events })
+            (sym (none-given outputs (played turn).outputs (ap (λ (midi : MidiPlayed). midi.outputs) (midi-old [] kept.standing.kind (sounded turn) outputs turn.moment turn.ports.period (merged (client_task turn) given) h)) route.midi))
 
-  module _ (links : List Link) (client : ℕ → List ℕ) (before : ℕ → Remembered) (fits : (n : ℕ) → HasScores scores (before n)) (old_kinds : (n : ℕ) → HasOldKind (before n)) where
+        go : (o : Option Turn) → HasOldKind (with_turn o) → IsRouted state nodes links n (with_turn o) → bench_gives (bench_in scores (with_turn o)) given place ≡ bench_gives (its_quiet (bench_in scores (with_turn o))) given place
+        go None h r = refl
+        go (Some turn) h r =
+            ap (map (routed turn.ports.period (task_turn (task turn) kept.standing.memory given))) (routes-still place turn (r turn refl).0 (r turn refl).1)
+            ∙ map-after (routed turn.ports.period (task_turn (task turn) kept.standing.memory given)) still (theirs place)
+            ∙ map-same (λ route. routed turn.ports.period (task_turn (task turn) kept.standing.memory given) (still route)) (routed turn.ports.period (task_turn (client_task turn) kept.standing.memory given)) (theirs place) (same turn (h turn refl))
+
+    pub gives-quiet : (place : ℕ) → HasScores scores kept → HasOldKind kept → IsRouted state nodes links n kept → kept_gives kept given place ≡ bench_gives (its_quiet (bench_in scores kept)) given place
+    gives-quiet place fits is_old is_routed = gives-scores scores kept given place fits ∙ gives-played place is_old is_routed
+
+  module _ (before : ℕ → Remembered) (fits : (n : ℕ) → HasScores scores (before n)) (old_kinds : (n : ℕ) → HasOldKind (before n)) (are_routed : (n : ℕ) → IsRouted state nodes links n (before n)) where
     abbrev benches : ℕ → Bench
-    benches n = quiet state (client n) (bench_in scores (before n))
+    benches n = quiet state nodes links n (bench_in scores (before n))
 
     given-quiet : (depth n : ℕ) → given_within kept_after kept_gives links before depth n ≡ given_within bench_after bench_gives links benches depth n
     given-quiet zero n = refl
@@ -123,10 +225,10 @@ module _ (scores : List Score) (state : State) where
         (λ l. bench_gives (benches (link_at links l).from) (given_within bench_after bench_gives links benches depth (link_at links l).from) (place_among links l))
         (incoming links n)
         (λ l.
-        gives-quiet (client (link_at links l).from) (before (link_at links l).from) (given_within kept_after kept_gives links before depth (link_at links l).from) (place_among links l) (fits (link_at links l).from)
+        gives-quiet (link_at links l).from (before (link_at links l).from) (given_within kept_after kept_gives links before depth (link_at links l).from) (place_among links l) (fits (link_at links l).from) (old_kinds (link_at links l).from) (are_routed (link_at links l).from)
         ∙ ap (λ given. bench_gives (benches (link_at links l).from) given (place_among links l)) (given-quiet depth (link_at links l).from))
 
-    pub sequential-quiet : (n : ℕ) → quiet state (client n) (bench_in scores (sequential kept_after kept_gives links before n)) ≡ sequential bench_after bench_gives links benches n
+    pub sequential-quiet : (n : ℕ) → quiet state nodes links n (bench_in scores (sequential kept_after kept_gives links before n)) ≡ sequential bench_after bench_gives links benches n
     sequential-quiet n =
-        after-quiet (client n) (before n) (given_to kept_after kept_gives links before n) (fits n) (old_kinds n)
+        after-quiet n (before n) (given_to kept_after kept_gives links before n) (fits n) (old_kinds n) (given-silent links before n n)
         ∙ ap (λ given. bench_after (benches n) given) (given-quiet n n)

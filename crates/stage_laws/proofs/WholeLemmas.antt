@@ -30,8 +30,8 @@ use Rattle.client_seats.specs.Owners.{owner_at}
 use Rattle.client_seats.specs.Moves.{kinds_of}
 use Rattle.client_seats.specs.Seatings.{HasBench, HasNoPast, HavePeriod, IsSameBench, IsSeating, kind_at, standing_at}
 use Rattle.task_laws.specs.Calls.{IsOldKind}
-use Rattle.task_laws.specs.Edges.{HasAudioEdges}
 use Rattle.client_seats.proofs.PlayLemmas.{IsSameBench-played, IsSeating-played}
+use Rattle.ready_laws.specs.Quiet.{HasNoEvents}
 use Rattle.ready_laws.specs.Sources.{HasSources}
 use Rattle.task_laws.proofs.PlayingLemmas.{empty-kept, idle-kept}
 use Rattle.stage_laws.specs.Stages.{IsStaffed, Staged}
@@ -162,7 +162,7 @@ module _ (old : Staged) (last plan : Planned) (moment : Moment) (period : ℕ) (
 
   module _ (course : Course) (at : Settled) (seating : IsSeating old.racked old.owned) (wired_last : old.wiring ≡ wired_of last) (staffed : IsStaffed old last) (goes : GoesOn last plan) (feedback : SetsFeedback last plan)
       (settled : IsSettledOn old last plan moment period channels at) (scores_are : course.scores ≡ old.owned.scores)
-      (edges : HasAudioEdges at.graph) (as_many : length channels ≡ length (audio_outputs (state_of_plan plan) system_name)) (are_places : ArePlaces old cast period places) (no_past : HasNoPast (open_clients plan.nodes) old.owned)
+      (no_events : HasNoEvents at) (as_many : length channels ≡ length (audio_outputs (state_of_plan plan) system_name)) (are_places : ArePlaces old cast period places) (no_past : HasNoPast (open_clients plan.nodes) old.owned)
       (old_kinds : (n : ℕ) → n < length plan.nodes → IsOldKind (node_at (open_clients plan.nodes) n).kind) where
     place-of : (i : ℕ) → i < length (wired_of plan).joints → old.period ≡ period → slice_index_or places i None ≡ last_place (wired_of last).given (joint_at (wired_of plan).joints i)
     place-of i h same =
@@ -179,5 +179,5 @@ module _ (old : Staged) (last plan : Planned) (moment : Moment) (period : ℕ) (
 
     pub plan-played : (new : Staged) → new.racked ≡ played → new.owned ≡ cast.owned → PlaysPlan course old plan at new
     plan-played new rack owned =
-        plays course old last plan moment period channels at seating goes.planned settled cast casts scores_are edges filled played
+        plays course old last plan moment period channels at seating goes.planned settled cast casts scores_are no_events filled played
         (known_at cast.racked channels (silence period) places (wired_of plan).joints) sources-are fills.set fills.standings fills.idle crew performs.few performs.each performs.others no_past old_kinds seating-played lengths new rack owned

@@ -6,7 +6,7 @@
 use Rattle.std.specs.Prelude.{◌≡◌, ℕ, ◌<◌, Bool, List, length, ℤ, Option}
 use Rattle.jack_types.specs.declared.moments.Moment.{Moment}
 use Rattle.jack_types.specs.declared.ports.Client.{Client}
-use Rattle.session_model.specs.Benches.{Bench, node_at}
+use Rattle.session_model.specs.Benches.{Bench}
 use Rattle.port_registry.specs.Registered.{open_clients}
 use Rattle.cycle_plan.specs.Plans.{Planned, state_of_plan}
 use Rattle.client_benches.specs.Seen.{bench_in}
@@ -35,9 +35,9 @@ pub record Staged : Type 0 where
 abbrev pub bench_of : Staged → ℕ → Bench
 bench_of staged n = bench_in staged.owned.scores (bench_at staged.racked n).kept
 
--- at the MIDI ports of the node's client nothing comes in, and nothing goes out
+-- at the MIDI ports of the node's client no event comes in, and none goes out
 abbrev pub bench_on : Planned → Staged → ℕ → Bench
-bench_on plan staged n = quiet (state_of_plan plan) (node_at (open_clients plan.nodes) n).name (bench_of staged n)
+bench_on plan staged n = quiet (state_of_plan plan) (open_clients plan.nodes) plan.links n (bench_of staged n)
 
 -- the benches of the plan's nodes are their clients' and set for the cycle that was played, with as many outputs as their clients
 pub record IsStaffed (staged : Staged) (plan : Planned) : Type 0 where

@@ -9,13 +9,13 @@ ghost use Rattle.port_registry.specs.Registered.{open_clients};
 ghost use Rattle.session_model.specs.Benches.{node_at};
 ghost use Rattle.cycle_plan.specs.Plans.{IsPlanned, Planned, state_of_plan};
 ghost use Rattle.task_laws.specs.Calls.{IsOldKind};
-ghost use Rattle.task_laws.specs.Edges.{HasAudioEdges};
 ghost use Rattle.client_wiring.specs.Keeping.{GoesOn};
 ghost use Rattle.client_wiring.specs.Wirings.{wired_of};
 ghost use Rattle.bench_rack.specs.Racks.{Racked, bench_at};
 ghost use Rattle.client_tasks.specs.Tasks.{HasRooms};
 ghost use Rattle.client_seats.specs.Moves.{kinds_of};
 ghost use Rattle.client_seats.specs.Seatings.{HasNoPast, HavePeriod, IsSeating, standing_at};
+ghost use Rattle.ready_laws.specs.Quiet.{HasNoEvents};
 ghost use Rattle.stage_laws.specs.Casts.{ArePlaces, Casts, Fills, GoesOnIn, Performs};
 ghost use Rattle.stage_laws.specs.Plays.{IsSettledOn, PlaysPlan};
 ghost use Rattle.stage_laws.specs.Stages.{IsStaffed, Staged};
@@ -23,12 +23,12 @@ ghost use Rattle.stage_laws.specs.Stages.{IsStaffed, Staged};
 use client_wiring::laws::keeps_by_births;
 
 /// Where the clients of a plan were cast, what is known before they play is in their wires, and a crew performed, the benches
-/// of the plan were ready for its cycle and played it, with the memories of all that played; in a graph
-/// whose connections carry audio, and whose clients are of the kinds before version 3.
+/// of the plan were ready for its cycle and played it, with the memories of all that played; where no event comes from the
+/// cycle before, and the clients are of the kinds before version 3.
 pub fn a_stage_plays_its_plan()
     ensures { (course : Course) (old : Staged) (last plan : Planned) (moment : MomentValue) (period : ℕ) (channels : List (List ℤ)) (at : Settled) (cast : Staged) (places : List (Option ℕ)) (filled : Racked) (crew : ℕ) (played : Racked) (new : Staged)
         → IsSeating old.racked old.owned → old.wiring ≡ wired_of last → IsStaffed old last → GoesOn last plan → IsSettledOn old last plan moment period channels at → course.scores ≡ old.owned.scores
-        → HasAudioEdges at.graph → length channels ≡ length (audio_outputs (state_of_plan plan) system_name)
+        → HasNoEvents at → length channels ≡ length (audio_outputs (state_of_plan plan) system_name)
         → HasNoPast (open_clients plan.nodes) old.owned → ((n : ℕ) → n < length plan.nodes → IsOldKind (node_at (open_clients plan.nodes) n).kind) → Casts old last plan moment period cast → ArePlaces old cast period places → Fills cast plan moment period channels places filled → Performs filled plan crew played
         → new.racked ≡ played → new.owned ≡ cast.owned → PlaysPlan course old plan at new }
 {

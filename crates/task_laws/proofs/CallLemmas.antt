@@ -1,7 +1,6 @@
 -- What holds of all commands of a script holds of all its planned calls, of all changes that are of its calls, and, step by step, behind these.
 --     planned-all      from the lines to the planned calls
 --     changes-all      from the planned calls to the changes
---     changes-called      each change's command is one of the script's
 --     planned-lawful      the commands of a lawful script are in their ranges
 --     replay-keeps      what each accepted command keeps holds behind all changes
 use Rattle.std.proofs.Common.{◌≡◌, ℕ, suc, ◌+◌, ◌*◌, Bool, true, false, cond, List, [], ◌∷◌, ◌++◌, map, filter_map, take, slice_get, Contains, Option, Some, None, is_none, refl, subst}
@@ -18,9 +17,8 @@ use Rattle.session_model.specs.Scripts.{Script, Phase, LaneCall, Planned, Uncoun
 use Rattle.session_model.specs.State.{State}
 use Rattle.session_laws.proofs.ListLemmas.{Each, Each-append, Each-contains, Each-from_contains, Each-map, Each-unmap}
 use Rattle.session_laws.proofs.SerialCallsLemmas.{Each-counted, dos_of, calls_at}
-use Rattle.session_laws.proofs.SoundLemmas.{contains-map, map-contains}
+use Rattle.session_laws.proofs.SoundLemmas.{contains-map}
 use Rattle.driver_laws.specs.Keeping.{AreOfCalls}
-use Rattle.task_laws.specs.Calls.{commands}
 
 each-at : {X : Type 0} (P : X → Type 0) (xs : List X) → ((i : ℕ) (x : X) → slice_get xs i ≡ Some x → P x) → Each P xs
 each-at P [] h = tt
@@ -76,10 +74,6 @@ module _ (P : Command → Type 0) where
       one call m =
           let w = contains-map (λ (plan : Planned). plan.call) (planned script) call m in
           subst (λ (c : Call). P c.command) w.2 (Each-contains (λ (plan : Planned). P plan.call.command) (planned script) w.0 h w.1)
-
-pub changes-called : (script : Script) (changes : List Change) → AreOfCalls script changes → Each (λ (change : Change). Contains (commands script) change.command) changes
-changes-called script changes of = changes-all (Contains (commands script)) script changes of
-    (Each-from_contains (λ (plan : Planned). Contains (commands script) plan.call.command) (planned script) (λ plan m. map-contains (λ (p : Planned). p.call.command) (planned script) plan m))
 
 pub planned-lawful : (script : Script) → IsScript script → Each (λ (plan : Planned). IsCommand script.header plan.call.command) (planned script)
 planned-lawful script is = planned-all (IsCommand script.header) script (each-at (BodyHas (IsCommand script.header)) script.lines (λ i body e. one (take i script.lines) body (is.lines i body e)))

@@ -2,8 +2,6 @@ pub mod LinkLemmas
 pub mod CallLemmas
 pub mod KindLemmas
 pub mod PlainLemmas
-pub mod PortLemmas
-pub mod EdgeLemmas
 pub mod PigeonLemmas
 pub mod EnoughLemmas
 pub mod PlayingLemmas

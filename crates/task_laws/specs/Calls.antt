@@ -1,8 +1,6 @@
 -- What the calls of a script ask for.
 --     open_kinds script      the kinds of its `open` calls, in their order
 --     guests_needed script      one more than its greatest guest number, 0 where it asks for no guest
---     commands script      the commands of its calls, in their order
---     RegistersMidi script way port, HasNoMidiEdge script      a call of it registers a MIDI port, no call of it connects two that it registers
 --     IsOldKind kind      a kind of the versions before 3
 --     HasOpened changes birth kind      the change of this number opened a client of this kind
 --     AreOwners changes kinds owners      which clients own benches of these kinds
@@ -10,12 +8,9 @@ use Rattle.std.specs.Prelude.{◌≡◌, ℕ, suc, max, ⊤, Bool, false, List, 
 use Rattle.std.specs.Option.{option_map_or}
 use Rattle.jack_types.specs.declared.commands.Change.{Change}
 use Rattle.jack_types.specs.declared.commands.Command.{Command}
-use Rattle.jack_types.specs.declared.commands.Command.TheVariants.{Connect, Open, Register}
+use Rattle.jack_types.specs.declared.commands.Command.TheVariants.{Open}
 use Rattle.jack_types.specs.declared.kinds.Kind.{Kind}
 use Rattle.jack_types.specs.declared.kinds.Kind.TheVariants.{Guest, Midiplay, Midithru, Midilog, Disk}
-use Rattle.jack_types.specs.declared.ports.PortKind.TheVariants.{Midi}
-use Rattle.jack_types.specs.declared.ports.Way.{Way}
-use Rattle.jack_types.specs.declared.ports.Way.TheVariants.{In, Out}
 use Rattle.session_model.specs.Scripts.{Script, Planned, planned}
 
 abbrev pub kind_opened : Command → Option Kind
@@ -37,17 +32,6 @@ guest_bound _ = 0
 
 abbrev pub guests_needed : Script → ℕ
 guests_needed script = fold max 0 (map guest_bound (open_kinds script))
-
-abbrev pub commands : Script → List Command
-commands script = map (λ (plan : Planned). plan.call.command) (planned script)
-
--- a call registers a MIDI port of this name and direction, be it accepted or not
-abbrev pub RegistersMidi : Script → Way → List ℕ → Type 0
-RegistersMidi script way port = Contains (commands script) (Register port way Midi)
-
--- MIDI ports may be registered, which each version of a script may, but no call connects a port that a call registers as a MIDI output with one that a call registers as a MIDI input
-abbrev pub HasNoMidiEdge : Script → Type 0
-HasNoMidiEdge script = (source destination : List ℕ) → Contains (commands script) (Connect source destination) → RegistersMidi script Out source → RegistersMidi script In destination → ⊥
 
 -- not one of those that came with version 3
 abbrev pub IsOldKind : Kind → Type 0

@@ -12,15 +12,12 @@ ghost use Rattle.session_model.specs.Scripts.{Script};
 ghost use Rattle.session_model.specs.State.{OpenClient, is_system, opening};
 ghost use Rattle.client_kinds.specs.Standings.{IsPlayable};
 ghost use Rattle.driver_laws.specs.Keeping.{AreOfCalls};
-ghost use Rattle.task_laws.specs.Calls.{AreOwners, HasNoMidiEdge, HasOpened, IsOldKind, guests_needed, open_kinds, opens};
-ghost use Rattle.task_laws.specs.Edges.{HasAudioEdges};
+ghost use Rattle.task_laws.specs.Calls.{AreOwners, HasOpened, IsOldKind, guests_needed, open_kinds, opens};
 
-/// A script before version 3 opens no client of the kinds of version 3; where it connects no MIDI ports, each connection
-/// carries audio.
+/// A script before version 3 opens no client of the kinds of version 3.
 pub fn old_scripts_are_plain()
-    ensures kinds { (script : Script) (changes : List ChangeValue) (capture playback : ℕ) → IsScript script → script.header.version < 3 → AreOfCalls script changes
+    ensures { (script : Script) (changes : List ChangeValue) (capture playback : ℕ) → IsScript script → script.header.version < 3 → AreOfCalls script changes
         → (client : OpenClient) → Contains (replay (opening capture playback) changes).clients client → IsOldKind client.kind }
-    ensures edges { (script : Script) (changes : List ChangeValue) (capture playback : ℕ) → HasNoMidiEdge script → AreOfCalls script changes → HasAudioEdges (replay (opening capture playback) changes) }
 {}
 
 /// The numbers of the kinds that a script opens are in range, and its guests are among those that it needs.

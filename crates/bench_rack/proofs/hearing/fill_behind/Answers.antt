@@ -3,25 +3,17 @@ use Rattle.std.specs.Prelude.{slice_set, slice_index_or}
 use Rattle.std.proofs.lemmas.List.{set-append_right}
 use Rattle.jack_types.specs.declared.kinds.Kind.TheVariants.{Pass}
 use Rattle.client_benches.specs.Seen.{Seen, new_bench}
-use Rattle.client_benches.specs.Wires.{IsKept, wire_at}
 use Rattle.bench_rack.specs.Insides.{bench_among}
 use Rattle.bench_rack.specs.Racks.{filled}
 use Rattle.bench_rack.proofs.WholeLemmas.{read-same}
 use Rattle.bench_rack.proofs.hearing.fill_behind.Goals as goal
 
-pub fill_from-requires-clause-wire : goal.fill_from-requires-clause-wire
-fill_from-requires-clause-wire g c =
+pub fill_from-requires : goal.fill_from-requires
+fill_from-requires g c =
     let from_is : c.args.place + 0 ≡ c.args.place = omega arith in
     let slot : get_or c.split_at_mut-front.result.1.now 0 c.index-back-0.result ≡ bench_among c.args.benches.now c.args.place =
     read-same c.split_at_mut-front.result.1.now 0 c.index-back-0.result (bench_among c.args.benches.now c.args.place) (omega (arith, c.split_at_mut-front.ensures.back_len, c.requires.place)) (c.split_at_mut-front.ensures.by_index.1 0 (new_bench Pass 0) ∙ ap (bench_among c.args.benches.now) from_is) in
-    subst (λ (seen : Seen). IsKept (wire_at seen.kept.wires c.args.wire)) (sym slot) c.requires.kept
-
-pub fill_from-requires-clause-place : goal.fill_from-requires-clause-place
-fill_from-requires-clause-place g c =
-    let from_is : c.args.place + 0 ≡ c.args.place = omega arith in
-    let slot : get_or c.split_at_mut-front.result.1.now 0 c.index-back-0.result ≡ bench_among c.args.benches.now c.args.place =
-    read-same c.split_at_mut-front.result.1.now 0 c.index-back-0.result (bench_among c.args.benches.now c.args.place) (omega (arith, c.split_at_mut-front.ensures.back_len, c.requires.place)) (c.split_at_mut-front.ensures.by_index.1 0 (new_bench Pass 0) ∙ ap (bench_among c.args.benches.now) from_is) in
-    subst (λ (seen : Seen). c.args.wire < length seen.kept.wires) (sym slot) c.requires.wire
+    record { place = subst (λ (seen : Seen). c.args.wire < length seen.kept.wires) (sym slot) c.requires.wire }
 
 pub returns : goal.returns
 returns g c =

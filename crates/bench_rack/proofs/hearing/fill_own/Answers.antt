@@ -1,19 +1,14 @@
 use Rattle.std.proofs.Common.{◌<◌, [], length, refl, sym, ◌∙◌, ap, subst}
 use Rattle.std.specs.Prelude.{slice_set, slice_index_or}
 use Rattle.client_benches.specs.Seen.{Seen}
-use Rattle.client_benches.specs.Wires.{IsKept, wire_at}
 use Rattle.bench_rack.specs.Insides.{bench_among}
 use Rattle.bench_rack.specs.Racks.{filled}
 use Rattle.bench_rack.proofs.WholeLemmas.{read-same}
 use Rattle.bench_rack.proofs.hearing.fill_own.Goals as goal
 
-pub fill_own-requires-clause-wire : goal.fill_own-requires-clause-wire
-fill_own-requires-clause-wire g c =
-    subst (λ (seen : Seen). IsKept (wire_at seen.kept.wires c.args.wire)) (sym (read-same c.args.benches.now c.args.place c.index-benches-place.result (bench_among c.args.benches.now c.args.place) c.requires.place refl)) c.requires.kept
-
-pub fill_own-requires-clause-place : goal.fill_own-requires-clause-place
-fill_own-requires-clause-place g c =
-    subst (λ (seen : Seen). c.args.wire < length seen.kept.wires) (sym (read-same c.args.benches.now c.args.place c.index-benches-place.result (bench_among c.args.benches.now c.args.place) c.requires.place refl)) c.requires.wire
+pub fill_own-requires : goal.fill_own-requires
+fill_own-requires g c =
+    record { place = subst (λ (seen : Seen). c.args.wire < length seen.kept.wires) (sym (read-same c.args.benches.now c.args.place c.index-benches-place.result (bench_among c.args.benches.now c.args.place) c.requires.place refl)) c.requires.wire }
 
 pub returns : goal.returns
 returns g c =

@@ -3,7 +3,7 @@ use Rattle.client_benches.specs.Seen.{Seen}
 use Rattle.client_wiring.specs.declared.joints.Carried.{Carried}
 use Rattle.client_wiring.specs.declared.joints.Output.TheVariants.{Audio}
 use Rattle.bench_rack.specs.Racks.{Racked, bench_at}
-use Rattle.client_tasks.specs.Steps.{sounded, with_routes}
+use Rattle.client_tasks.specs.Steps.{routed, with_routes}
 use Rattle.client_tasks.specs.Tasks.{routes_of}
 use Rattle.client_tasks.proofs.ListLemmas.{length-routes, routes-more, routes-other}
 use Rattle.client_tasks.proofs.RackLemmas.{each-put, length-put}
@@ -19,8 +19,8 @@ carry-requires-clause-few g c =
 pub loop-place-preserved : goal.loop-place-preserved
 loop-place-preserved g c = record {
   routes = each-put (λ p. with_routes (routes_of (take place carried) p) (bench_at c.args.rack.now p)) (λ p. with_routes (routes_of (take (place + 1) carried) p) (bench_at c.args.rack.now p))
-      c.loop-place.rack c.carry.new.rack one.node (sounded one (bench_at c.loop-place.rack one.node)) c.carry.ensures within c.loop-place.invariant.routes here others;
-  lengths = length-put c.loop-place.rack c.carry.new.rack one.node (sounded one (bench_at c.loop-place.rack one.node)) c.carry.ensures ∙ c.loop-place.invariant.lengths;
+      c.loop-place.rack c.carry.new.rack one.node (routed one (bench_at c.loop-place.rack one.node)) c.carry.ensures within c.loop-place.invariant.routes here others;
+  lengths = length-put c.loop-place.rack c.carry.new.rack one.node (routed one (bench_at c.loop-place.rack one.node)) c.carry.ensures ∙ c.loop-place.invariant.lengths;
   links = ap (λ (rack : Racked). rack.links) c.carry.ensures ∙ c.loop-place.invariant.links;
 }
   where
@@ -39,9 +39,9 @@ loop-place-preserved g c = record {
     within : one.node < length c.loop-place.rack.benches
     within = let low : one.node < length c.args.rack.now.benches = c.requires.nodes place nobody c.loop-place-test.true in omega (arith, low, c.loop-place.invariant.lengths)
 
-    here : sounded one (bench_at c.loop-place.rack one.node) ≡ with_routes (routes_of (take (place + 1) carried) one.node) (bench_at c.args.rack.now one.node)
+    here : routed one (bench_at c.loop-place.rack one.node) ≡ with_routes (routes_of (take (place + 1) carried) one.node) (bench_at c.args.rack.now one.node)
     here =
-        ap (sounded one) (c.loop-place.invariant.routes one.node)
+        ap (routed one) (c.loop-place.invariant.routes one.node)
         ∙ ap (λ routes. with_routes routes (bench_at c.args.rack.now one.node)) (sym (routes-more carried nobody one.node place c.loop-place-test.true (λ i. one.node)))
 
     others : (p : ℕ) → p ≢ one.node → with_routes (routes_of (take place carried) p) (bench_at c.args.rack.now p) ≡ with_routes (routes_of (take (place + 1) carried) p) (bench_at c.args.rack.now p)

@@ -8,9 +8,9 @@ use Rattle.client_wiring.specs.declared.joints.Joint.{Joint}
 use Rattle.client_wiring.specs.declared.joints.Origin.TheVariants.{Captured, Handed}
 use Rattle.bench_rack.specs.Racks.{bench_at}
 use Rattle.client_tasks.specs.Fillings.{AreJoints, known_at, known_by}
-use Rattle.client_tasks.specs.Steps.{HasRoomFor, mixed, own_joints, with_samples_of}
+use Rattle.client_tasks.specs.Steps.{mixed, own_joints, with_samples_of}
 use Rattle.client_tasks.specs.Tasks.{joint_at, wire_by, wires_of}
-use Rattle.client_tasks.proofs.FillLemmas.{has-room, known-same, length-filled, others-filled, wire-there, wires-filled, wires-first, wires-last}
+use Rattle.client_tasks.proofs.FillLemmas.{known-same, length-filled, others-filled, wire-there, wires-filled, wires-first, wires-last}
 use Rattle.client_tasks.proofs.ListLemmas.{joint_at-is, length-more, length-own, own-other}
 use Rattle.client_tasks.proofs.filling.fill_wires.Goals as goal
 
@@ -47,39 +47,8 @@ module _ (joints : List Joint) (counts : List ℕ) (place : ℕ) (d : Joint) (so
   wire-within : get_or counts (get_or joints place d).node 0 < length wires
   wire-within = omega (arith, there.0, at)
 
-  wire-roomy : HasRoomFor (wire_at wires (get_or counts (get_or joints place d).node 0)) (get_or joints place d).origin
-  wire-roomy =
-      subst (λ (joint : Joint). HasRoomFor (wire_at wires (get_or counts (get_or joints place d).node 0)) joint.origin) (sym same)
-      (has-room (mixed known sources place) joints place (wire_at wires (get_or counts (get_or joints place d).node 0)) (ap (wire_at wires) at ∙ there.1))
-
 pub fill_wire-requires-clause-wire : goal.fill_wire-requires-clause-wire
 fill_wire-requires-clause-wire g c = wire-within joints c.loop-place.counts place nobody sources known (bench_at c.loop-place.rack (get_or c.args.joints.now c.loop-place.place nobody).node).kept.wires c.loop-place-test.true
-    (c.loop-place.invariant.wires sources (get_or c.args.joints.now c.loop-place.place nobody).node was)
-    (c.loop-place.invariant.so_far (get_or c.args.joints.now c.loop-place.place nobody).node low)
-  where
-    joints : List Joint
-    joints = c.args.joints.now
-
-    place : ℕ
-    place = c.loop-place.place
-
-    known : ℕ → List ℤ
-    known = known_at c.args.rack.now c.args.capture.now.channels c.args.silence.now c.args.last.now c.args.joints.now
-
-    sources : ℕ → List ℤ
-    sources = (c.requires.set c.loop-place.place c.loop-place-test.true).0
-
-    same : get_or c.args.joints.now c.loop-place.place nobody ≡ joint_at c.args.joints.now c.loop-place.place
-    same = joint_at-is c.args.joints.now c.loop-place.place nobody c.loop-place-test.true
-
-    was : (bench_at c.args.rack.now (get_or c.args.joints.now c.loop-place.place nobody).node).kept.wires ≡ wires_of sources c.args.joints.now (get_or c.args.joints.now c.loop-place.place nobody).node
-    was = subst (λ (joint : Joint). (bench_at c.args.rack.now joint.node).kept.wires ≡ wires_of sources c.args.joints.now joint.node) (sym same) (c.requires.set c.loop-place.place c.loop-place-test.true).1
-
-    low : (get_or c.args.joints.now c.loop-place.place nobody).node < 64
-    low = node-low c.args.joints.now c.requires.joints.0 c.requires.joints.1 c.loop-place.place nobody c.loop-place-test.true
-
-pub fill_wire-requires-clause-kept : goal.fill_wire-requires-clause-kept
-fill_wire-requires-clause-kept g c = wire-roomy joints c.loop-place.counts place nobody sources known (bench_at c.loop-place.rack (get_or c.args.joints.now c.loop-place.place nobody).node).kept.wires c.loop-place-test.true
     (c.loop-place.invariant.wires sources (get_or c.args.joints.now c.loop-place.place nobody).node was)
     (c.loop-place.invariant.so_far (get_or c.args.joints.now c.loop-place.place nobody).node low)
   where

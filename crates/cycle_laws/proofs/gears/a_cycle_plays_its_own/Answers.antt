@@ -21,7 +21,6 @@ returns c freewheel before after plan moment is may turns left course fits keeps
     c.a_period_is_what_the_capture_has.ensures.read
     c.a_period_is_what_the_capture_has.ensures.rest
     c.the_device_has_its_ports.ensures.capture
-    (λ capture playback. c.old_scripts_are_plain.ensures.edges before.script (content_now (driver_of after)) capture playback is.served.no_midi_edge of)
-    (λ capture playback client member. c.old_scripts_are_plain.ensures.kinds before.script plan.changes capture playback is.served.lawful is.served.version of_plan client member)
+    (λ capture playback client member. c.old_scripts_are_plain.ensures before.script plan.changes capture playback is.served.lawful is.served.version of_plan client member)
     (c.all_have_their_benches.ensures before is (calls-last is may turns steps of))
     staffed)

@@ -1,5 +1,5 @@
 use Rattle.std.proofs.Common.{◌<◌, sym, ap, subst}
-use Rattle.std.specs.Option.{ForSome}
+use Rattle.std.specs.Option.{ForSome, IfSome}
 use Rattle.client_benches.specs.Seen.{Seen}
 use Rattle.client_benches.specs.Wires.{kept_count}
 use Rattle.bench_rack.specs.Racks.{carrying}
@@ -9,7 +9,7 @@ use Rattle.bench_rack.proofs.racks.Rack.carry.Goals as goal
 pub carry-requires-clause-output : goal.carry-requires-clause-output
 carry-requires-clause-output g c =
     let slot : IsSlot c.args.self.now c.self.inside.benches.items c.self.inside.links c.args.place c.index_mut.result.now = record { view = c.self.view_is; within = c.requires.place; is = c.index_mut.ensures.value } in
-    subst (λ (seen : Seen). ForSome seen.kept.turn (λ turn. c.args.output < turn.ports.outputs)) (sym (slot-is slot)) c.requires.output
+    subst (λ (seen : Seen). IfSome c.args.output (λ output. ForSome seen.kept.turn (λ turn. output < turn.ports.outputs))) (sym (slot-is slot)) c.requires.output
 
 pub invariant_of-self : goal.invariant_of-self
 invariant_of-self g c =

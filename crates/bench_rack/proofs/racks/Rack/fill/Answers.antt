@@ -1,15 +1,10 @@
 use Rattle.std.proofs.Common.{◌<◌, length, sym, ◌∙◌, ap, subst}
 use Rattle.client_benches.specs.Seen.{Seen}
-use Rattle.client_benches.specs.Wires.{kept_count, IsKept, wire_at}
+use Rattle.client_benches.specs.Wires.{kept_count}
 use Rattle.bench_rack.specs.Racks.{filled}
 use Rattle.bench_rack.proofs.TotalLemmas.{kept_count-filled}
 use Rattle.bench_rack.proofs.WholeLemmas.{IsSlot, changed-is, slot-is, whole-stays}
 use Rattle.bench_rack.proofs.racks.Rack.fill.Goals as goal
-
-pub fill-requires-clause-wire : goal.fill-requires-clause-wire
-fill-requires-clause-wire g c =
-    let slot : IsSlot c.args.self.now c.self.inside.benches.items c.self.inside.links c.args.place c.index_mut.result.now = record { view = c.self.view_is; within = c.requires.place; is = c.index_mut.ensures.value } in
-    subst (λ (seen : Seen). IsKept (wire_at seen.kept.wires c.args.wire)) (sym (slot-is slot)) c.requires.kept
 
 pub fill-requires-clause-place : goal.fill-requires-clause-place
 fill-requires-clause-place g c =
@@ -22,8 +17,7 @@ invariant_of-self g c =
     whole-stays slot c.fill.new.self c.self.inside.spare c.self.inside.spare_links
     (ap (λ (seen : Seen). kept_count seen.kept.wires) c.fill.ensures
     ∙ kept_count-filled c.index_mut.result.now.kept.wires c.args.wire c.args.samples.now
-    (subst (λ (seen : Seen). c.args.wire < length seen.kept.wires) (sym (slot-is slot)) c.requires.wire)
-    (subst (λ (seen : Seen). IsKept (wire_at seen.kept.wires c.args.wire)) (sym (slot-is slot)) c.requires.kept))
+    (subst (λ (seen : Seen). c.args.wire < length seen.kept.wires) (sym (slot-is slot)) c.requires.wire))
     (ap (λ (seen : Seen). seen.rooms) c.fill.ensures) c.self.invariant
 
 pub returns : goal.returns

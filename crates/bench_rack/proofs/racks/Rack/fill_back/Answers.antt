@@ -2,7 +2,6 @@ use Rattle.std.proofs.Common.{◌≡◌, ◌<◌, List, [], length, refl, sym, �
 use Rattle.std.specs.Prelude.{slice_index_or}
 use Rattle.std.proofs.lemmas.List.{length-set, with_items_is}
 use Rattle.client_benches.specs.Seen.{Seen}
-use Rattle.client_benches.specs.Wires.{IsKept, wire_at}
 use Rattle.bench_rack.specs.Insides.{IsWhole, bench_among, racked}
 use Rattle.bench_rack.specs.Racks.{Racked, bench_at, filled, with_bench}
 use Rattle.bench_rack.proofs.TotalLemmas.{kept_count-filled}
@@ -24,11 +23,6 @@ fill_among-requires-clause-wire g c =
     let e : racked c.deref_mut.result.now c.self.inside.links ≡ c.args.self.now = ap (λ (benches : List Seen). racked benches c.self.inside.links) c.deref_mut.ensures.value ∙ c.self.view_is in
     subst (λ (rack : Racked). c.args.wire < length (bench_at rack c.args.place).kept.wires) (sym e) c.requires.wire
 
-pub fill_among-requires-clause-kept : goal.fill_among-requires-clause-kept
-fill_among-requires-clause-kept g c =
-    let e : racked c.deref_mut.result.now c.self.inside.links ≡ c.args.self.now = ap (λ (benches : List Seen). racked benches c.self.inside.links) c.deref_mut.ensures.value ∙ c.self.view_is in
-    subst (λ (rack : Racked). IsKept (wire_at (bench_at rack c.args.place).kept.wires c.args.wire)) (sym e) c.requires.kept
-
 pub invariant_of-self : goal.invariant_of-self
 invariant_of-self g c =
     let e : racked c.deref_mut.result.now c.self.inside.links ≡ c.args.self.now = ap (λ (benches : List Seen). racked benches c.self.inside.links) c.deref_mut.ensures.value ∙ c.self.view_is in
@@ -37,8 +31,7 @@ invariant_of-self g c =
     (filled c.args.wire (slice_index_or (bench_among c.deref_mut.result.now c.args.from).kept.audio c.args.output []) (bench_among c.deref_mut.result.now c.args.place))
     c.self.inside.spare c.self.inside.spare_links
     (kept_count-filled (bench_among c.deref_mut.result.now c.args.place).kept.wires c.args.wire (slice_index_or (bench_among c.deref_mut.result.now c.args.from).kept.audio c.args.output [])
-    (subst (λ (rack : Racked). c.args.wire < length (bench_at rack c.args.place).kept.wires) (sym e) c.requires.wire)
-    (subst (λ (rack : Racked). IsKept (wire_at (bench_at rack c.args.place).kept.wires c.args.wire)) (sym e) c.requires.kept))
+    (subst (λ (rack : Racked). c.args.wire < length (bench_at rack c.args.place).kept.wires) (sym e) c.requires.wire))
     refl
     (subst (λ (benches : List Seen). IsWhole (racked benches c.self.inside.links) c.self.inside.spare c.self.inside.spare_links) (sym c.deref_mut.ensures.value) c.self.invariant))
 

@@ -1,4 +1,5 @@
 use Rattle.std.proofs.Common.{◌<◌, sym, subst, length}
+use Rattle.std.specs.Prelude.{IfSome}
 use Rattle.std.specs.Option.{ForSome}
 use Rattle.client_benches.specs.Seen.{Seen}
 use Rattle.client_benches.proofs.InsideLemmas.{room-carried, sound-carried}
@@ -14,5 +15,6 @@ invariant_of-self g c =
           holds.0,
       holds.1,
       rw c.push_reserved.ensures.items (sound-carried c.deref_mut.result.now.bench c.deref_mut.result.now.turn c.deref_mut.result.now.routes.items _
-          (subst (λ (seen : Seen). ForSome seen.kept.turn (λ turn. c.args.output < turn.ports.outputs)) (sym seen) c.requires.output) holds.2),
+          (subst (λ (seen : Seen). IfSome c.args.output (λ output. ForSome seen.kept.turn (λ turn. output < turn.ports.outputs))) (sym seen) c.requires.output) holds.2),
+      holds.3,
     )

@@ -14,4 +14,5 @@ invariant_of-self g c =
           (subst (λ (seen : Seen). IsGuest seen.kept.standing.kind) (sym seen) c.requires.kind)
           (ap (λ (seen : Seen). seen.kept.standing.score) seen ∙ c.requires.none)
           c.lend.ensures.memory holds.2,
+      holds.3,
     )

@@ -10,7 +10,7 @@ use Rattle.client_benches.specs.Routes.{carried_by}
 use Rattle.client_benches.specs.Seen.{Remembered, Seen, kept_after, kept_gives, own_scores, room_at}
 use Rattle.client_benches.specs.Wires.{inputs_of}
 use Rattle.client_benches.proofs.SliceLemmas.{front}
-use Rattle.client_benches.proofs.InsideLemmas.{room-stays, shape-played, sound-played}
+use Rattle.client_benches.proofs.InsideLemmas.{reached-filled, room-stays, shape-played, sound-played}
 use Rattle.client_benches.proofs.KeptLemmas.{kept-played, gives-carried}
 use Rattle.client_benches.proofs.benches.ClientBench.play_turn.Goals as goal
 
@@ -26,6 +26,7 @@ invariant_of-self g c =
           holds.0,
       shape-played c.deref_mut-parts.result.now.bench c.play_front.new.bench _ c.args.turn c.play_front.ensures.bench (holds.2.task c.args.turn busy),
       sound-played c.deref_mut-parts.result.now.bench c.play_front.new.bench c.deref_mut-parts.result.now.turn c.args.turn c.deref_mut-parts.result.now.routes.items _ busy c.play_front.ensures.bench holds.2,
+      rw rooms_is (reached-filled c.deref_mut-parts.result.now.reached c.args.turn.links c.deref_mut-4.result.now c.fill_rooms.new.rooms _ c.fill_rooms.ensures.filled (rw c.deref_mut-4.ensures.value holds.3)),
     )
   where
     busy : c.deref_mut-parts.result.now.turn ≡ Some c.args.turn
@@ -42,6 +43,9 @@ invariant_of-self g c =
 
     rooms : length c.fill_rooms.new.rooms ≡ length c.deref_mut-parts.result.now.rooms.items
     rooms = c.fill_rooms.auto.rooms ∙ ap length c.deref_mut-4.ensures.value
+
+    rooms_is : take c.deref_mut-parts.result.now.rooms.len (c.fill_rooms.new.rooms ++ drop (length c.fill_rooms.new.rooms) c.deref_mut-parts.result.now.rooms.items) ≡ c.fill_rooms.new.rooms
+    rooms_is = front c.deref_mut-parts.result.now.rooms.len c.fill_rooms.new.rooms (drop (length c.fill_rooms.new.rooms) c.deref_mut-parts.result.now.rooms.items) (rooms ∙ sym c.deref_mut-parts.result.now.rooms.ok.0)
 
 pub returns-clause-kept : goal.returns-clause-kept
 returns-clause-kept g c =

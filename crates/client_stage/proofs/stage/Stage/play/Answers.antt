@@ -203,10 +203,10 @@ returns-clause-stands g c = subst (λ p. StandsOn (staged_by {G = g.row.G.Denot}
     stands = stands-behind c.self.inside.parts c.turn_to.new.parts c.set_period.new.parts c.self.inside.ensemble.nodes c.args.period (plan_in c.self.inside.plan.items) c.args.plan.now c.args.moment.now by c.set_period.ensures.rest casts c.if-not-self.false c.args.capture.now.channels was.0 c.perform.new.rack was.1 was.2 known c.perform.ensures.rooms c.perform.ensures.links c.perform.ensures.others
 
 pub returns-clause-plays : goal.returns-clause-plays
-returns-clause-plays g c course at was_staffed now_staffed settled scores edges as_many old_kinds =
+returns-clause-plays g c course at was_staffed now_staffed settled scores no_events as_many old_kinds =
     subst (λ (s : OnStage). s.staged.is_staffed ≡ true → IsSettledOn s.staged s.plan c.args.plan.now c.args.moment.now c.args.period c.args.capture.now.channels at → course.scores ≡ s.staged.owned.scores → PlaysPlan course s.staged c.args.plan.now at (staged_by {G = g.row.G.Denot} record { rack = c.perform.new.rack; owners = c.set_period.new.parts.owners; wiring = c.set_period.new.parts.wiring; earlier = c.set_period.new.parts.earlier; last = c.set_period.new.parts.last; room = c.set_period.new.parts.room; period = c.set_period.new.parts.period; number = c.number-number.result; is_staffed = c.set_period.new.parts.is_staffed } c.perform.new.ensemble.nodes (plan_in c.note-self-inside.result.items).nodes)) c.self.view_is
     (λ staffed settled scores. c.a_stage_plays_its_plan.ensures course (staged_by {G = g.row.G.Denot} c.self.inside.parts c.self.inside.ensemble.nodes (plan_in c.self.inside.plan.items).nodes) (plan_in c.self.inside.plan.items) c.args.plan.now c.args.moment.now c.args.period c.args.capture.now.channels at (staged_by {G = g.row.G.Denot} c.turn_to.new.parts c.self.inside.ensemble.nodes c.args.plan.now.nodes) c.set_period.new.parts.last.items was.0 c.self.inside.ensemble.nodes c.perform.new.rack (staged_by {G = g.row.G.Denot} record { rack = c.perform.new.rack; owners = c.set_period.new.parts.owners; wiring = c.set_period.new.parts.wiring; earlier = c.set_period.new.parts.earlier; last = c.set_period.new.parts.last; room = c.set_period.new.parts.room; period = c.set_period.new.parts.period; number = c.number-number.result; is_staffed = c.set_period.new.parts.is_staffed } c.perform.new.ensemble.nodes (plan_in c.note-self-inside.result.items).nodes)
-    c.self.invariant.stands.stands.seating c.self.invariant.stands.stands.wiring (c.self.invariant.stands.staffed staffed) goes settled scores edges as_many no_past old_kinds the places was.1 was.2 refl (ap (λ p. p.owners) c.set_period.ensures.rest))
+    c.self.invariant.stands.stands.seating c.self.invariant.stands.stands.wiring (c.self.invariant.stands.staffed staffed) goes settled scores no_events as_many no_past old_kinds the places was.1 was.2 refl (ap (λ p. p.owners) c.set_period.ensures.rest))
     was_staffed settled scores
   where
     goes : GoesOn (plan_in c.self.inside.plan.items) c.args.plan.now
