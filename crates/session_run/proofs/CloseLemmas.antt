@@ -60,17 +60,19 @@ failed-closing capacity ring ring_after recording given closed tape after back w
 pub closed-one : (capacity : ℕ) (ring ring_after : Sending) (recording given closed : Recording) (tape after : Tape) (back : Stored) → recording.tape ≡ Some tape → GivesUp capacity (reel_of ring recording tape) (reel_of ring_after given after)
     → closed ≡ record given { tape = None; store = Some back } → back.name ≡ after.name → is_some back.bytes ≡ is_some after.bytes → after.faults ≤ back.faults → IsFinished after back.bytes → Closed capacity ring recording ring_after closed
 closed-one capacity ring ring_after recording given closed tape after back was gives is name tells faults finished = record {
-  tape = tape;
-  back = back;
-  was = was;
-  none = ap (λ (r : Recording). r.tape) is;
-  store = ap (λ (r : Recording). r.store) is;
-  later = later-back capacity (reel_of ring recording tape) (reel_of ring_after given after) back gives name tells faults;
-  ends = record {
-    tape = after;
-    empties = subst (λ (r : Recording). GivesUp capacity (reel_of ring recording tape) (reel_of ring_after r after)) (sym is) gives;
-    finished = finished;
+  finishes = record {
+    tape = tape;
+    was = was;
+    none = ap (λ (r : Recording). r.tape) is;
+    back = back;
+    store = ap (λ (r : Recording). r.store) is;
+    ends = record {
+      tape = after;
+      empties = subst (λ (r : Recording). GivesUp capacity (reel_of ring recording tape) (reel_of ring_after r after)) (sym is) gives;
+      finished = finished;
+    };
   };
+  later = later-back capacity (reel_of ring recording tape) (reel_of ring_after given after) back gives name tells faults;
 }
 
 -- what `give_up` says where it is Ok, and what `close` says

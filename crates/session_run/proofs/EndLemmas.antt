@@ -6,6 +6,7 @@
 --     has-ended      where that leaves the session
 --     stores-closed, stores-tried      its stores are later
 --     rose-tried, rose-playback      and one of them counts more faults
+--     stops-recorder, stops-playback      what came before the file that failed was finished, and what came behind it was left
 --     ClosingFailed, closing-failed      a session of which a recorder failed, from the clauses of its calls
 --     PlaybackEnded, playback-ended      or of which the playback was finished, or failed
 use Rattle.std.proofs.Common.{◌≡◌, ℕ, zero, suc, ◌<◌, ◌≤◌, ◌⊎◌, inl, inr, false, List, [], ◌∷◌, length, map, filter_map, slice_get, Option, Some, None, Result, refl, sym, ◌∙◌, ap, ap₂, subst, arith}
@@ -27,6 +28,7 @@ use Rattle.run_laws.proofs.PlaceLemmas.{mapped_there, some_at}
 use Rattle.serial_laws.specs.Endings.{EndFails, EndTried, EndsAll, EndsOne, Finished, IsBroken, IsFinished, Left}
 use Rattle.serial_laws.specs.Steps.{IsReel, IsSound}
 use Rattle.session_run.specs.Closings.{CloseFails, Closed, ClosesAll, Failed, PlaybackCloses, Tried}
+use Rattle.session_run.specs.Endings.{StopsInOrder}
 use Rattle.session_run.specs.Giving.{reel_of}
 use Rattle.session_run.specs.Parts.{AreLater, IsLater, OneRose, Parts, bytes_of, session_of, stores_in, told_of}
 use Rattle.session_run.specs.Standings.{HasEnded, HasOpenFiles, HasRun}
@@ -74,9 +76,9 @@ whole-reel : (capacity recorder : ℕ) (parts : Parts) (reel : Reel) (ring : Sen
     → Closed capacity reel.ring (recording-of parts recorder reel files is).0 ring new → EndsOne capacity reel ring new.getting new.blocks (bytes_of new.store)
 whole-reel capacity recorder parts reel ring new files is closed =
     let old = recording-of parts recorder reel files is in
-    let tape : closed.tape ≡ reel.tape = same_Some closed.tape reel.tape (sym closed.was ∙ old.2) in
+    let tape : closed.finishes.tape ≡ reel.tape = same_Some closed.finishes.tape reel.tape (sym closed.finishes.was ∙ old.2) in
     subst (λ (r : Reel). EndsOne capacity r ring new.getting new.blocks (bytes_of new.store)) (ap (reel_of reel.ring old.0) tape ∙ old.3)
-    (subst (λ (bytes : Option (List ℕ)). EndsOne capacity (reel_of reel.ring old.0 closed.tape) ring new.getting new.blocks bytes) (sym (ap bytes_of closed.store)) closed.ends)
+    (subst (λ (bytes : Option (List ℕ)). EndsOne capacity (reel_of reel.ring old.0 closed.finishes.tape) ring new.getting new.blocks bytes) (sym (ap bytes_of closed.finishes.store)) closed.finishes.ends)
 
 pub ends-all : (parts after : Parts) (tape : Tape) (back : Stored) → IsSound (session_of parts) → HasOpenFiles parts → ClosesAll parts after → after.gear ≡ geared parts.gear after.gear.rings.rings None → after.desk ≡ parts.desk
     → parts.gear.playback ≡ Some tape → after.playback ≡ Some back → IsFinished tape back.bytes → EndsAll (session_of parts) (session_of after)
@@ -93,7 +95,7 @@ ends-all parts after tape back sound files closes gear desk attached kept finish
 }
   where
     none : filter_map (λ (r : Recording). r.tape) after.recorders ≡ []
-    none = picked-none (λ (r : Recording). r.tape) after.recorders (λ i r is. (closed-at parts after sound closes i r is).1.none)
+    none = picked-none (λ (r : Recording). r.tape) after.recorders (λ i r is. (closed-at parts after sound closes i r is).1.finishes.none)
 
     each : (recorder : ℕ) (reel : Reel) (ring : Sending) (getting : Getting) (blocks : ℕ) (bytes : Option (List ℕ)) → IsReel (session_of parts) recorder reel
         → slice_get after.gear.rings.rings recorder ≡ Some ring → slice_get (map (λ (r : Recording). r.getting) after.recorders) recorder ≡ Some getting → slice_get (map (λ (r : Recording). r.blocks) after.recorders) recorder ≡ Some blocks
@@ -116,7 +118,7 @@ told-each (r ∷ others) none = ap₂ (λ (b : Option (List ℕ)) (bs : List (Op
 pub told-closed : (parts after : Parts) → IsSound (session_of parts) → ClosesAll parts after → after.gear.playback ≡ None → told_of after ≡ session_of after
 told-closed parts after sound closes none =
     ap₂ (λ (playback : Option (List ℕ)) (files : List (Option (List ℕ))). record (session_of after) { playback_file = playback; record_files = files })
-    (ap (λ (t : Option Tape). bytes_of (held_or after.playback t)) none) (told-each after.recorders (λ i r is. (closed-at parts after sound closes i r is).1.none))
+    (ap (λ (t : Option Tape). bytes_of (held_or after.playback t)) none) (told-each after.recorders (λ i r is. (closed-at parts after sound closes i r is).1.finishes.none))
 
 pub has-ended : (parts after : Parts) → IsServed parts.gear.script → parts.gear.failed ≡ false → after.gear.script ≡ parts.gear.script → after.gear.failed ≡ parts.gear.failed → RanPhases (session_of after) (length (phases parts.gear.script)) → HasEnded after
 has-ended parts after served sound script failed ran = record {
@@ -133,11 +135,11 @@ left-broken tape samples has = unfinished-front tape.format samples tape.bytes (
 
 closed-tried : (capacity : ℕ) (ring ring_after : Sending) (old new : Recording) (reel : Reel) → old.tape ≡ Some reel.tape → reel_of ring old reel.tape ≡ reel → Closed capacity ring old ring_after new → EndTried capacity reel (bytes_of (held_in new))
 closed-tried capacity ring ring_after old new reel was is closed =
-    let tape : closed.tape ≡ reel.tape = same_Some closed.tape reel.tape (sym closed.was ∙ was) in
-    let held : held_in new ≡ Some closed.back = ap₂ held_or closed.store closed.none in
+    let tape : closed.finishes.tape ≡ reel.tape = same_Some closed.finishes.tape reel.tape (sym closed.finishes.was ∙ was) in
+    let held : held_in new ≡ Some closed.finishes.back = ap₂ held_or closed.finishes.store closed.finishes.none in
     subst (λ (r : Reel). EndTried capacity r (bytes_of (held_in new))) (ap (reel_of ring old) tape ∙ is)
-    (subst (λ (h : Option Stored). EndTried capacity (reel_of ring old closed.tape) (bytes_of h)) (sym held)
-    (Finished (record { ring = ring_after; getting = new.getting; tape = closed.ends.tape; blocks = new.blocks }) closed.ends.empties closed.ends.finished))
+    (subst (λ (h : Option Stored). EndTried capacity (reel_of ring old closed.finishes.tape) (bytes_of h)) (sym held)
+    (Finished (record { ring = ring_after; getting = new.getting; tape = closed.finishes.ends.tape; blocks = new.blocks }) closed.finishes.ends.empties closed.finishes.ends.finished))
 
 failed-tried : (capacity : ℕ) (ring : Sending) (old new : Recording) (reel : Reel) → old.tape ≡ Some reel.tape → reel_of ring old reel.tape ≡ reel → Failed capacity ring old new → EndTried capacity reel (bytes_of (held_in new))
 failed-tried capacity ring old new reel was is failed =
@@ -196,7 +198,7 @@ held-back old new tape back was held later =
     subst (λ (t : Option Tape). HeldLater (held_or old.store t) (held_in new)) (sym was) (subst (λ (h : Option Stored). HeldLater (Some (stored_of tape)) h) (sym held) later)
 
 held-closed : (capacity : ℕ) (ring ring_after : Sending) (old new : Recording) → Closed capacity ring old ring_after new → HeldLater (held_in old) (held_in new)
-held-closed capacity ring ring_after old new closed = held-back old new closed.tape closed.back closed.was (ap₂ held_or closed.store closed.none) closed.later
+held-closed capacity ring ring_after old new closed = held-back old new closed.finishes.tape closed.finishes.back closed.finishes.was (ap₂ held_or closed.finishes.store closed.finishes.none) closed.later
 
 held-tried : (capacity place recorder : ℕ) (ring ring_after : Sending) (old new : Recording) → Tried capacity place recorder ring old ring_after new → HeldLater (held_in old) (held_in new)
 held-tried capacity place recorder ring ring_after old new tried = go (cases_lt recorder place) (cases_lt place recorder)
@@ -252,6 +254,40 @@ rose-tried parts after sound fails gear kept =
         rose failed =
             parts-rose parts after fails.place p.old new (stored_of failed.tape) failed.back (playback-left parts after gear kept) (recorders-tried parts after sound fails) p.was is
             (ap (held_or p.old.store) failed.was) failed.held failed.rose
+
+-- ---- in order
+
+pub stops-recorder : (parts after : Parts) → IsSound (session_of parts) → CloseFails parts after → after.gear.playback ≡ parts.gear.playback → after.playback ≡ parts.playback → StopsInOrder parts after
+stops-recorder parts after sound fails gear kept = record {
+  place = fails.place;
+  within = omega (arith, fails.there);
+  as_many = fails.as_many;
+  rings = fails.rings;
+  finished = λ i ring recording ring_after recording_after low a b c d. ((fails.each i ring recording ring_after recording_after a b c d).before low).finishes;
+  left = λ i recording recording_after high was is.
+      let p = placed parts after sound fails.as_many fails.rings i recording_after is in
+      (fails.each i p.ring recording p.ring_after recording_after p.ring_there was p.ring_after_there is).behind high;
+  making = λ low. gear;
+  playback = λ low. kept;
+}
+
+pub stops-playback : (parts after : Parts) → ClosesAll parts after → StopsInOrder parts after
+stops-playback parts after closes = record {
+  place = length parts.recorders;
+  within = omega arith;
+  as_many = closes.as_many;
+  rings = closes.rings;
+  finished = λ i ring recording ring_after recording_after low a b c d. (closes.each i ring recording ring_after recording_after a b c d).finishes;
+  left = λ i recording recording_after high was is. absurd (outside i high (slice_get_within parts.recorders i recording was));
+  making = λ low. absurd (never low);
+  playback = λ low. absurd (never low);
+}
+  where
+    outside : (i : ℕ) → length parts.recorders < i → i < length parts.recorders → ⊥
+    outside i high low = omega (arith, high, low)
+
+    never : length parts.recorders < length parts.recorders → ⊥
+    never low = omega (arith, low)
 
 -- ---- from the clauses of its calls
 

@@ -2,9 +2,9 @@
 --     title, calls_text, cycles_text, meters_text, recorders_text, last      what is put one after the other
 --     text-put      what is put behind the first line
 --     calls-put, cycles-put, meters-put, recorders-put      what is put of the desk's and the driver's lists and of the recorders is what the report says
---     cause-later      what failed behind earlier calls has its cause behind them
-use Rattle.std.proofs.Common.{◌≡◌, ℕ, List, [], ◌∷◌, ◌++◌, ◌<◌, ◌≤◌, codes, length, map, flat_map, All, subst, sym, ◌∙◌, ap, ap₂, append_assoc, append-nil, Option, refl, arith}
-use Rattle.std.specs.Prelude.{Result, Ok, Err}
+--     cause-later, cause-cut      what failed behind earlier calls has its cause behind them
+use Rattle.std.proofs.Common.{◌≡◌, ℕ, List, [], ◌∷◌, ◌++◌, ◌<◌, ◌≤◌, codes, length, map, flat_map, All, subst, sym, ◌∙◌, ap, ap₂, append_assoc, append-nil, Option, refl, arith, true≢false}
+use Rattle.std.specs.Prelude.{Result, Ok, Err, IsErr}
 use Rattle.std.proofs.lemmas.List.{length-map}
 use Rattle.std.proofs.lemmas.List.Concat.{flat_map-append}
 use Rattle.jack_host.specs.Bytes.{Gains, Puts}
@@ -119,3 +119,10 @@ recorders-put works recorders overruns one own_recorders own_overruns =
 pub cause-later : {T E : Type 0} (r : Result T E) (a b c : ℕ) → a ≤ b → HasCause b c r → HasCause a c r
 cause-later (Ok v) a b c le cause = record { later = omega (arith, le, cause.later); failed = tt }
 cause-later (Err e) a b c le cause = record { later = omega (arith, le, cause.later); failed = omega (arith, le, cause.failed) }
+
+-- what failed is handed on
+pub cause-cut : {T E U F : Type 0} (r : Result T E) (handed : Result U F) (a b c : ℕ) (e : E) → a ≤ b → HasCause b c r → r ≡ Err e → IsErr handed → HasCause a c handed
+cause-cut {T} {E} r (Err f) a b c e le cause was is =
+    let failed : HasCause {T = T} {E = E} b c (Err e) = subst (HasCause b c) was cause in
+    record { later = omega (arith, le, failed.later); failed = omega (arith, le, failed.failed) }
+cause-cut r (Ok v) a b c e le cause was is = absurd (true≢false (sym is))

@@ -4,23 +4,19 @@
 --     ClosesAll parts after      all were closed
 --     CloseFails parts after      the first that failed ended it
 --     PlaybackCloses finished tape back      the playback was finished, or failed
-use Rattle.std.specs.Prelude.{◌≡◌, ℕ, ◌<◌, length, slice_get, None, Some, OnErr, OnOk, Result}
+use Rattle.std.specs.Prelude.{◌≡◌, ℕ, ◌<◌, length, slice_get, Some, OnErr, OnOk, Result}
 use Rattle.jack_host.specs.Causes.{Rose}
 use Rattle.record_ring.specs.Rings.{Sending}
 use Rattle.wave_write.specs.Tapes.{Tape}
 use Rattle.recorder_files.specs.Recorders.{Recording, Stored, held_in, stored_of}
-use Rattle.serial_laws.specs.Endings.{EndTried, EndsOne, IsBroken, IsFinished}
+use Rattle.serial_laws.specs.Endings.{EndTried, IsBroken, IsFinished}
+use Rattle.session_run.specs.Endings.{FinishesOne}
 use Rattle.session_run.specs.Giving.{reel_of}
 use Rattle.session_run.specs.Parts.{IsLater, Parts}
 
 pub record Closed (capacity : ℕ) (ring : Sending) (recording : Recording) (ring_after : Sending) (after : Recording) : Type 0 where
-  pub tape : Tape
-  pub back : Stored
-  pub was : recording.tape ≡ Some tape
-  pub none : after.tape ≡ None
-  pub store : after.store ≡ Some back
-  pub later : IsLater (stored_of tape) back
-  pub ends : EndsOne capacity (reel_of ring recording tape) ring_after after.getting after.blocks back.bytes
+  pub finishes : FinishesOne capacity ring recording ring_after after
+  pub later : IsLater (stored_of finishes.tape) finishes.back
 
 -- at a block, or where it was finished
 pub record Failed (capacity : ℕ) (ring : Sending) (recording after : Recording) : Type 0 where

@@ -3,6 +3,7 @@ pub mod Standings
 pub mod Attaching
 pub mod Insides
 pub mod Giving
+pub mod Endings
 pub mod Closings
 pub mod Turnings
 pub mod Takings

@@ -20,6 +20,7 @@ impl<S: Source, W: Store, G: Guest> Session<S, W, G> {
     ghost use Rattle.run_laws.specs.SerialRuns.{SerialKept};
     ghost use Rattle.run_laws.specs.Told.{Ends, text_in};
     ghost use Rattle.serial_laws.specs.Faults.{StandsInSerial};
+    ghost use Rattle.session_run.specs.Endings.{StopsInOrder};
     ghost use Rattle.session_run.specs.Parts.{AreLater, OneRose, session_of, stores_in, told_of};
     ghost use Rattle.session_run.specs.Standings.{HasEnded, HasRun};
     ghost use Rattle.session_run.specs.declared.faults.SessionFault.TheVariants.{Write};
@@ -35,6 +36,7 @@ impl<S: Source, W: Store, G: Guest> Session<S, W, G> {
         ensures stores { AreLater (stores_in self.old) (stores_in self.new) }
         ensures write { OnErr result (result ≡ Err Write) }
         ensures cause { OnErr result (OneRose (stores_in self.old) (stores_in self.new)) }
+        ensures order { OnErr result (StopsInOrder self.old self.new) }
         ensures recorders { length self.new.recorders ≡ length self.old.recorders }
         ensures desk { self.new.desk ≡ self.old.desk }
         ensures capture { self.new.gear.capture ≡ self.old.gear.capture }

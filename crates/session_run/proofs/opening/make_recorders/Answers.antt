@@ -6,7 +6,7 @@ use Rattle.jack_types.specs.declared.files.Format.{Format}
 use Rattle.jack_types.specs.declared.scripts.Header.{Header}
 use Rattle.record_ring.specs.Rings.{Getting}
 use Rattle.recorder_files.specs.Recorders.{Recording}
-use Rattle.session_run.proofs.PairLemmas.{AreMade, bare-made, end-is, end-next, few-channels, made-more, over-end}
+use Rattle.session_run.proofs.PairLemmas.{AreMade, bare-made, end-is, end-next, few-channels, made-more, made-none, over-end}
 use Rattle.session_run.proofs.opening.make_recorders.Goals as goal
 
 pub unreachable-requires : goal.unreachable-requires
@@ -34,6 +34,9 @@ new-requires g c =
     ap (λ (got : Getting). got.samples) end.getting_is
     ∙ ap (λ n. n * (get_or c.args.script.now.header.recorders c.loop-recorder.recorder no_format).channels) (sym c.greatest_period-period.ensures.greatest)
     ∙ ap (λ n. c.greatest_period-period.result * n) (sym channels)
+
+pub loop-recorder-init : goal.loop-recorder-init
+loop-recorder-init g c = subst (λ (made : List Recording). AreMade c.args.script.now.header.recorders c.args.driver.now c.args.driver.now 0 made) (sym c.new-made.ensures.items) (made-none c.args.script.now.header.recorders c.args.driver.now)
 
 pub loop-recorder-preserved : goal.loop-recorder-preserved
 loop-recorder-preserved g c =

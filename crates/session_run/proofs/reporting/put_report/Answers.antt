@@ -3,7 +3,7 @@ use Rattle.session_model.specs.Reports.{Report}
 use Rattle.report_lines.proofs.PutLemmas.{first_cut, first_last}
 use Rattle.run_laws.specs.Told.{report_in}
 use Rattle.session_run.specs.Insides.{seen}
-use Rattle.session_run.proofs.ReportLemmas.{behind_calls, behind_cycles, behind_meters, calls-put, calls_text, cause-later, cycles-put, cycles_text, last, meters-put, meters_text, recorders-put, recorders_text, text-put, title}
+use Rattle.session_run.proofs.ReportLemmas.{behind_calls, behind_cycles, behind_meters, calls-put, calls_text, cause-cut, cause-later, cycles-put, cycles_text, last, meters-put, meters_text, recorders-put, recorders_text, text-put, title}
 use Rattle.session_run.proofs.reporting.put_report.Goals as goal
 
 pub returns-in_err-put_title-clause-puts : goal.returns-in_err-put_title-clause-puts
@@ -38,6 +38,10 @@ returns-in_err-put_recorders-clause-puts g c =
     (first_last c.from_residual-in_err-put_recorders.result _ _ _ _ (cycles_text report) (behind_cycles report) (cycles-put c.args.works.now c.numbers.result.now c.moments.result.now c.numbers.ensures c.moments.ensures.value (c.moments.ensures.count c.requires.sound)) c.in_ok-put_cycles.ensures.puts
     (first_last c.from_residual-in_err-put_recorders.result _ _ _ _ (meters_text report) (behind_meters report) (meters-put c.args.works.now c.history-history.result.now c.history-history.ensures.value) c.in_ok-put_meters.ensures.puts
     (first_cut c.put_recorders.result c.from_residual-in_err-put_recorders.result _ _ _ (recorders_text report) last (recorders-put c.args.works.now c.as_slice.result.now c.overruns.result.now c.requires.one c.as_slice.ensures.value c.overruns.ensures) c.put_recorders.ensures.puts _ c.in_err-put_recorders.was c.from_residual-in_err-put_recorders.ensures.0))))
+
+pub returns-in_err-put_recorders-clause-cause : goal.returns-in_err-put_recorders-clause-cause
+returns-in_err-put_recorders-clause-cause g c =
+    cause-cut c.put_recorders.result c.from_residual-in_err-put_recorders.result _ _ _ _ (omega (arith, c.put_title.ensures.cause.later, c.put_calls.ensures.cause.later, c.put_cycles.ensures.cause.later, c.put_meters.ensures.cause.later)) c.put_recorders.ensures.cause c.in_err-put_recorders.was c.from_residual-in_err-put_recorders.ensures.0
 
 pub returns-clause-puts : goal.returns-clause-puts
 returns-clause-puts g c =

@@ -7,7 +7,7 @@ use Rattle.serial_laws.specs.Endings.{EndsAll, IsBroken, IsFinished}
 use Rattle.session_run.specs.Closings.{CloseFails, ClosesAll}
 use Rattle.session_run.specs.Insides.{parts_of}
 use Rattle.session_run.specs.Parts.{Parts, session_of, told_of}
-use Rattle.session_run.proofs.EndLemmas.{ClosingFailed, PlaybackEnded, closing-failed, closing-fails, ends-all, has-ended, playback-ended, playback-fails, rose-playback, rose-tried, stores-closed, stores-tried, told-closed}
+use Rattle.session_run.proofs.EndLemmas.{ClosingFailed, PlaybackEnded, closing-failed, closing-fails, ends-all, has-ended, playback-ended, playback-fails, rose-playback, rose-tried, stops-playback, stops-recorder, stores-closed, stores-tried, told-closed}
 use Rattle.session_run.proofs.ToldLemmas.{err-held, ok-held}
 use Rattle.session_run.proofs.session.Session.end.Goals as goal
 
@@ -39,6 +39,17 @@ returns-then-is_err-clause-stores g c = stores-tried c.args.self.now after c.req
 
 pub returns-then-is_err-clause-cause : goal.returns-then-is_err-clause-cause
 returns-then-is_err-clause-cause g c = rose-tried c.args.self.now after c.requires.sound failed.fails (ap (λ (g : Gear). g.playback) failed.gear) failed.kept
+  where
+    after : Parts
+    after = record (parts_of {S = g.row.S.Denot} {W = g.row.W.Denot} {G = g.row.G.Denot} c.close_recorders.new.works) { playback = option_map {T = g.row.W.Denot} {U = Stored} (λ w. record { name = g.W.Store.name w; bytes = g.W.Store.content w; faults = g.W.Store.faults w }) c.self.inside.playback; attached = c.self.inside.attached }
+
+    failed : ClosingFailed c.args.self.now after
+    failed = closing-failed c.args.self.now (parts_of {S = g.row.S.Denot} {W = g.row.W.Denot} {G = g.row.G.Denot} c.self.inside.works) (parts_of {S = g.row.S.Denot} {W = g.row.W.Denot} {G = g.row.G.Denot} c.close_recorders.new.works) (option_map {T = g.row.W.Denot} {U = Stored} (λ w. record { name = g.W.Store.name w; bytes = g.W.Store.content w; faults = g.W.Store.faults w }) c.self.inside.playback) c.self.inside.attached
+        (ap (λ (p : Parts). p.gear) c.self.view_is) (ap (λ (p : Parts). p.recorders) c.self.view_is) (ap (λ (p : Parts). p.desk) c.self.view_is) (ap (λ (p : Parts). p.playback) c.self.view_is)
+        (err-held c.close_recorders.result (CloseFails (parts_of {S = g.row.S.Denot} {W = g.row.W.Denot} {G = g.row.G.Denot} c.self.inside.works) (parts_of {S = g.row.S.Denot} {W = g.row.W.Denot} {G = g.row.G.Denot} c.close_recorders.new.works)) c.if-is_err.ensures.value c.close_recorders.ensures.failed) c.close_recorders.ensures.driver c.close_recorders.ensures.desk
+
+pub returns-then-is_err-clause-order : goal.returns-then-is_err-clause-order
+returns-then-is_err-clause-order g c = stops-recorder c.args.self.now after c.requires.sound failed.fails (ap (λ (g : Gear). g.playback) failed.gear) failed.kept
   where
     after : Parts
     after = record (parts_of {S = g.row.S.Denot} {W = g.row.W.Denot} {G = g.row.G.Denot} c.close_recorders.new.works) { playback = option_map {T = g.row.W.Denot} {U = Stored} (λ w. record { name = g.W.Store.name w; bytes = g.W.Store.content w; faults = g.W.Store.faults w }) c.self.inside.playback; attached = c.self.inside.attached }
@@ -80,6 +91,17 @@ pub returns-then-is_err-2-clause-cause : goal.returns-then-is_err-2-clause-cause
 returns-then-is_err-2-clause-cause g c =
     rose-playback c.args.self.now after ended.tape ended.back c.requires.sound ended.closes ended.attached (ap (λ (g : Gear). g.playback) ended.gear) ended.kept ended.ends.later
     (err-held c.close_playback.result (Rose ended.tape.faults ended.back.faults) c.if-is_err-2.ensures.value ended.ends.rose)
+  where
+    after : Parts
+    after = record (parts_of {S = g.row.S.Denot} {W = g.row.W.Denot} {G = g.row.G.Denot} c.close_recorders.new.works) { gear = c.close_playback.new.driver; playback = option_map {T = g.row.W.Denot} {U = Stored} (λ w. record { name = g.W.Store.name w; bytes = g.W.Store.content w; faults = g.W.Store.faults w }) c.close_playback.new.playback; attached = c.self.inside.attached }
+
+    ended : PlaybackEnded c.close_playback.result c.args.self.now after
+    ended = playback-ended c.close_playback.result c.args.self.now (parts_of {S = g.row.S.Denot} {W = g.row.W.Denot} {G = g.row.G.Denot} c.self.inside.works) (parts_of {S = g.row.S.Denot} {W = g.row.W.Denot} {G = g.row.G.Denot} c.close_recorders.new.works) c.close_playback.new.driver (option_map {T = g.row.W.Denot} {U = Stored} (λ w. record { name = g.W.Store.name w; bytes = g.W.Store.content w; faults = g.W.Store.faults w }) c.close_playback.new.playback) c.self.inside.attached c.requires
+        (ap (λ (p : Parts). p.gear) c.self.view_is) (ap (λ (p : Parts). p.recorders) c.self.view_is) (ap (λ (p : Parts). p.desk) c.self.view_is)
+        (ok-held c.close_recorders.result (ClosesAll (parts_of {S = g.row.S.Denot} {W = g.row.W.Denot} {G = g.row.G.Denot} c.self.inside.works) (parts_of {S = g.row.S.Denot} {W = g.row.W.Denot} {G = g.row.G.Denot} c.close_recorders.new.works)) c.if-is_err.ensures.value c.close_recorders.ensures.closed) c.close_recorders.ensures.driver c.close_recorders.ensures.desk c.close_playback.ensures.driver c.close_playback.ensures.back
+
+pub returns-then-is_err-2-clause-order : goal.returns-then-is_err-2-clause-order
+returns-then-is_err-2-clause-order g c = stops-playback c.args.self.now after ended.closes
   where
     after : Parts
     after = record (parts_of {S = g.row.S.Denot} {W = g.row.W.Denot} {G = g.row.G.Denot} c.close_recorders.new.works) { gear = c.close_playback.new.driver; playback = option_map {T = g.row.W.Denot} {U = Stored} (λ w. record { name = g.W.Store.name w; bytes = g.W.Store.content w; faults = g.W.Store.faults w }) c.close_playback.new.playback; attached = c.self.inside.attached }
