@@ -1,8 +1,9 @@
-ghost use Rattle.std.specs.Prelude.{None, ◌≡◌, ◌≤◌, ◌+◌, ◌↔◌, length, IsTrue};
+ghost use Rattle.std.specs.Prelude.{None, IfSome, ◌≡◌, ◌≤◌, ◌+◌, ◌↔◌, length, IsTrue};
 ghost use Rattle.jack_host.specs.declared.real.TheConstants.{GATHERED};
 ghost use Rattle.jack_host.specs.Causes.{HasCause};
 
 use crate::{Failed, Host, Sink, Source, Store};
+use std::alloc::Global;
 use std::fs;
 use std::fs::{File, Files};
 use std::io::{Read, Seek, SeekFrom, Write};
@@ -10,25 +11,25 @@ use std::io::{Read, Seek, SeekFrom, Write};
 /// How many bytes one call of the system moves at most, so that a period of frames costs none.
 const GATHERED: usize = 32_768;
 
-/// A file that is read, some 32 KiB at a time. It tells no bytes.
+/// A file that is read, some 32 KiB at a time. It tells no bytes. Its room is taken when it is opened.
 #[derive(Drop)]
 pub struct FileSource {
     file: File,
-    gathered: [u8; GATHERED],
+    gathered: Vec<u8>,
     at: usize,
     end: usize,
     faults: u64,
     ghost ordered: { at ≤ end },
-    ghost within: { end ≤ GATHERED },
+    ghost within: { end ≤ length gathered.items },
 }
 
 impl FileSource {
-    fn new(file: File) -> FileSource
+    fn new(file: File, gathered: Vec<u8>) -> FileSource
         ensures { result.faults ≡ 0 }
     {
         FileSource {
             file,
-            gathered: [0; GATHERED],
+            gathered,
             at: 0,
             end: 0,
             faults: 0,
@@ -81,17 +82,17 @@ impl Source for FileSource {
 // Bytes that wait for their place in a file.
 #[derive(Drop)]
 struct Gathered {
-    bytes: [u8; GATHERED],
+    bytes: Vec<u8>,
     count: usize,
+    ghost whole: { length bytes.items ≡ GATHERED },
     ghost within: { count ≤ GATHERED },
 }
 
 impl Gathered {
-    fn new() -> Gathered {
-        Gathered {
-            bytes: [0; GATHERED],
-            count: 0,
-        }
+    fn new(bytes: Vec<u8>) -> Gathered
+        requires { length bytes.items ≡ GATHERED }
+    {
+        Gathered { bytes, count: 0 }
     }
 
     // Whether as many bytes more have room.
@@ -134,13 +135,14 @@ pub struct FileStore {
 }
 
 impl FileStore {
-    fn new(file: File) -> FileStore
+    fn new(file: File, room: Vec<u8>) -> FileStore
+        requires { length room.items ≡ GATHERED }
         ensures { result.faults ≡ 0 }
     {
         FileStore {
             file,
             stands: None,
-            gathered: Gathered::new(),
+            gathered: Gathered::new(room),
             place: 0,
             faults: 0,
         }
@@ -254,9 +256,31 @@ impl<W: Write + Drop> Sink for WriterSink<W> {
     }
 }
 
+// A file that is there, with room for its bytes; none where either is wanting.
+fn opened<R: Files<File = File>>(alloc: Global, files: &R, name: &str) -> Option<FileSource>
+    ensures { IfSome result (λ input. input.faults ≡ 0) }
+{
+    let gathered = vec![in alloc; 0; GATHERED].ok()?;
+    let file = fs::open(files, name).ok()?;
+    Some(FileSource::new(file, gathered))
+}
+
+// A new file in place of what was there, with room for its bytes; none where either is wanting. The room is taken
+// first, so that what was there stays where it is wanting.
+fn made<R: Files<File = File>>(alloc: Global, files: &R, name: &str) -> Option<FileStore>
+    ensures { IfSome result (λ output. output.faults ≡ 0) }
+{
+    let room = vec![in alloc; 0; GATHERED].ok()?;
+    let file = fs::create(files, name).ok()?;
+    Some(FileStore::new(file, room))
+}
+
 /// The files of the system, over a runtime. It tells no files.
+///
+/// Where the room for a file's bytes is wanting, the file cannot be opened or made.
 #[derive(Drop)]
 pub struct FileHost<'a, R> {
+    alloc: Global,
     files: &'a R,
     read_faults: u64,
     write_faults: u64,
@@ -265,12 +289,13 @@ pub struct FileHost<'a, R> {
 
 impl<'a, R: Files<File = File>> FileHost<'a, R> {
     /// A host over this runtime, with no object out.
-    pub fn new(files: &'a R) -> FileHost<'a, R>
+    pub fn new(alloc: Global, files: &'a R) -> FileHost<'a, R>
         ensures reads { result.read_faults ≡ 0 }
         ensures writes { result.write_faults ≡ 0 }
         ensures lent { result.lent ≡ 0 }
     {
         FileHost {
+            alloc,
             files,
             read_faults: 0,
             write_faults: 0,
@@ -293,12 +318,12 @@ impl<'a, R: Files<File = File>> Host for FileHost<'a, R> {
     ghost lent = { λ h. h.lent };
 
     fn open_in(&mut self, name: &str) -> Result<FileSource, Failed> {
-        match fs::open(self.files, name) {
-            Ok(file) => {
+        match opened(self.alloc, self.files, name) {
+            Some(input) => {
                 self.lent += 1;
-                Ok(FileSource::new(file))
+                Ok(input)
             }
-            Err(_) => {
+            None => {
                 self.read_faults = self.read_faults.saturating_add(1);
                 Err(Failed)
             }
@@ -311,12 +336,12 @@ impl<'a, R: Files<File = File>> Host for FileHost<'a, R> {
     }
 
     fn make_out(&mut self, name: &str) -> Result<FileStore, Failed> {
-        match fs::create(self.files, name) {
-            Ok(file) => {
+        match made(self.alloc, self.files, name) {
+            Some(output) => {
                 self.lent += 1;
-                Ok(FileStore::new(file))
+                Ok(output)
             }
-            Err(_) => {
+            None => {
                 self.write_faults = self.write_faults.saturating_add(1);
                 Err(Failed)
             }

@@ -81,7 +81,7 @@ fn a_host_in_memory_refuses_as_listed(rt: HostRuntime) -> Result<(), Fail> {
 
 #[test]
 fn real_files_keep_what_was_written(rt: HostRuntime) -> Result<(), Fail> {
-    let mut host = FileHost::new(&rt);
+    let mut host = FileHost::new(rt.alloc(), &rt);
     let mut output = host.make_out("made").map_err(|_| "not made")?;
     assert_eq!(rt; output.write_at(0, b"hallo"), Ok(()));
     assert_eq!(rt; output.write_at(1, b"e"), Ok(()));
@@ -99,7 +99,7 @@ fn real_files_keep_what_was_written(rt: HostRuntime) -> Result<(), Fail> {
 fn a_long_file_is_written_in_order(rt: HostRuntime) -> Result<(), Fail> {
     let alloc = rt.alloc();
     let piece = vec![in alloc; 7u8; 10_000]?;
-    let mut host = FileHost::new(&rt);
+    let mut host = FileHost::new(rt.alloc(), &rt);
     let mut output = host.make_out("long").map_err(|_| "not made")?;
     for k in 0..8 {
         assert_eq!(rt; output.write_at(10_000 * k, &piece), Ok(()));

@@ -57,7 +57,7 @@ fn main(rt: HostRuntime) -> ExitCode {
     let Ok(guests) = hand_in(rt.alloc()) else {
         return ExitCode::from(Status::NoMemory.code());
     };
-    let mut host = FileHost::new(&rt);
+    let mut host = FileHost::new(rt.alloc(), &rt);
     let mut out = WriterSink::new(io::writer(&rt));
     let status = jackd(
         &rt,
