@@ -1,16 +1,17 @@
 -- Sums of parts.
 --     added-is      a list that has each sum with one more sample is the sums with that part
 --     sums_of_none, sums_of_added      the sums of no part, and of one more part
+--     added-first      the sums of one part alone are that part
 --     clamped_sums      a mix is the clamped sums of its parts
 --     AreSumsOf-silence, AreSumsOf-added, small-AreSumsOf      how large sums are
-use Rattle.std.proofs.Common.{◌≡◌, ℕ, zero, suc, ◌+◌, ◌*◌, ◌^◌, ◌<◌, ◌≤◌, List, [], ◌∷◌, ◌++◌, length, map, take, replicate, get_or, ℤ, pos, ◌+ℤ◌, ◌-ℤ◌, ◌≤ℤ◌, refl, sym, ◌∙◌, ap, ap₂, subst, arith}
+use Rattle.std.proofs.Common.{◌≡◌, ℕ, zero, suc, ◌+◌, ◌<◌, ◌≤◌, List, [], ◌∷◌, ◌++◌, length, map, take, get_or, ℤ, pos, ◌+ℤ◌, refl, sym, ◌∙◌, ap, subst, arith}
 use Rattle.std.specs.Int.{w32}
 use Rattle.std.specs.Prelude.{FitsSigned}
 use Rattle.std.proofs.lemmas.Int.{ints}
 use Rattle.std.proofs.lemmas.List.{ext_get_or, length-replicate, length-take-le}
 use Rattle.std.proofs.lemmas.List.Sums.{fold-append}
 use Rattle.session_model.specs.Samples.{below, clamp, mix, sample, silence, total}
-use Rattle.session_laws.proofs.ActivationLemmas.{length-below, length-map_below, get_or-map_below}
+use Rattle.session_laws.proofs.ActivationLemmas.{length-map_below, get_or-map_below}
 use Rattle.session_laws.proofs.PlaceLemmas.{sample-silence}
 use Rattle.samples.specs.Sums.{IsSmall}
 use Rattle.port_mixer.specs.Sums.{AreSumsOf, IsSumOf, added, sums_of}
@@ -68,6 +69,25 @@ sums_of_added frames parts part =
         ∙ sym (total-more (map (λ part. sample part k) parts) (sample part k))
         ∙ ap total (sym (map-more (λ part. sample part k) parts part))
         ∙ sym (get_or-map_below (sum (parts ++ part ∷ [])) frames k (pos 0) h)
+
+pub added-first : (frames : ℕ) (part : List ℤ) → length part ≡ frames → part ≡ added (silence frames) part
+added-first frames part lengths =
+    added-is (silence frames) part part (lengths ∙ sym (length-replicate frames (pos 0)))
+    (λ k. zero-more (sample part k) ∙ ap (λ x. x +ℤ sample part k) (sample-silence frames k))
+  where
+    zero-more : (x : ℤ) → x ≡ pos 0 +ℤ x
+    zero-more x = omega (arith, ints)
+
+pub silence-is : (frames : ℕ) (xs : List ℤ) → length xs ≡ frames → ((k : ℕ) → k < frames → sample xs k ≡ pos 0) → xs ≡ silence frames
+silence-is frames xs lengths each =
+    ext_get_or (pos 0) xs (silence frames) (lengths ∙ sym (length-replicate frames (pos 0))) (λ k h. each k (omega (arith, h, lengths)) ∙ sample-silence frames k)
+
+pub clamped_silence : (frames : ℕ) → silence frames ≡ map clamp (silence frames)
+clamped_silence zero = refl
+clamped_silence (suc n) = ap (λ (xs : List ℤ). pos 0 ∷ xs) (clamped_silence n)
+
+pub IsSumOf-alone : (x : ℤ) → FitsSigned w32 x → IsSumOf 1 x
+IsSumOf-alone x f = record { least = omega (arith, ints); most = omega (arith, ints) }
 
 pub clamped_sums : (frames : ℕ) (parts : List (List ℤ)) → map clamp (sums_of frames parts) ≡ mix frames parts
 clamped_sums frames parts = map_twice clamp (λ i. total (map (λ part. sample part i) parts)) (below frames)

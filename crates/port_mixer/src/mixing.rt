@@ -4,12 +4,13 @@ ghost use Rattle.std.specs.Prelude.{◌≡◌, ℕ, ◌+◌, ◌<◌, ◌≤◌,
 ghost use Rattle.session_model.specs.Samples.{clamp, mix, sample, silence};
 ghost use Rattle.port_mixer.specs.Sums.{AreSamples, AreSumsOf, added, sums_of};
 ghost use Rattle.samples.specs.Sums.{IsSmall};
+ghost use Rattle.port_mixer.specs.Insides.{sums_in};
 
 use jack_types::Memory;
 use std::alloc::Global;
 use std::marker::Model;
 
-/// Sums of parts, one for each frame.
+/// Sums of parts, one for each frame. The first part is set, and not added to zeros.
 ///
 /// Contracts see a `Mix`: the room in frames, the sums, and how many parts are in them.
 #[derive(Drop)]
@@ -31,18 +32,6 @@ impl Model for Mixer {
     ghost invariant = { IsWithin };
 }
 
-/// Makes the first sums 0.
-#[tactic(auto, using(crate::proofs::SumLemmas::sums_of_none))]
-fn silence_first(sums: &mut [i64], frames: usize)
-    requires { frames ≤ length sums.old }
-    ensures silence { take frames sums.new ≡ silence frames }
-    ensures parts { take frames sums.new ≡ sums_of frames [] }
-{
-    for i in 0..frames {
-        sums[i] = 0;
-    }
-}
-
 /// Sees that each sample is a number of 32 bits. Nothing else is done, and nothing is left of it in
 /// the program.
 fn see_samples(part: &[i32])
@@ -53,17 +42,56 @@ fn see_samples(part: &[i32])
     }
 }
 
+/// Makes the first sums those of a part alone.
+fn set_first(sums: &mut [i64], frames: usize, part: &[i32])
+    requires within { frames ≤ length sums.old }
+    requires frames { length part.now ≡ frames }
+    ensures set { take frames sums.new ≡ part.now }
+    ensures bound { AreSumsOf 1 (take frames sums.new) }
+{
+    see_samples(part);
+    samples::set_to(&mut sums[..frames], part);
+}
+
 /// Adds a part to the first sums.
 fn add_to_first(sums: &mut [i64], frames: usize, part: &[i32])
     requires within { frames ≤ length sums.old }
     requires frames { length part.now ≡ frames }
     requires small { (k : ℕ) → IsSmall (sample (take frames sums.old) k) }
     ensures added { take frames sums.new ≡ added (take frames sums.old) part.now }
-    ensures parts { (parts : List (List ℤ)) → take frames sums.old ≡ sums_of frames parts → take frames sums.new ≡ sums_of frames (parts ++ part.now ∷ []) }
     ensures bound { (n : ℕ) → AreSumsOf n (take frames sums.old) → AreSumsOf (n + 1) (take frames sums.new) }
 {
     see_samples(part);
     samples::add_into(&mut sums[..frames], part);
+}
+
+/// Takes a part into the first sums, in which there are so many parts.
+fn take_part(sums: &mut [i64], parts: u32, frames: usize, part: &[i32])
+    requires within { frames ≤ length sums.old }
+    requires frames { length part.now ≡ frames }
+    requires few { parts < 512 }
+    requires sums { AreSumsOf parts (sums_in parts frames sums.old) }
+    ensures added { take frames sums.new ≡ added (sums_in parts frames sums.old) part.now }
+    ensures bound { AreSumsOf (parts + 1) (take frames sums.new) }
+{
+    if parts == 0 {
+        set_first(sums, frames, part);
+    } else {
+        add_to_first(sums, frames, part);
+    }
+}
+
+/// Clamps the first sums, in which there are so many parts.
+fn settle_first(sums: &[i64], parts: u32, frames: usize, out: &mut [i32])
+    requires within { frames ≤ length sums.now }
+    requires frames { length out.old ≡ frames }
+    ensures { out.new ≡ map clamp (sums_in parts frames sums.now) }
+{
+    if parts == 0 {
+        out.fill(0);
+    } else {
+        samples::settle(&sums[..frames], out);
+    }
 }
 
 impl Mixer {
@@ -89,7 +117,6 @@ impl Mixer {
     {
         self.frames = frames as usize;
         self.parts = 0;
-        silence_first(&mut self.sums, self.frames);
     }
 
     /// Adds a part, a sample to each sum.
@@ -99,7 +126,7 @@ impl Mixer {
         ensures added { self.new ≡ record self.old { sums = added self.old.sums part.now; parts = self.old.parts + 1 } }
         ensures parts { (parts : List (List ℤ)) → self.old.sums ≡ sums_of (length part.now) parts → self.new.sums ≡ sums_of (length part.now) (parts ++ part.now ∷ []) }
     {
-        add_to_first(&mut self.sums, self.frames, part);
+        take_part(&mut self.sums, self.parts, self.frames, part);
         self.parts += 1;
     }
 
@@ -110,6 +137,6 @@ impl Mixer {
         ensures clamped { out.new ≡ map clamp self.now.sums }
         ensures mixed { (parts : List (List ℤ)) → self.now.sums ≡ sums_of (length out.old) parts → out.new ≡ mix (length out.old) parts }
     {
-        samples::settle(&self.sums[..self.frames], out);
+        settle_first(&self.sums, self.parts, self.frames, out);
     }
 }

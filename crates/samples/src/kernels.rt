@@ -161,16 +161,22 @@ pub(crate) fn read_sums(sum: &[i64])
     }
 }
 
-// Clamps eight sums more.
-pub(crate) fn settle_eight(sum: &[i64], out: &mut [i32], place: usize)
-    requires there { place + 8 ≤ length sum.now }
-    requires room { place + 8 ≤ length out.old }
+// Clamps four sums more. A sum is a sample where its upper half is nothing but the sign of its lower half.
+pub(crate) fn settle_four(sum: &[i64], out: &mut [i32], place: usize)
+    requires there { place + 4 ≤ length sum.now }
+    requires room { place + 4 ≤ length out.old }
     requires fits { (k : ℕ) → k < length sum.now → FitsSigned w64 (sample sum.now k) }
     requires front { take place out.old ≡ map clamp (take place sum.now) }
-    ensures { take (place + 8) out.new ≡ map clamp (take (place + 8) sum.now) }
+    ensures { take (place + 4) out.new ≡ map clamp (take (place + 4) sum.now) }
 {
-    let sums = i64x8::from_slice(&sum[place..]);
-    let clamped = sums.simd_clamp(i64x8::splat(-2_147_483_648), i64x8::splat(2_147_483_647));
-    let samples: i32x8 = clamped.cast();
+    let first = i32x4::from_le_bytes(i64x2::from_slice(&sum[place..]).to_le_bytes());
+    let second = i32x4::from_le_bytes(i64x2::from_slice(&sum[place + 2..]).to_le_bytes());
+    let lower = first.shuffle(second, [0, 2, 4, 6]);
+    let upper = first.shuffle(second, [1, 3, 5, 7]);
+    let ends = upper
+        .simd_lt(i32x4::splat(0))
+        .select(i32x4::splat(i32::MIN), i32x4::splat(i32::MAX));
+    let is_sample = upper.simd_eq(lower >> i32x4::splat(31));
+    let samples = is_sample.select(lower, ends);
     samples.copy_to_slice(&mut out[place..]);
 }

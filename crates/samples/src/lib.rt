@@ -8,4 +8,4 @@ mod sums;
 mod tests;
 
 pub use scaling::{from_bytes, to_bytes};
-pub use sums::{add_into, clamp64, settle};
+pub use sums::{add_into, clamp64, set_to, settle};

@@ -2,7 +2,7 @@ ghost use Rattle.std.specs.Prelude.{◌≡◌, ◌<◌, ◌≤◌, ◌+ℤ◌, �
 ghost use Rattle.session_model.specs.Samples.{clamp, sample};
 ghost use Rattle.samples.specs.Sums.{IsSmall};
 
-use crate::kernels::{read_sums, settle_eight};
+use crate::kernels::{read_sums, settle_four};
 
 /// The number nearest to `x` that a sample can be.
 ///
@@ -20,6 +20,16 @@ fn sum_of(x: i64, y: i32) -> i64
     ensures { result ≡ x +ℤ y }
 {
     x + i64::from(y)
+}
+
+/// Makes the sums those of a part alone, a sample each.
+pub fn set_to(sum: &mut [i64], part: &[i32])
+    requires { length sum.old ≡ length part.now }
+    ensures { sum.new ≡ part.now }
+{
+    for i in 0..part.len() {
+        sum[i] = i64::from(part[i]);
+    }
 }
 
 /// Adds the samples of a part to the sums, one to each.
@@ -51,9 +61,9 @@ pub fn settle(sum: &[i64], out: &mut [i32])
     ensures { out.new ≡ map clamp sum.now }
 {
     read_sums(sum);
-    let blocks = sum.len() / 8;
+    let blocks = sum.len() / 4;
     for block in 0..blocks {
-        settle_eight(sum, out, 8 * block);
+        settle_four(sum, out, 4 * block);
     }
-    settle_plain(sum, out, 8 * blocks);
+    settle_plain(sum, out, 4 * blocks);
 }

@@ -1,17 +1,13 @@
-use Rattle.std.proofs.Common.{◌≡◌, ℕ, ◌+◌, length, sym, ◌∙◌, ap, subst, arith}
+use Rattle.std.proofs.Common.{◌≡◌, ◌+◌, length, sym, subst, arith}
 use Rattle.std.proofs.lemmas.List.{length-take-le}
 use Rattle.session_model.specs.Samples.{sample}
-use Rattle.port_mixer.specs.Sums.{IsSumOf, added}
-use Rattle.port_mixer.proofs.SumLemmas.{IsSumOf-added, front, front-added, sums_of_added}
+use Rattle.port_mixer.specs.Sums.{IsSumOf}
+use Rattle.port_mixer.proofs.SumLemmas.{IsSumOf-added, front, front-added}
 use Rattle.port_mixer.proofs.mixing.add_to_first.Goals as goal
 
 pub returns-clause-added : goal.returns-clause-added
 returns-clause-added c =
     front-added c.args.frames c.args.sums.now c.add_into.new.sum c.args.part.now _ (omega (arith, length-take-le c.args.frames c.args.sums.now c.requires.within, c.add_into.auto.sum)) c.requires.within c.add_into.ensures
-
-pub returns-clause-parts : goal.returns-clause-parts
-returns-clause-parts c parts h =
-    returns-clause-added c ∙ ap (λ sums. added sums c.args.part.now) h ∙ sums_of_added c.args.frames parts c.args.part.now
 
 pub returns-clause-bound : goal.returns-clause-bound
 returns-clause-bound c n h k =

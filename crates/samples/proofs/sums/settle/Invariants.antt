@@ -3,4 +3,4 @@ use Rattle.session_model.specs.Samples.{clamp}
 use Rattle.samples.proofs.sums.settle.Given as goal
 
 abbrev pub invariant-loop-block : goal.invariant-loop-block
-invariant-loop-block l = take (8 * l.block) l.out ≡ map clamp (take (8 * l.block) l.sum)
+invariant-loop-block l = take (4 * l.block) l.out ≡ map clamp (take (4 * l.block) l.sum)
