@@ -15,7 +15,7 @@ use Rattle.device_periods.specs.Captures.{Fills, Reads}
 
 -- ---- frames of a file
 
-sample-past : (xs : List ℤ) (i : ℕ) → length xs ≤ i → sample xs i ≡ pos 0
+pub sample-past : (xs : List ℤ) (i : ℕ) → length xs ≤ i → sample xs i ≡ pos 0
 sample-past [] i h = refl
 sample-past (x ∷ xs) zero h = absurd (omega (arith, h))
 sample-past (x ∷ xs) (suc i) h = sample-past xs i (omega (arith, h))

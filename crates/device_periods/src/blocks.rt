@@ -1,12 +1,23 @@
 //! Interleaved blocks.
 
-ghost use Rattle.std.specs.Prelude.{◌≡◌, ℕ, ◌+◌, ◌*◌, ◌<◌, ◌≤◌, ◌++◌, ◌∷◌, [], List, ℤ, length};
-ghost use Rattle.session_model.specs.Samples.{interleaved, sample};
+ghost use Rattle.std.specs.Prelude.{◌≡◌, ℕ, ◌+◌, ◌*◌, ◌<◌, ◌≤◌, ◌++◌, ◌∷◌, [], List, ℤ, length, map};
+ghost use Rattle.session_model.specs.Samples.{below, interleaved, sample};
 ghost use Rattle.device_periods.specs.Blocks.{IsLaid, channel_of};
 
+/// Takes every other sample, from the first on.
 #[tactic(auto, using(client_kinds::proofs::FillLemmas::fill_more))]
-/// Takes a channel of an interleaved block, as many frames as there is room for. Channels are counted from 0.
-pub fn take_channel(channel: &mut [i32], block: &[i32], channels: usize, place: usize)
+fn take_every_other(channel: &mut [i32], samples: &[i32])
+    requires { 2 * length channel.old ≤ length samples.now + 1 }
+    ensures { channel.new ≡ map (λ i. sample samples.now (2 * i)) (below (length channel.old)) }
+{
+    for i in 0..channel.len() {
+        channel[i] = samples[2 * i];
+    }
+}
+
+/// Takes the samples of a place in each frame.
+#[tactic(auto, using(client_kinds::proofs::FillLemmas::fill_more))]
+fn take_each(channel: &mut [i32], block: &[i32], channels: usize, place: usize)
     requires place { place < channels }
     requires block { length channel.old * channels ≤ length block.now }
     ensures { channel.new ≡ channel_of channels (length channel.old) block.now place }
@@ -16,14 +27,16 @@ pub fn take_channel(channel: &mut [i32], block: &[i32], channels: usize, place: 
     }
 }
 
-/// The sample at a frame, 0 past the end.
-fn sample_at(samples: &[i32], frame: usize) -> i32
-    ensures { result ≡ sample samples.now frame }
+/// Takes a channel of an interleaved block, as many frames as there is room for. Channels are counted from 0.
+pub fn take_channel(channel: &mut [i32], block: &[i32], channels: usize, place: usize)
+    requires place { place < channels }
+    requires block { length channel.old * channels ≤ length block.now }
+    ensures { channel.new ≡ channel_of channels (length channel.old) block.now place }
 {
-    if frame < samples.len() {
-        samples[frame]
+    if channels == 2 && !channel.is_empty() {
+        take_every_other(channel, &block[place..]);
     } else {
-        0
+        take_each(channel, block, channels, place);
     }
 }
 
@@ -37,7 +50,11 @@ pub fn lay_channel(block: &mut [i32], frames: usize, channels: usize, place: usi
     ensures laid { (buffers : List (List ℤ)) → length buffers ≡ place → IsLaid channels frames buffers block.old → IsLaid channels frames (buffers ++ samples.now ∷ []) block.new }
     ensures whole { (buffers : List (List ℤ)) → length buffers ≡ place → place + 1 ≡ channels → IsLaid channels frames buffers block.old → block.new ≡ interleaved frames (buffers ++ samples.now ∷ []) }
 {
-    for i in 0..frames {
-        block[i * channels + place] = sample_at(samples, i);
+    let whole = samples.len().min(frames);
+    for i in 0..whole {
+        block[i * channels + place] = samples[i];
+    }
+    for i in whole..frames {
+        block[i * channels + place] = 0;
     }
 }

@@ -1,0 +1,6 @@
+use Rattle.std.proofs.Common.{◌≡◌, ◌*◌, take, map}
+use Rattle.session_model.specs.Samples.{below, sample}
+use Rattle.device_periods.proofs.blocks.take_every_other.Given as goal
+
+abbrev pub invariant-loop-i : goal.invariant-loop-i
+invariant-loop-i l = take l.i l.channel ≡ map (λ i. sample l.samples (2 * i)) (below l.i)
