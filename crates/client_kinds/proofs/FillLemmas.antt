@@ -3,10 +3,14 @@
 --     tone_low, tone_high      a square wave
 --     tone_turned      it repeats
 --     frame_after, frame_below      the next frame of a square wave's length
-use Rattle.std.proofs.Common.{◌≡◌, ℕ, suc, ◌+◌, ◌*◌, ◌%◌, ◌<◌, ◌≤◌, List, [], ◌∷◌, ◌++◌, length, map, take, ℤ, neg_ℤ, Bool, cond, nat_lt, refl, sym, ◌∙◌, ap, ap₂, subst, arith, add-one}
+--     piece-done      a piece behind a front that is done
+use Rattle.std.proofs.Common.{◌≡◌, ℕ, suc, ◌+◌, ◌*◌, ◌%◌, ◌<◌, ◌≤◌, List, [], ◌∷◌, ◌++◌, length, map, take, drop, ◌-◌, ℤ, neg_ℤ, Bool, cond, nat_lt, refl, sym, ◌∙◌, ap, ap₂, subst, arith, add-one}
 use Rattle.std.proofs.Math.ListN.{set}
 use Rattle.std.proofs.Math.Nat.{mod-eq_of_lt, mod-add-mod, mod-lt}
-use Rattle.std.proofs.Math.Seq.{take-suc-set}
+use Rattle.std.proofs.Math.Seq.{take-add, take-suc-set}
+use Rattle.std.proofs.lemmas.List.{length-drop, length-map, length-take-le, map-append}
+use Rattle.std.proofs.lemmas.Slice.{take-put_mid}
+use borrow.Rule.Slice.PartMut.{put_mid}
 use Rattle.std.proofs.lemmas.Bool.{le-leb, le-ltb}
 use Rattle.session_model.specs.Kinds.{tone_sample}
 use Rattle.session_model.specs.Samples.{below}
@@ -37,3 +41,16 @@ frame_after half n m is = ap (λ r. (r + 1) % (2 * half)) is ∙ mod-add-mod n (
 
 pub frame_below : (half n m : ℕ) → m ≡ n % (2 * half) → 0 < half → m < 2 * half
 frame_below half n m is some = subst (λ k. k < 2 * half) (sym is) (mod-lt n (omega (arith, some)))
+
+-- ---- a gain, a piece after another
+
+pub piece-done : (f : ℤ → ℤ) (x part new : List ℤ) (done end : ℕ) → done ≤ end → end ≤ length x → length part ≡ length x → new ≡ map f (take (end - done) (drop done x))
+    → take done part ≡ map f (take done x) → take end (put_mid done (end - done) part new) ≡ map f (take end x)
+piece-done f x part new done end order within lengths is front =
+    take-put_mid done (end - done) part new end (omega (arith, order, long)) (omega (arith, order, within, lengths))
+    ∙ ap₂ (λ (a b : List ℤ). a ++ b) front is
+    ∙ sym (map-append f (take done x) (take (end - done) (drop done x)))
+    ∙ ap (map f) (sym (take-add done (end - done) x) ∙ ap (λ (n : ℕ). take n x) (omega (arith, order)))
+  where
+    long : length new ≡ end - done
+    long = ap length is ∙ length-map (take (end - done) (drop done x)) f ∙ length-take-le (end - done) (drop done x) (omega (arith, order, within, length-drop done x))

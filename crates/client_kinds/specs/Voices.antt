@@ -4,7 +4,7 @@ use Rattle.jack_types.specs.declared.kinds.Kind.{Kind}
 use Rattle.session_model.specs.Kinds.{Memory}
 use Rattle.session_model.specs.Samples.{silence}
 use Rattle.client_kinds.specs.Buffers.{channels_of}
-use Rattle.client_kinds.specs.Lines.{IsWhole, items_of}
+use Rattle.client_kinds.specs.Lines.{AreQuiet, IsWhole, items_of}
 use Rattle.client_kinds.specs.Standings.{IsPlayable}
 use Rattle.client_kinds.specs.Rooms.{HasRoom, IsKept}
 use Rattle.client_kinds.specs.declared.voices.Voice.TheInside.{Inside}
@@ -26,6 +26,7 @@ pub record IsVoice (v : Inside) : Type 0 where
   pub playable : IsPlayable v.kind
   pub silent : v.silent.items ≡ silence v.period
   pub lines : All IsWhole v.lines.items
+  pub quiet : AreQuiet v.reached v.lines.items
   pub kept : IsKept v.kind v.lines.items v.phase
   pub room : HasRoom v.kind v.period (length v.block.items)
   pub fed : v.channels * v.period ≤ length v.block.items

@@ -5,7 +5,7 @@ ghost use Rattle.session_model.specs.Kinds.{delayed};
 ghost use Rattle.session_model.specs.Samples.{below, sample, silence};
 ghost use Rattle.client_kinds.specs.Buffers.{buffers_of};
 ghost use Rattle.circular_buffer.specs.Buffer.{buffer};
-ghost use Rattle.client_kinds.specs.Lines.{IsFilled, IsWhole, items_of};
+ghost use Rattle.client_kinds.specs.Lines.{AreQuiet, IsFilled, IsWhole, items_of};
 
 use crate::buffers::heard;
 use crate::guests::Shape;
@@ -88,23 +88,30 @@ fn step_line(line: &mut HeapCircularBuffer<i32>, x: &[i32])
     line.extend_from_slice(x);
 }
 
-/// Steps the lines of all places.
+/// Steps the lines of all places, and says how many of them have got anything but silence by now.
+///
+/// A line that has got nothing else is silent from end to end, and stays what it is where it gets silence again.
 pub(crate) fn step_lines(
     lines: &mut [HeapCircularBuffer<i32>],
+    reached: usize,
     ports: Shape,
     input: &[i32],
     silent: &[i32],
-)
+) -> usize
     requires whole { All IsWhole lines.old }
+    requires quiet { AreQuiet reached lines.old }
     requires input { length input.now ≡ ports.inputs * ports.period }
     requires room { ports.period ≤ length silent.now }
     requires silent { silent.now ≡ silence (length silent.now) }
     ensures whole { All IsWhole lines.new }
+    ensures quiet { AreQuiet result lines.new }
     ensures count { length lines.new ≡ length lines.old }
     ensures items { items_of lines.new ≡ map (λ j. drop ports.period (delayed ports.period (items_of lines.old) (buffers_of ports.inputs ports.period input.now) j)) (below (length lines.old)) }
 {
-    for place in 0..lines.len() {
+    let reached = reached.max(usize::from(ports.inputs));
+    for place in 0..reached.min(lines.len()) {
         let line = &mut lines[place];
         step_line(line, heard(ports, input, place, silent));
     }
+    reached
 }

@@ -2,9 +2,13 @@
 
 ghost use Rattle.std.specs.Prelude.{◌≡◌, ℕ, ◌+◌, ◌*◌, ◌^◌, ◌<◌, ◌≤◌, ◌%◌, if◌then◌else◌, ◌*ℤ◌, ◌≤ℤ◌, pos, negsuc, length, map, nat_abs, neg_ℤ, max};
 ghost use Rattle.std.specs.Int.{int_shr};
+ghost use Rattle.client_kinds.specs.declared.sounds.TheConstants.{PIECE};
 ghost use Rattle.session_model.specs.Kinds.{peak_with, tone_sample};
 ghost use Rattle.session_model.specs.Samples.{below, clamp, sample, silence};
 ghost use Rattle.session_model.specs.Tempo.{begins_beat};
+
+/// How many products of a gain are made before they are clamped.
+const PIECE: usize = 64;
 
 /// Silence.
 pub(crate) fn fill_silence(part: &mut [i32])
@@ -30,12 +34,29 @@ fn shifted(product: i64, shift: u32) -> i64
     product >> shift
 }
 
-/// A sample times a factor, shifted right.
-pub(crate) fn gained(x: i32, factor: i32, shift: u32) -> i32
-    requires { shift ≤ 31 }
-    ensures { result ≡ clamp (int_shr (x *ℤ factor) shift) }
+/// The samples times a factor, shifted right, and not clamped yet.
+fn multiply(x: &[i32], factor: i32, shift: u32, products: &mut [i64])
+    requires lengths { length x.now ≡ length products.old }
+    requires shift { shift ≤ 31 }
+    ensures { products.new ≡ map (λ x. int_shr (x *ℤ factor) shift) x.now }
 {
-    samples::clamp64(shifted(product(x, factor), shift))
+    for i in 0..x.len() {
+        products[i] = shifted(product(x[i], factor), shift);
+    }
+}
+
+/// As many samples as there is room for products, times a factor, shifted right.
+fn fill_piece(x: &[i32], factor: i32, shift: u32, part: &mut [i32])
+    requires lengths { length x.now ≡ length part.old }
+    requires few { length x.now ≤ PIECE }
+    requires shift { shift ≤ 31 }
+    ensures { part.new ≡ map (λ x. clamp (int_shr (x *ℤ factor) shift)) x.now }
+{
+    let mut room = [0; PIECE];
+    let all = &mut room[..];
+    let products = &mut all[..x.len()];
+    multiply(x, factor, shift, products);
+    samples::settle(products, part);
 }
 
 /// The samples times a factor, shifted right.
@@ -44,8 +65,11 @@ pub(crate) fn fill_gain(x: &[i32], factor: i32, shift: u32, part: &mut [i32])
     requires shift { shift ≤ 31 }
     ensures { part.new ≡ map (λ x. clamp (int_shr (x *ℤ factor) shift)) x.now }
 {
-    for (i, sample) in part.iter_mut().enumerate() {
-        *sample = gained(x[i], factor, shift);
+    let mut done = 0;
+    while done < part.len() {
+        let end = part.len().min(done + PIECE);
+        fill_piece(&x[done..end], factor, shift, &mut part[done..end]);
+        done = end;
     }
 }
 

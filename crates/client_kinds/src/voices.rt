@@ -4,7 +4,7 @@ ghost use Rattle.std.specs.Prelude.{◌≡◌, ℕ, ◌+◌, ◌*◌, ◌<◌, �
 ghost use Rattle.session_model.specs.Kinds.{click_sample, first, input_at, peak_with};
 ghost use Rattle.session_model.specs.Samples.{below, silence};
 ghost use Rattle.client_kinds.specs.Buffers.{buffers_of, channels_of};
-ghost use Rattle.client_kinds.specs.Lines.{IsWhole, items_of};
+ghost use Rattle.client_kinds.specs.Lines.{AreQuiet, IsWhole, items_of};
 ghost use Rattle.client_kinds.specs.Sounds.{sound};
 ghost use Rattle.client_kinds.specs.Standings.{IsPlayable, IsDisk};
 ghost use Rattle.client_kinds.specs.Rooms.{HasRoom};
@@ -26,6 +26,8 @@ pub(crate) struct Voice {
     period: u32,
     silent: Vec<i32>,
     lines: Vec<HeapCircularBuffer<i32>>,
+    // How many of the lines have got anything but silence.
+    reached: usize,
     phase: u32,
     peak: u32,
     block: Vec<i32>,
@@ -46,6 +48,7 @@ impl Model for Voice {
 fn first_lines(alloc: Global, kind: Kind) -> Result<Vec<HeapCircularBuffer<i32>>, AllocError>
     ensures items { IfOk result (λ lines. items_of lines.items ≡ (first [] kind).lines) }
     ensures whole { IfOk result (λ lines. All IsWhole lines.items) }
+    ensures quiet { IfOk result (λ lines. AreQuiet 0 lines.items) }
 {
     match kind {
         Kind::Delay { frames } => silent_lines(alloc, 16, frames),
@@ -86,6 +89,7 @@ impl Voice {
             period,
             silent,
             lines,
+            reached: 0,
             phase: 0,
             peak: 0,
             block,
@@ -223,7 +227,9 @@ impl Voice {
         ensures { self.new ≡ record self.old { memory = stepped self.old.kind self.old.memory ports.period (buffers_of ports.inputs ports.period input.now) } }
     {
         match self.kind {
-            Kind::Delay { .. } => step_lines(&mut self.lines, ports, input, &self.silent),
+            Kind::Delay { .. } => {
+                self.reached = step_lines(&mut self.lines, self.reached, ports, input, &self.silent)
+            }
             Kind::Tone { half, .. } => self.phase = phase_behind(half, self.phase, ports.period),
             Kind::Meter => self.peak = peak_of(self.peak, ports, input),
             Kind::Disk { .. } => self.channels = 0,
