@@ -1,12 +1,14 @@
 -- The parts of an input, and their mix.
 --     sums-padded      a part counts as far as there are frames
 --     mix-alone      a part that is mixed alone is copied
---     IsOnly, only-one, only-mixed, two-pass      the part of an input that gets no more than one
-use Rattle.std.proofs.Common.{◌≡◌, ℕ, ◌+◌, ◌<◌, Bool, true, false, List, [], ◌∷◌, ◌++◌, length, map, filter, take, drop, get_or, ℤ, pos, negsuc, ◌+ℤ◌, Bor, Option, Some, None, true≢false, sym, ◌∙◌, ap, subst, arith, add-one}
+--     mix-both      a part that is added to another, clamped, is mixed with it
+--     AreFew, few-two, few-mixed, more-pass      the parts of an input that gets no more than two
+use Rattle.std.proofs.Common.{◌≡◌, ℕ, ◌+◌, ◌<◌, ◌≤◌, Bool, true, false, List, [], ◌∷◌, ◌++◌, length, map, filter, take, drop, get_or, ℤ, pos, negsuc, ◌+ℤ◌, Bor, Option, Some, None, true≢false, refl, sym, ◌∙◌, ap, ap₂, subst, arith, add-one}
 use Rattle.std.specs.Int.{w32}
-use Rattle.std.specs.Prelude.{FitsSigned, MatchOption, if◌then◌else◌, is_some, unwrap_or}
+use Rattle.std.specs.Prelude.{FitsSigned, if◌then◌else◌, is_some, nat_lt, unwrap_or}
+use Rattle.std.proofs.lemmas.Bool.{ltb-false, ltb-true}
 use Rattle.std.proofs.lemmas.Int.{ints}
-use Rattle.std.proofs.lemmas.List.{ext_get_or, length-append, take-append-drop}
+use Rattle.std.proofs.lemmas.List.{ext_get_or, get_or_past, length-append, take-append-drop}
 use Rattle.std.proofs.lemmas.List.Elements.{filter-append}
 use Rattle.std.proofs.Math.Seq.{take-suc}
 use Rattle.session_model.specs.Samples.{clamp, mix, sample, total}
@@ -68,26 +70,71 @@ mix-alone frames samples part long same small =
     (λ k h. same k (omega (arith, h, long)) ∙ sym (clamp-sample (sample part k) (small k))
     ∙ sym (get_or-map_below (λ i. clamp (total (map (λ part. sample part i) (part ∷ [])))) frames k (pos 0) (omega (arith, h, long))))
 
--- the only one of these parts, where there is one at all
-abbrev pub IsOnly : Option (Bor (List ℤ)) → List (List ℤ) → Type 0
-IsOnly only parts = MatchOption only (parts ≡ []) (λ part. parts ≡ part.now ∷ [])
+-- silence before and behind a sample adds nothing to it
+silence-before : (x : ℤ) → x ≡ pos 0 +ℤ x
+silence-before x = grind (arith, ints)
 
-pub only-one : (only : Option (Bor (List ℤ))) (parts : List (List ℤ)) → true ≡ is_some only → IsOnly only parts → length parts ≡ 1
-only-one None parts there is = absurd (true≢false there)
-only-one (Some part) parts there is = ap length is
+silence-behind : (x : ℤ) → x ≡ x +ℤ pos 0
+silence-behind x = grind (arith, ints)
 
--- it is mixed as all of them; no part is mixed as one of no samples
-pub only-mixed : (only : Option (Bor (List ℤ))) (parts : List (List ℤ)) (none result : Bor (List ℤ)) → none.now ≡ [] → result ≡ unwrap_or only none → IsOnly only parts
-    → (frames : ℕ) → mix frames parts ≡ mix frames (result.now ∷ [])
-only-mixed None parts none result empty is only frames = ap (mix frames) only ∙ ap (λ (part : List ℤ). mix frames (part ∷ [])) (sym empty) ∙ ap (λ (part : Bor (List ℤ)). mix frames (part.now ∷ [])) (sym is)
-only-mixed (Some part) parts none result empty is only frames = ap (mix frames) only ∙ ap (λ (part : Bor (List ℤ)). mix frames (part.now ∷ [])) (sym is)
+-- the mix of two parts is the first with the second added, each sum clamped
+pub mix-both : (frames : ℕ) (samples front one other : List ℤ) → length samples ≡ frames → front ≡ mix frames (one ∷ []) → ((k : ℕ) → k < frames → sample front k ≡ sample one k)
+    → ((k : ℕ) → k < frames → k < length other → sample samples k ≡ clamp (sample front k +ℤ sample other k)) → ((k : ℕ) → length other ≤ k → sample samples k ≡ sample front k)
+    → samples ≡ mix frames (one ∷ other ∷ [])
+mix-both frames samples front one other long first same added behind =
+    ext_get_or (pos 0) samples (mix frames (one ∷ other ∷ [])) (long ∙ sym (length-mix frames (one ∷ other ∷ [])))
+    (λ k h. at k (omega (arith, h, long)) (nat_lt k (length other)) refl
+    ∙ sym (get_or-map_below (λ i. clamp (total (map (λ part. sample part i) (one ∷ other ∷ [])))) frames k (pos 0) (omega (arith, h, long))))
+  where
+    at : (k : ℕ) → k < frames → (b : Bool) → nat_lt k (length other) ≡ b → sample samples k ≡ clamp ((pos 0 +ℤ sample one k) +ℤ sample other k)
+    at k h true within = added k h (ltb-true k (length other) within) ∙ ap (λ x. clamp (x +ℤ sample other k)) (same k h ∙ silence-before (sample one k))
+    at k h false past =
+        behind k (ltb-false k (length other) past)
+        ∙ ap (λ xs. sample xs k) first
+        ∙ get_or-map_below (λ i. clamp (total (map (λ part. sample part i) (one ∷ [])))) frames k (pos 0) h
+        ∙ ap clamp (silence-behind (pos 0 +ℤ sample one k) ∙ ap (λ x. (pos 0 +ℤ sample one k) +ℤ x) (sym (get_or_past other k (pos 0) (ltb-false k (length other) past))))
 
--- two items pass where one does before another
-pub two-pass : {X : Type 0} (test : X → Bool) (xs : List X) (i : ℕ) (d : X) → i < length xs → test (get_or xs i d) ≡ true → length (filter test (take i xs)) ≡ 1 → 1 < length (filter test xs)
-two-pass {X = X} test xs i d low on one =
+-- these parts, where there are no more than two
+abbrev pub AreFew : Option (Bor (List ℤ)) → Option (Bor (List ℤ)) → List (List ℤ) → Type 0
+AreFew None None parts = parts ≡ []
+AreFew None (Some second) parts = ⊥
+AreFew (Some first) None parts = parts ≡ first.now ∷ []
+AreFew (Some first) (Some second) parts = parts ≡ first.now ∷ second.now ∷ []
+
+pub few-two : (first second : Option (Bor (List ℤ))) (parts : List (List ℤ)) → true ≡ is_some second → AreFew first second parts → length parts ≡ 2
+few-two None None parts there are = absurd (true≢false there)
+few-two None (Some second) parts there are = absurd are
+few-two (Some first) None parts there are = absurd (true≢false there)
+few-two (Some first) (Some second) parts there are = ap length are
+
+-- no part behind another is mixed as one of no samples
+mix-behind : (frames : ℕ) (part : List ℤ) → mix frames (part ∷ []) ≡ mix frames (part ∷ [] ∷ [])
+mix-behind frames part = map_below-same
+    (λ i. clamp (total (map (λ part. sample part i) (part ∷ []))))
+    (λ i. clamp (total (map (λ part. sample part i) (part ∷ [] ∷ []))))
+    frames
+    (λ i h. ap clamp (silence-behind (pos 0 +ℤ sample part i)))
+
+-- they are mixed as two; what is lacking is mixed as a part of no samples
+pub few-mixed : (first second : Option (Bor (List ℤ))) (parts : List (List ℤ)) (none other one two : Bor (List ℤ)) → none.now ≡ [] → other.now ≡ [] → one ≡ unwrap_or first none → two ≡ unwrap_or second other → AreFew first second parts
+    → (frames : ℕ) → mix frames parts ≡ mix frames (one.now ∷ two.now ∷ [])
+few-mixed first second parts none other one two empty also is_one is_two are frames =
+    go first second are
+    ∙ ap₂ (λ (x y : List ℤ). mix frames ((unwrap_or first (record none { now = x })).now ∷ (unwrap_or second (record other { now = y })).now ∷ [])) (sym empty) (sym also)
+    ∙ ap₂ (λ (x y : Bor (List ℤ)). mix frames (x.now ∷ y.now ∷ [])) (sym is_one) (sym is_two)
+  where
+    go : (first second : Option (Bor (List ℤ))) → AreFew first second parts → mix frames parts ≡ mix frames ((unwrap_or first (record none { now = [] })).now ∷ (unwrap_or second (record other { now = [] })).now ∷ [])
+    go None None are = ap (mix frames) are
+    go None (Some second) are = absurd are
+    go (Some first) None are = ap (mix frames) are ∙ mix-behind frames first.now
+    go (Some first) (Some second) are = ap (mix frames) are
+
+-- one item more passes than those before it
+pub more-pass : {X : Type 0} (test : X → Bool) (xs : List X) (i n : ℕ) (d : X) → i < length xs → test (get_or xs i d) ≡ true → length (filter test (take i xs)) ≡ n → n < length (filter test xs)
+more-pass {X = X} test xs i n d low on before =
     omega (
       arith,
-      one,
+      before,
       length-append (filter test (take i xs)) (get_or xs i d ∷ []),
       ap length (filter-more test (take i xs) (get_or xs i d) on),
       ap (λ (ys : List X). length (filter test ys)) (take-next xs i d low),

@@ -1,9 +1,9 @@
 //! The mix of an input.
 
-ghost use Rattle.std.specs.Prelude.{◌≡◌, ℕ, ◌+◌, ◌*◌, ◌<◌, ◌≤◌, ◌++◌, ◌∷◌, [], ℤ, List, All, IsSome, MatchOption, length, map};
+ghost use Rattle.std.specs.Prelude.{◌≡◌, ℕ, ◌+◌, ◌*◌, ◌<◌, ◌≤◌, ◌++◌, ◌∷◌, [], ℤ, ◌+ℤ◌, List, All, IsSome, MatchOption, length, map};
 ghost use Rattle.activation.specs.Values.{values_of};
 ghost use Rattle.session_model.specs.Benches.{audio_part};
-ghost use Rattle.session_model.specs.Samples.{mix, sample};
+ghost use Rattle.session_model.specs.Samples.{clamp, mix, sample};
 ghost use Rattle.port_mixer.specs.Sums.{AreSamples, sums_of};
 ghost use Rattle.client_kinds.specs.Buffers.{buffers_of, with_buffer};
 ghost use Rattle.client_benches.specs.Wires.{inputs_of, parts_into};
@@ -54,24 +54,55 @@ pub fn add_part(mixer: &mut Mixer, padded: &mut [i32], part: &[i32])
     }
 }
 
-/// The part of an input that gets no more than one, a part of no samples where it gets none.
-///
-/// No wire behind the second into this input is looked at.
-fn only_part<'a>(wires: &'a [Wire], given: &'a [Option<Rooms>], input: u16) -> Option<&'a [i32]>
-    requires { All IsSome given.now }
-    ensures { MatchOption result (1 < length (parts_into wires.now input)) (λ part. (frames : ℕ) → mix frames (map (audio_part (values_of given.now)) (parts_into wires.now input)) ≡ mix frames (part.now ∷ [])) }
+/// Adds a part of any length to samples, each sum clamped: what it lacks is silence, and what lies behind the last frame
+/// is not heard.
+fn add_clamped(out: &mut [i32], part: &[i32])
+    ensures length { length out.new ≡ length out.old }
+    ensures added { (k : ℕ) → k < length out.old → k < length part.now → sample out.new k ≡ clamp (sample out.old k +ℤ sample part.now k) }
+    ensures behind { (k : ℕ) → length part.now ≤ k → sample out.new k ≡ sample out.old k }
 {
-    let mut only: Option<&[i32]> = None;
+    let whole = part.len().min(out.len());
+    for place in 0..whole {
+        out[place] = out[place].saturating_add(part[place]);
+    }
+}
+
+/// Mixes two parts of any length: what they lack is silence, and what lies behind the last frame is not heard.
+fn mix_two(out: &mut [i32], one: &[i32], other: &[i32])
+    ensures { out.new ≡ mix (length out.old) (one.now ∷ other.now ∷ []) }
+{
+    copy_part(out, one);
+    add_clamped(out, other);
+}
+
+/// The parts of an input that gets no more than two, a part of no samples for each that it lacks.
+///
+/// No wire behind the third into this input is looked at.
+fn few_parts<'a>(
+    wires: &'a [Wire],
+    given: &'a [Option<Rooms>],
+    input: u16,
+) -> Option<(&'a [i32], &'a [i32])>
+    requires { All IsSome given.now }
+    ensures { MatchOption result (2 < length (parts_into wires.now input)) (λ two. (frames : ℕ) → mix frames (map (audio_part (values_of given.now)) (parts_into wires.now input)) ≡ mix frames (two.0.now ∷ two.1.now ∷ [])) }
+{
+    let mut first: Option<&[i32]> = None;
+    let mut second: Option<&[i32]> = None;
     for wire in wires {
         if wire.input != input {
             continue;
         }
-        if only.is_some() {
+        if second.is_some() {
             return None;
         }
-        only = Some(wire.part(wires, given));
+        let part = wire.part(wires, given);
+        if first.is_some() {
+            second = Some(part);
+        } else {
+            first = Some(part);
+        }
     }
-    Some(only.unwrap_or(&[]))
+    Some((first.unwrap_or(&[]), second.unwrap_or(&[])))
 }
 
 /// Mixes an input by the sums of its parts.
@@ -117,8 +148,8 @@ fn mix_input(
     ensures room { mixer.new.room ≡ mixer.old.room }
     ensures frames { length padded.new ≡ length padded.old }
 {
-    match only_part(wires, given, input) {
-        Some(part) => copy_part(out, part),
+    match few_parts(wires, given, input) {
+        Some((one, other)) => mix_two(out, one, other),
         None => mix_parts(mixer, padded, wires, given, input, out),
     }
 }

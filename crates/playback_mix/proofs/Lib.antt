@@ -1,2 +1,3 @@
+mod OnlyLemmas
 mod SoundLemmas
 mod BlockLemmas

@@ -1,9 +1,10 @@
 use Rattle.std.proofs.Common.{◌≡◌, ◌==◌, List, filter, length, map, take, get_or, refl, subst, arith, eq-eqb}
 use Rattle.std.proofs.lemmas.List.{length-map, take_all}
-use Rattle.client_benches.proofs.PartLemmas.{IsOnly, only-mixed, only-one, two-pass}
+use Rattle.client_benches.proofs.PartLemmas.{more-pass}
 use Rattle.client_wiring.specs.declared.joints.Heard.{Heard}
 use Rattle.client_wiring.specs.declared.joints.Sound.TheVariants.{Played}
 use Rattle.playback_mix.specs.Mixes.{sound_in, sounds_on}
+use Rattle.playback_mix.proofs.OnlyLemmas.{IsOnly, only-mixed, only-one}
 use Rattle.playback_mix.proofs.channels.only_sound.Goals as goal
 
 pub returns-then-is_some : goal.returns-then-is_some
@@ -20,7 +21,7 @@ returns-then-is_some g c =
     ) in
     omega (
       arith,
-      two-pass test c.args.heard.now c.loop-one.one-index here c.loop-one-test.true (eq-eqb (get_or c.args.heard.now c.loop-one.one-index here).channel c.args.channel c.if-one-channel.false) one,
+      more-pass test c.args.heard.now c.loop-one.one-index 1 here c.loop-one-test.true (eq-eqb (get_or c.args.heard.now c.loop-one.one-index here).channel c.args.channel c.if-one-channel.false) one,
       length-map (filter test c.args.heard.now) (λ (one : Heard). one.sound),
     )
 

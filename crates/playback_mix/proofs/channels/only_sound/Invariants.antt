@@ -1,6 +1,6 @@
 use Rattle.std.proofs.Common.{map, take}
-use Rattle.client_benches.proofs.PartLemmas.{IsOnly}
 use Rattle.playback_mix.specs.Mixes.{sound_in, sounds_on}
+use Rattle.playback_mix.proofs.OnlyLemmas.{IsOnly}
 use Rattle.playback_mix.proofs.channels.only_sound.Given as goal
 
 abbrev pub invariant-loop-one : goal.invariant-loop-one
