@@ -31,6 +31,16 @@ commit_after p all place = record p { all = all; place = place }
 abbrev pub swap_after : ReaderView → ℕ → List Change → ReaderView
 swap_after e r new = record e { held = new; place = r % 4; reads = e.reads ++ r / 4 ∷ []; least = r / 4; ahead = 0 }
 
+-- an exchange that brought a plan of this number
+pub record Exchanges (before : ReaderView) (number : ℕ) (after : ReaderView) : Type 0 where
+  pub found : ℕ
+  pub content : List Change
+  pub number_is : number ≡ length content
+  pub long : length content ≡ found / 4
+  pub least : before.least ≤ found / 4
+  pub front : IsFront before.held content
+  pub after_is : after ≡ swap_after before found content
+
 module _ {P : Type 0} (content : P → List Change) (base_of : P → Base) where
   abbrev pub content_or : Option P → List Change
   content_or (Some x) = content x

@@ -4,7 +4,7 @@ ghost use Rattle.graph_word.specs.Publications.{IsOpening, Meets};
 
 use crate::plans::Numbered;
 use crate::publisher::Publisher;
-use crate::reader::Reader;
+use crate::reader::{Hold, Reader};
 use crate::steps::{Ends, Home, Meet, Open, Settle};
 use crate::view::{Board, WORD};
 use std::alloc::{AllocError, Global};
@@ -45,10 +45,12 @@ pub fn publication<P: Numbered>(
     };
     let reader = Reader {
         table: theirs,
-        seat: other,
-        plan: third,
-        place: 2,
-        number: 0,
+        hold: Hold {
+            seat: other,
+            plan: third,
+            place: 2,
+            number: 0,
+        },
     };
     Ok((publisher, reader))
 }
@@ -63,9 +65,9 @@ pub fn meet<P: Numbered>(publisher: &mut Publisher<P>, reader: &mut Reader<P>)
     ensures plans { (publisher.new.1 ≡ publisher.old.1) × (reader.new.1 ≡ reader.old.1) }
 {
     let words = &publisher.table.shared;
-    let theirs = words.split_seat::<Ends>(&mut reader.seat);
+    let theirs = words.split_seat::<Ends>(&mut reader.hold.seat);
     words.join_seat::<Ends>(&mut publisher.seat, theirs);
     words.load::<Meet>(&mut publisher.seat, WORD);
     let back = words.split_seat::<Ends>(&mut publisher.seat);
-    words.join_seat::<Home>(&mut reader.seat, back);
+    words.join_seat::<Home>(&mut reader.hold.seat, back);
 }

@@ -1,7 +1,10 @@
 //! The end of a publication that reads.
+ghost use Rattle.std.specs.Prelude.{◌≡◌, ◌<◌, true, false, [], ◌∷◌, None, length};
+ghost use Rattle.graph_word.specs.Steps.{Exchanges};
+
 use crate::plans::Numbered;
 use crate::steps::{Begin, See, Swap};
-use crate::view::{Board, CYCLE, Place, WORD};
+use crate::view::{Board, CYCLE, Place, WORD, Words};
 use core::mem;
 use std::alloc::Global;
 use std::marker::Model;
@@ -11,6 +14,12 @@ use std::sync::Arc;
 #[derive(Drop)]
 pub struct Reader<P: Numbered> {
     pub(crate) table: Arc<Board<P>, Global>,
+    pub(crate) hold: Hold<P>,
+}
+
+/// What the reader holds: its seat, and the plan of its place with its number.
+#[derive(Drop)]
+pub(crate) struct Hold<P: Numbered> {
     pub(crate) seat: Place<P>,
     pub(crate) plan: P,
     pub(crate) place: u64,
@@ -25,9 +34,40 @@ impl<P: Numbered> Model for Reader<P> {
 
     ghost Value = { Reading × P };
 
-    ghost view = { λ r. (reading_of r.seat.table_id r.seat.me.0.reader, r.plan) };
+    ghost view = { λ r. (reading_of r.hold.seat.table_id r.hold.seat.me.0.reader, r.hold.plan) };
 
-    ghost invariant = { λ r. ((arc_value r.table).shared.table_id.words ≡ 2) × ((arc_value r.table).shared.table_id.slots ≡ 3) × (r.seat.table_id ≡ (arc_value r.table).shared.table_id) × (r.seat.me.1 ≡ (r.place, None) ∷ []) × (r.seat.me.0.is_reader ≡ true) × (r.seat.me.0.is_publisher ≡ false) × (r.seat.me.0.reader.holds ≡ true) × (r.place ≡ r.seat.me.0.reader.place) × (r.place < 3) × (r.number ≡ length r.seat.me.0.reader.held) × (P.content r.plan ≡ r.seat.me.0.reader.held) × (P.base r.plan ≡ r.seat.me.0.reader.base) };
+    ghost invariant = { λ r. ((arc_value r.table).shared.table_id.words ≡ 2) × ((arc_value r.table).shared.table_id.slots ≡ 3) × (r.hold.seat.table_id ≡ (arc_value r.table).shared.table_id) × (r.hold.seat.me.1 ≡ (r.hold.place, None) ∷ []) × (r.hold.seat.me.0.is_reader ≡ true) × (r.hold.seat.me.0.is_publisher ≡ false) × (r.hold.seat.me.0.reader.holds ≡ true) × (r.hold.place ≡ r.hold.seat.me.0.reader.place) × (r.hold.place < 3) × (r.hold.number ≡ length r.hold.seat.me.0.reader.held) × (P.content r.hold.plan ≡ r.hold.seat.me.0.reader.held) × (P.base r.hold.plan ≡ r.hold.seat.me.0.reader.base) };
+}
+
+// Exchanges the plan of the reader's place for a newer one, which a load has found.
+fn swapped<P: Numbered>(words: &Words<P>, hold: Hold<P>) -> (Hold<P>, u32)
+    requires stands { (words.now.table_id.words ≡ 2) × (words.now.table_id.slots ≡ 3) × (hold.seat.table_id ≡ words.now.table_id) × (hold.seat.me.1 ≡ (hold.place, None) ∷ []) × (hold.seat.me.0.is_reader ≡ true) × (hold.seat.me.0.is_publisher ≡ false) × (hold.seat.me.0.reader.holds ≡ true) × (hold.place ≡ hold.seat.me.0.reader.place) × (hold.place < 3) × (hold.number ≡ length hold.seat.me.0.reader.held) × (P.content hold.plan ≡ hold.seat.me.0.reader.held) × (P.base hold.plan ≡ hold.seat.me.0.reader.base) }
+    requires newer { 0 < hold.seat.me.0.reader.ahead }
+    ensures stands { (words.now.table_id.words ≡ 2) × (words.now.table_id.slots ≡ 3) × (result.0.seat.table_id ≡ words.now.table_id) × (result.0.seat.me.1 ≡ (result.0.place, None) ∷ []) × (result.0.seat.me.0.is_reader ≡ true) × (result.0.seat.me.0.is_publisher ≡ false) × (result.0.seat.me.0.reader.holds ≡ true) × (result.0.place ≡ result.0.seat.me.0.reader.place) × (result.0.place < 3) × (result.0.number ≡ length result.0.seat.me.0.reader.held) × (P.content result.0.plan ≡ result.0.seat.me.0.reader.held) × (P.base result.0.plan ≡ result.0.seat.me.0.reader.base) }
+    ensures swaps { Exchanges hold.seat.me.0.reader result.1 result.0.seat.me.0.reader }
+{
+    let Hold {
+        mut seat,
+        plan,
+        place,
+        number,
+    } = hold;
+    match words.exchange(&mut seat, place as usize, Some(plan)) {
+        None => {}
+        Some(_) => unreachable!(),
+    }
+    let new = number as u64 * 4 + place;
+    let found = words.swap::<Swap<P>>(&mut seat, WORD, new);
+    let place = found % 4;
+    let plan = words.exchange(&mut seat, place as usize, None).unwrap();
+    let number = plan.number();
+    let hold = Hold {
+        seat,
+        plan,
+        place,
+        number,
+    };
+    (hold, number)
 }
 
 impl<P: Numbered> Reader<P> {
@@ -40,58 +80,22 @@ impl<P: Numbered> Reader<P> {
         ensures content { P.content result.now ≡ self.now.0.held }
         ensures base { P.base result.now ≡ self.now.0.base }
     {
-        &self.plan
+        &self.hold.plan
     }
 
     /// Goes on to the newest plan, and answers its number.
     ///
-    /// One load of the graph word, and one exchange where its plan is newer than the own one. It neither
-    /// waits nor takes memory, and copies no plan.
+    /// One load of the graph word, and one exchange where its plan is newer than the own one; where it is not, nothing
+    /// moves. It neither waits nor takes memory, and copies no plan.
     pub fn take(&mut self) -> u32
         ensures { Takes self.old.0 result self.new.0 }
     {
-        mem::replace_with(self, (), |reader, _| reader.taken())
-    }
-
-    fn taken(self) -> (Reader<P>, u32)
-        ensures { Takes self.0 result.1 result.0.0 }
-    {
-        let Reader {
-            table,
-            mut seat,
-            plan,
-            place,
-            number,
-        } = self;
-        let words = &table.shared;
-        let found = words.load::<See>(&mut seat, WORD);
-        if found / 4 <= number as u64 {
-            let reader = Reader {
-                table,
-                seat,
-                plan,
-                place,
-                number,
-            };
-            return (reader, number);
+        let words = &self.table.shared;
+        let found = words.load::<See>(&mut self.hold.seat, WORD);
+        if found / 4 <= self.hold.number as u64 {
+            return self.hold.number;
         }
-        match words.exchange(&mut seat, place as usize, Some(plan)) {
-            None => {}
-            Some(_) => unreachable!(),
-        }
-        let new = number as u64 * 4 + place;
-        let found = words.swap::<Swap<P>>(&mut seat, WORD, new);
-        let place = found % 4;
-        let plan = words.exchange(&mut seat, place as usize, None).unwrap();
-        let number = plan.number();
-        let reader = Reader {
-            table,
-            seat,
-            plan,
-            place,
-            number,
-        };
-        (reader, number)
+        mem::replace_with(&mut self.hold, words, |hold, words| swapped(words, hold))
     }
 
     /// Begins a cycle with the plan of its place. One store of the cycle word.
@@ -101,6 +105,6 @@ impl<P: Numbered> Reader<P> {
         ensures plan { self.new.1 ≡ self.old.1 }
     {
         let words = &self.table.shared;
-        words.store::<Begin>(&mut self.seat, CYCLE, cycle as u64);
+        words.store::<Begin>(&mut self.hold.seat, CYCLE, cycle as u64);
     }
 }

@@ -2,7 +2,7 @@
 //! Word 0 is four times the number of the plan that it holds, and the plan's place, which is a slot. Word 1 is the cycle begun last.
 //! The other two slots are out with the publisher and the reader, whose plans lie outside the table.
 use crate::plans::{Base, Numbered};
-use atomic_table::{Seat, Table, TableRule};
+use atomic_table::{Seat, Shared, Table, TableRule};
 use jack_types::Change;
 use std::alloc::Global;
 use std::collections::LinkedList;
@@ -84,5 +84,7 @@ impl<P: Numbered> TableRule<Option<P>, SeatView, P> for Rules<P> {
 }
 
 pub(crate) type Board<P> = Table<Option<P>, SeatView, P, Rules<P>, Global>;
+
+pub(crate) type Words<P> = Shared<Option<P>, SeatView, P, Rules<P>>;
 
 pub(crate) type Place<P> = Seat<Option<P>, SeatView>;

@@ -6,7 +6,7 @@ use Rattle.graph_word.proofs.Meetings.{parts, joins, goes_back, meets}
 use Rattle.graph_word.proofs.ends.meet.Goals as goal
 
 pub split_seat-theirs-requires : goal.split_seat-theirs-requires
-split_seat-theirs-requires g c = (search rules, search rules, parts g.P.Numbered.content g.P.Numbered.base _ _ c.reader.inside.seat.me.0 c.reader.invariant.4)
+split_seat-theirs-requires g c = (search rules, search rules, parts g.P.Numbered.content g.P.Numbered.base _ _ c.reader.inside.hold.seat.me.0 c.reader.invariant.4)
 
 pub join_seat-requires : goal.join_seat-requires
 join_seat-requires g c =
