@@ -1,9 +1,10 @@
-ghost use Rattle.std.specs.Prelude.{None, IfSome, ◌≡◌, ◌≤◌, ◌+◌, ◌↔◌, length, IsTrue};
-ghost use Rattle.jack_host.specs.declared.real.TheConstants.{GATHERED};
+ghost use Rattle.std.specs.Prelude.{None, IfOk, ◌≡◌, ◌≤◌, ◌+◌, ◌↔◌, length, IsTrue};
+ghost use Rattle.std.specs.Io.{ReadsAtMost};
 ghost use Rattle.jack_host.specs.Causes.{HasCause};
 
 use crate::{Failed, Host, Sink, Source, Store};
-use std::alloc::Global;
+use jack_types::Memory;
+use std::alloc::{AllocError, Global};
 use std::fs;
 use std::fs::{File, Files};
 use std::io::{Read, Seek, SeekFrom, Write};
@@ -11,25 +12,25 @@ use std::io::{Read, Seek, SeekFrom, Write};
 /// How many bytes one call of the system moves at most, so that a period of frames costs none.
 const GATHERED: usize = 32_768;
 
-/// A file that is read, some 32 KiB at a time. It tells no bytes. Its room is taken when it is opened.
+/// A file that is read, some 32 KiB at a time where there is room for them. It tells no bytes.
 #[derive(Drop)]
 pub struct FileSource {
     file: File,
-    gathered: Vec<u8>,
+    room: Vec<u8>,
     at: usize,
     end: usize,
     faults: u64,
     ghost ordered: { at ≤ end },
-    ghost within: { end ≤ length gathered.items },
+    ghost within: { end ≤ length room.items },
 }
 
 impl FileSource {
-    fn new(file: File, gathered: Vec<u8>) -> FileSource
+    fn new(file: File, room: Vec<u8>) -> FileSource
         ensures { result.faults ≡ 0 }
     {
         FileSource {
             file,
-            gathered,
+            room,
             at: 0,
             end: 0,
             faults: 0,
@@ -42,11 +43,25 @@ impl FileSource {
     {
         self.at = 0;
         self.end = 0;
-        match self.file.read(&mut self.gathered[..]) {
+        match self.file.read(&mut self.room[..]) {
             Ok(count) => {
                 self.end = count;
                 Ok(())
             }
+            Err(_) => {
+                self.faults = self.faults.saturating_add(1);
+                Err(Failed)
+            }
+        }
+    }
+
+    // Reads more bytes than there is room for straight into their place.
+    fn read_through(&mut self, buffer: &mut [u8]) -> Result<usize, Failed>
+        ensures bound { ReadsAtMost result buffer.new }
+        ensures cause { HasCause self.old.faults self.new.faults result }
+    {
+        match self.file.read(buffer) {
+            Ok(count) => Ok(count),
             Err(_) => {
                 self.faults = self.faults.saturating_add(1);
                 Err(Failed)
@@ -60,7 +75,7 @@ impl FileSource {
         ensures faults { self.new.faults ≡ self.old.faults }
     {
         let count = buffer.len().min(self.end - self.at);
-        buffer[..count].copy_from_slice(&self.gathered[self.at..self.at + count]);
+        buffer[..count].copy_from_slice(&self.room[self.at..self.at + count]);
         self.at += count;
         count
     }
@@ -73,6 +88,9 @@ impl Source for FileSource {
 
     fn read(&mut self, buffer: &mut [u8]) -> Result<usize, Failed> {
         if self.at == self.end {
+            if buffer.len() >= self.room.len() {
+                return self.read_through(buffer);
+            }
             self.gather()?;
         }
         Ok(self.give(buffer))
@@ -84,26 +102,23 @@ impl Source for FileSource {
 struct Gathered {
     bytes: Vec<u8>,
     count: usize,
-    ghost whole: { length bytes.items ≡ GATHERED },
-    ghost within: { count ≤ GATHERED },
+    ghost within: { count ≤ length bytes.items },
 }
 
 impl Gathered {
-    fn new(bytes: Vec<u8>) -> Gathered
-        requires { length bytes.items ≡ GATHERED }
-    {
+    fn new(bytes: Vec<u8>) -> Gathered {
         Gathered { bytes, count: 0 }
     }
 
     // Whether as many bytes more have room.
     fn has_room(&self, more: usize) -> bool
-        ensures { IsTrue result ↔ (self.now.count + more ≤ GATHERED) }
+        ensures { IsTrue result ↔ (self.now.count + more ≤ length self.now.bytes.items) }
     {
-        more <= GATHERED - self.count
+        more <= self.bytes.len() - self.count
     }
 
     fn add(&mut self, bytes: &[u8])
-        requires { self.old.count + length bytes.now ≤ GATHERED }
+        requires { self.old.count + length bytes.now ≤ length self.old.bytes.items }
     {
         let end = self.count + bytes.len();
         self.bytes[self.count..end].copy_from_slice(bytes);
@@ -111,7 +126,8 @@ impl Gathered {
     }
 
     fn clear(&mut self)
-        ensures { self.new.count ≡ 0 }
+        ensures empty { self.new.count ≡ 0 }
+        ensures room { self.new.bytes ≡ self.old.bytes }
     {
         self.count = 0;
     }
@@ -121,7 +137,7 @@ impl Gathered {
     }
 }
 
-/// A file that is written, some 32 KiB at a time. It tells neither its name nor its bytes.
+/// A file that is written, some 32 KiB at a time where there is room for them. It tells neither its name nor its bytes.
 ///
 /// A failed write of gathered bytes shows at the next write, or when the file is handed back.
 #[derive(Drop)]
@@ -136,7 +152,6 @@ pub struct FileStore {
 
 impl FileStore {
     fn new(file: File, room: Vec<u8>) -> FileStore
-        requires { length room.items ≡ GATHERED }
         ensures { result.faults ≡ 0 }
     {
         FileStore {
@@ -216,7 +231,7 @@ impl Store for FileStore {
             return Ok(());
         }
         self.write_out()?;
-        if bytes.len() > GATHERED {
+        if !self.gathered.has_room(bytes.len()) {
             return self.write_through(place, bytes);
         }
         self.place = place;
@@ -256,50 +271,72 @@ impl<W: Write + Drop> Sink for WriterSink<W> {
     }
 }
 
-// A file that is there, with room for its bytes; none where either is wanting.
-fn opened<R: Files<File = File>>(alloc: Global, files: &R, name: &str) -> Option<FileSource>
-    ensures { IfSome result (λ input. input.faults ≡ 0) }
+// Rooms for the bytes of so many files.
+fn make_rooms(alloc: Global, files: usize) -> Result<Vec<Vec<u8>>, AllocError>
+    ensures { IfOk result (λ rooms. length rooms.items ≡ files) }
 {
-    let gathered = vec![in alloc; 0; GATHERED].ok()?;
-    let file = fs::open(files, name).ok()?;
-    Some(FileSource::new(file, gathered))
-}
-
-// A new file in place of what was there, with room for its bytes; none where either is wanting. The room is taken
-// first, so that what was there stays where it is wanting.
-fn made<R: Files<File = File>>(alloc: Global, files: &R, name: &str) -> Option<FileStore>
-    ensures { IfSome result (λ output. output.faults ≡ 0) }
-{
-    let room = vec![in alloc; 0; GATHERED].ok()?;
-    let file = fs::create(files, name).ok()?;
-    Some(FileStore::new(file, room))
+    let mut rooms = Vec::with_capacity(alloc, files)?;
+    for place in 0..files {
+        rooms.push_reserved(vec![in alloc; 0; GATHERED]?);
+    }
+    Ok(rooms)
 }
 
 /// The files of the system, over a runtime. It tells no files.
 ///
-/// Where the room for a file's bytes is wanting, the file cannot be opened or made.
+/// It has rooms for the bytes of so many files. Of a file that is opened or made while all rooms are out, each call
+/// moves its own bytes. All memory is taken when the host is made.
 #[derive(Drop)]
 pub struct FileHost<'a, R> {
     alloc: Global,
     files: &'a R,
+    rooms: Vec<Vec<u8>>,
     read_faults: u64,
     write_faults: u64,
     lent: u64,
 }
 
 impl<'a, R: Files<File = File>> FileHost<'a, R> {
-    /// A host over this runtime, with no object out.
-    pub fn new(alloc: Global, files: &'a R) -> FileHost<'a, R>
-        ensures reads { result.read_faults ≡ 0 }
-        ensures writes { result.write_faults ≡ 0 }
-        ensures lent { result.lent ≡ 0 }
+    /// A host over this runtime, with no object out, and rooms for so many files at the same time, of 32 KiB each.
+    pub fn new(alloc: Global, files: &'a R, rooms: usize) -> Result<FileHost<'a, R>, Memory>
+        ensures rooms { IfOk result (λ host. length host.rooms.items ≡ rooms) }
+        ensures reads { IfOk result (λ host. host.read_faults ≡ 0) }
+        ensures writes { IfOk result (λ host. host.write_faults ≡ 0) }
+        ensures lent { IfOk result (λ host. host.lent ≡ 0) }
     {
-        FileHost {
-            alloc,
-            files,
-            read_faults: 0,
-            write_faults: 0,
-            lent: 0,
+        match make_rooms(alloc, rooms) {
+            Ok(rooms) => Ok(FileHost {
+                alloc,
+                files,
+                rooms,
+                read_faults: 0,
+                write_faults: 0,
+                lent: 0,
+            }),
+            Err(_) => Err(Memory),
+        }
+    }
+
+    // A room that is not out, or none at all.
+    fn take_room(&mut self) -> Vec<u8>
+        ensures reads { self.new.read_faults ≡ self.old.read_faults }
+        ensures writes { self.new.write_faults ≡ self.old.write_faults }
+        ensures lent { self.new.lent ≡ self.old.lent }
+    {
+        match self.rooms.pop() {
+            Some(room) => room,
+            None => Vec::new(self.alloc),
+        }
+    }
+
+    // Takes a file's room back.
+    fn keep_room(&mut self, room: Vec<u8>)
+        ensures reads { self.new.read_faults ≡ self.old.read_faults }
+        ensures writes { self.new.write_faults ≡ self.old.write_faults }
+        ensures lent { self.new.lent ≡ self.old.lent }
+    {
+        if !room.is_empty() && self.rooms.len() < self.rooms.capacity() {
+            self.rooms.push_reserved(room);
         }
     }
 }
@@ -318,12 +355,12 @@ impl<'a, R: Files<File = File>> Host for FileHost<'a, R> {
     ghost lent = { λ h. h.lent };
 
     fn open_in(&mut self, name: &str) -> Result<FileSource, Failed> {
-        match opened(self.alloc, self.files, name) {
-            Some(input) => {
+        match fs::open(self.files, name) {
+            Ok(file) => {
                 self.lent += 1;
-                Ok(input)
+                Ok(FileSource::new(file, self.take_room()))
             }
-            None => {
+            Err(_) => {
                 self.read_faults = self.read_faults.saturating_add(1);
                 Err(Failed)
             }
@@ -333,15 +370,16 @@ impl<'a, R: Files<File = File>> Host for FileHost<'a, R> {
     fn back(&mut self, input: FileSource) {
         self.read_faults = self.read_faults.saturating_add(input.faults);
         self.lent -= 1;
+        self.keep_room(input.room);
     }
 
     fn make_out(&mut self, name: &str) -> Result<FileStore, Failed> {
-        match made(self.alloc, self.files, name) {
-            Some(output) => {
+        match fs::create(self.files, name) {
+            Ok(file) => {
                 self.lent += 1;
-                Ok(output)
+                Ok(FileStore::new(file, self.take_room()))
             }
-            None => {
+            Err(_) => {
                 self.write_faults = self.write_faults.saturating_add(1);
                 Err(Failed)
             }
@@ -352,6 +390,7 @@ impl<'a, R: Files<File = File>> Host for FileHost<'a, R> {
         let written = output.write_out();
         self.write_faults = self.write_faults.saturating_add(output.faults);
         self.lent -= 1;
+        self.keep_room(output.gathered.bytes);
         written
     }
 }

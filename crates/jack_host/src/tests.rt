@@ -81,7 +81,7 @@ fn a_host_in_memory_refuses_as_listed(rt: HostRuntime) -> Result<(), Fail> {
 
 #[test]
 fn real_files_keep_what_was_written(rt: HostRuntime) -> Result<(), Fail> {
-    let mut host = FileHost::new(rt.alloc(), &rt);
+    let mut host = FileHost::new(rt.alloc(), &rt, 1)?;
     let mut output = host.make_out("made").map_err(|_| "not made")?;
     assert_eq!(rt; output.write_at(0, b"hallo"), Ok(()));
     assert_eq!(rt; output.write_at(1, b"e"), Ok(()));
@@ -96,10 +96,31 @@ fn real_files_keep_what_was_written(rt: HostRuntime) -> Result<(), Fail> {
 }
 
 #[test]
+fn a_file_without_a_room_moves_the_bytes_of_each_call(rt: HostRuntime) -> Result<(), Fail> {
+    let mut host = FileHost::new(rt.alloc(), &rt, 1)?;
+    let roomy = host.make_out("roomy").map_err(|_| "not made")?;
+    let mut bare = host.make_out("bare").map_err(|_| "not made")?;
+    assert_eq!(rt; bare.write_at(0, b"hallo"), Ok(()));
+    assert_eq!(rt; bare.write_at(5, b"!"), Ok(()));
+    assert_eq!(rt; bare.write_at(1, b"e"), Ok(()));
+    assert_eq!(rt; host.done(bare), Ok(()));
+    assert_eq!(rt; host.done(roomy), Ok(()));
+    let roomy = host.open_in("roomy").map_err(|_| "not there")?;
+    let mut bare = host.open_in("bare").map_err(|_| "not there")?;
+    let bytes = read_by(rt.alloc(), &mut bare, &mut [0; 4])?;
+    host.back(bare);
+    host.back(roomy);
+    fs::remove_file(&rt, "roomy")?;
+    fs::remove_file(&rt, "bare")?;
+    assert_eq!(rt; bytes.as_slice(), b"hello!".as_slice());
+    Ok(())
+}
+
+#[test]
 fn a_long_file_is_written_in_order(rt: HostRuntime) -> Result<(), Fail> {
     let alloc = rt.alloc();
     let piece = vec![in alloc; 7u8; 10_000]?;
-    let mut host = FileHost::new(rt.alloc(), &rt);
+    let mut host = FileHost::new(rt.alloc(), &rt, 1)?;
     let mut output = host.make_out("long").map_err(|_| "not made")?;
     for k in 0..8 {
         assert_eq!(rt; output.write_at(10_000 * k, &piece), Ok(()));

@@ -15,6 +15,9 @@ use std::{env, io};
 // The exit code where the help or the version can't be made or printed.
 const UNPRINTED: u8 = 6;
 
+// The most files of a call: the script, the capture, the playback, and a file of each of four recorders.
+const MOST_FILES: usize = 7;
+
 // The words of the command line, without the program's name.
 fn words(rt: &(impl Env + AllocGlobal)) -> io::Result<Vec<String>> {
     let mut words = Vec::new(rt.alloc());
@@ -57,7 +60,9 @@ fn main(rt: HostRuntime) -> ExitCode {
     let Ok(guests) = hand_in(rt.alloc()) else {
         return ExitCode::from(Status::NoMemory.code());
     };
-    let mut host = FileHost::new(rt.alloc(), &rt);
+    let Ok(mut host) = FileHost::new(rt.alloc(), &rt, words.len().min(MOST_FILES)) else {
+        return ExitCode::from(Status::NoMemory.code());
+    };
     let mut out = WriterSink::new(io::writer(&rt));
     let status = jackd(
         &rt,
