@@ -63,12 +63,14 @@ clamp-sample : (x : ℤ) → FitsSigned w32 x → clamp (pos 0 +ℤ x) ≡ x
 clamp-sample (pos n) fits = grind (arith, ints)
 clamp-sample (negsuc n) fits = grind (arith, ints)
 
+pub sample-alone : (frames : ℕ) (part : List ℤ) (k : ℕ) → k < frames → AreSamples part → sample (mix frames (part ∷ [])) k ≡ sample part k
+sample-alone frames part k within small = get_or-map_below (λ i. clamp (total (map (λ part. sample part i) (part ∷ [])))) frames k (pos 0) within ∙ clamp-sample (sample part k) (small k)
+
 -- the mix of a part alone is the part, with silence behind its end
 pub mix-alone : (frames : ℕ) (samples part : List ℤ) → length samples ≡ frames → ((k : ℕ) → k < frames → sample samples k ≡ sample part k) → AreSamples part → samples ≡ mix frames (part ∷ [])
 mix-alone frames samples part long same small =
     ext_get_or (pos 0) samples (mix frames (part ∷ [])) (long ∙ sym (length-mix frames (part ∷ [])))
-    (λ k h. same k (omega (arith, h, long)) ∙ sym (clamp-sample (sample part k) (small k))
-    ∙ sym (get_or-map_below (λ i. clamp (total (map (λ part. sample part i) (part ∷ [])))) frames k (pos 0) (omega (arith, h, long))))
+    (λ k h. same k (omega (arith, h, long)) ∙ sym (sample-alone frames part k (omega (arith, h, long)) small))
 
 -- silence before and behind a sample adds nothing to it
 silence-before : (x : ℤ) → x ≡ pos 0 +ℤ x

@@ -4,19 +4,19 @@
 --     LiesWithin frames outputs carried      that output lies within them
 --     with_output frames outputs buffers carried      buffers into which it was copied
 --     signals_in, AreRooms      what rooms hold, and what stays true of them
-use Rattle.std.specs.Prelude.{◌≡◌, ℕ, ◌+◌, ◌*◌, ◌≤◌, ⊤, List, [], ℤ, Option, Some, None, length, map, take, slice_range, All, vec_capacity}
+use Rattle.std.specs.Prelude.{ℕ, ◌+◌, ◌*◌, ◌≤◌, ⊤, List, [], ℤ, Option, Some, None, length, map, take, slice_range, All, vec_capacity}
 use Rattle.session_model.specs.Benches.{Signal, no_signal}
 use Rattle.client_kinds.specs.Buffers.{with_buffer}
 use Rattle.client_benches.specs.declared.known.Room.TheInside.{Inside as RoomInside}
-use Rattle.client_benches.specs.declared.values.Rooms.TheInside.{Inside as RoomsInside}
+use Rattle.client_benches.specs.declared.values.Load.{Load}
 
 -- the first so many samples
 abbrev pub samples_in : RoomInside → List ℤ
 samples_in room = take room.frames room.samples.items
 
 pub record IsRoom (room : RoomInside) : Type 0 where
-  pub most : length room.samples.items ≡ 4096
-  pub within : room.frames ≤ 4096
+  pub most : 4096 ≤ vec_capacity room.samples
+  pub within : room.frames ≤ length room.samples.items
 
 -- outputs lie one after the other, a period each
 abbrev pub signal_of : ℕ → List ℤ → Option ℕ → Signal
@@ -32,10 +32,10 @@ with_output frames outputs buffers (Some j) = with_buffer frames j buffers (slic
 with_output frames outputs buffers None = buffers
 
 -- a signal per connection
-abbrev pub signals_in : RoomsInside → List Signal
-signals_in rooms = map (signal_of rooms.frames rooms.outputs.items) rooms.carried.items
+abbrev pub signals_in : Load → List Signal
+signals_in load = map (signal_of load.frames load.outputs.items) load.carried.items
 
-pub record AreRooms (rooms : RoomsInside) : Type 0 where
-  pub most : 65536 ≤ vec_capacity rooms.outputs
-  pub carried : All (LiesWithin rooms.frames rooms.outputs.items) rooms.carried.items
-  pub capacity : 512 ≤ vec_capacity rooms.carried
+pub record AreRooms (load : Load) : Type 0 where
+  pub most : 65536 ≤ vec_capacity load.outputs
+  pub carried : All (LiesWithin load.frames load.outputs.items) load.carried.items
+  pub capacity : 512 ≤ vec_capacity load.carried

@@ -3,11 +3,12 @@
 ghost use Rattle.std.specs.Prelude.{◌≡◌, ◌≤◌, IfOk, [], length, take};
 
 use crate::MOST_FRAMES;
+use crate::values::lengthen;
 use jack_types::Memory;
 use std::alloc::Global;
 use std::marker::Model;
 
-/// Room for one period of one connection, of 4,096 frames at most.
+/// Room for one period of one connection, of 4,096 frames at most. Of it no more is touched than was needed so far.
 ///
 /// Contracts see the samples that were put into it last.
 #[derive(Drop)]
@@ -42,7 +43,7 @@ impl Room {
     pub fn new(alloc: Global) -> Result<Room, Memory>
         ensures { IfOk result (λ room. room ≡ []) }
     {
-        match vec![in alloc; 0; MOST_FRAMES] {
+        match Vec::with_capacity(alloc, MOST_FRAMES) {
             Ok(samples) => Ok(Room { samples, frames: 0 }),
             Err(_) => Err(Memory),
         }
@@ -54,6 +55,7 @@ impl Room {
         ensures { self.new ≡ samples.now }
     {
         self.frames = samples.len();
+        lengthen(&mut self.samples, samples.len());
         put_front(&mut self.samples, samples);
     }
 

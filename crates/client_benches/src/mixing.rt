@@ -4,24 +4,14 @@ ghost use Rattle.std.specs.Prelude.{◌≡◌, ℕ, ◌+◌, ◌*◌, ◌<◌, �
 ghost use Rattle.activation.specs.Values.{values_of};
 ghost use Rattle.session_model.specs.Benches.{audio_part};
 ghost use Rattle.session_model.specs.Samples.{clamp, mix, sample};
-ghost use Rattle.port_mixer.specs.Sums.{AreSamples, sums_of};
+ghost use Rattle.port_mixer.specs.Sums.{sums_of};
 ghost use Rattle.client_kinds.specs.Buffers.{buffers_of, with_buffer};
 ghost use Rattle.client_benches.specs.Wires.{inputs_of, parts_into};
 
 use crate::values::Rooms;
 use crate::wires::Wire;
 use client_kinds::Shape;
-use port_mixer::Mixer;
-
-/// Sees that each sample is a number of 32 bits. Nothing else is done, and nothing is left of it in
-/// the program.
-fn see_samples(part: &[i32])
-    ensures { AreSamples part.now }
-{
-    for sample in part {
-        let _seen = *sample;
-    }
-}
+use port_mixer::{Mixer, see_samples};
 
 /// Copies a part of any length in the place of a mix of it alone: what it lacks is silence, and what lies behind the last
 /// frame is not heard.

@@ -28,6 +28,12 @@ pub struct Route {
 /// lies there once. Contracts see a signal per connection.
 #[derive(Drop)]
 pub struct Rooms {
+    load: Box<Load>,
+}
+
+/// The load of a link. It lies in one place, since a crew hands it from bench to bench in each cycle.
+#[derive(Drop)]
+struct Load {
     outputs: Vec<i32>,
     frames: usize,
     carried: Vec<Option<u16>>,
@@ -41,9 +47,9 @@ impl Model for Rooms {
 
     ghost use Rattle.client_benches.specs.Rooms.{signals_in, AreRooms};
 
-    ghost view = { signals_in };
+    ghost view = { λ r. signals_in r.load.value };
 
-    ghost invariant = { AreRooms };
+    ghost invariant = { λ r. AreRooms r.load.value };
 }
 
 /// The room of a link.
@@ -52,15 +58,19 @@ fn make_rooms(alloc: Global) -> Result<Rooms, AllocError>
 {
     let outputs = Vec::with_capacity(alloc, MOST_PORTS * MOST_FRAMES)?;
     let carried = Vec::with_capacity(alloc, MOST_CONNECTIONS)?;
-    Ok(Rooms {
-        outputs,
-        frames: 0,
-        carried,
-    })
+    let load = Box::new(
+        alloc,
+        Load {
+            outputs,
+            frames: 0,
+            carried,
+        },
+    )?;
+    Ok(Rooms { load })
 }
 
 /// Makes the samples no fewer than this, within their room.
-fn lengthen(samples: &mut Vec<i32>, least: usize)
+pub(crate) fn lengthen(samples: &mut Vec<i32>, least: usize)
     requires { least ≤ vec_capacity samples.old }
     ensures least { least ≤ length samples.new.items }
     ensures capacity { vec_capacity samples.new ≡ vec_capacity samples.old }
@@ -85,10 +95,11 @@ impl Rooms {
     pub fn audio(&self, connection: usize) -> &[i32]
         ensures { result.now ≡ (slice_index_or self.now connection no_signal).audio }
     {
-        match self.carried.get(connection) {
+        let load = &*self.load;
+        match load.carried.get(connection) {
             Some(Some(output)) => {
-                let first = usize::from(*output) * self.frames;
-                &self.outputs[first..first + self.frames]
+                let first = usize::from(*output) * load.frames;
+                &load.outputs[first..first + load.frames]
             }
             _ => &[],
         }
@@ -103,11 +114,12 @@ impl Rooms {
         requires outputs { ports.outputs * ports.period ≤ length outputs.now }
         ensures { self.new ≡ carried_by ports.period (buffers_of ports.outputs ports.period outputs.now) link routes.now }
     {
-        self.frames = ports.period as usize;
-        lengthen(&mut self.outputs, usize::from(ports.outputs) * self.frames);
+        let load = &mut *self.load;
+        load.frames = ports.period as usize;
+        lengthen(&mut load.outputs, usize::from(ports.outputs) * load.frames);
         copy_routes(
-            &mut self.carried,
-            &mut self.outputs,
+            &mut load.carried,
+            &mut load.outputs,
             routes,
             link,
             ports,
@@ -119,6 +131,6 @@ impl Rooms {
     pub(crate) fn clear(&mut self)
         ensures { self.new ≡ [] }
     {
-        self.carried.clear();
+        self.load.carried.clear();
     }
 }

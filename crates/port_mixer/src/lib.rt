@@ -5,4 +5,4 @@ mod mixing;
 #[cfg(test)]
 mod tests;
 
-pub use mixing::Mixer;
+pub use mixing::{Mixer, see_samples};

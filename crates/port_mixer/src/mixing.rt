@@ -34,7 +34,7 @@ impl Model for Mixer {
 
 /// Sees that each sample is a number of 32 bits. Nothing else is done, and nothing is left of it in
 /// the program.
-fn see_samples(part: &[i32])
+pub fn see_samples(part: &[i32])
     ensures { AreSamples part.now }
 {
     for sample in part {

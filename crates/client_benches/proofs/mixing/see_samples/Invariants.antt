@@ -1,8 +1,0 @@
-use Rattle.std.proofs.Common.{ℕ, ◌<◌}
-use Rattle.std.specs.Prelude.{FitsSigned}
-use Rattle.std.specs.Int.{w32}
-use Rattle.session_model.specs.Samples.{sample}
-use Rattle.client_benches.proofs.mixing.see_samples.Given as goal
-
-abbrev pub invariant-loop-sample : goal.invariant-loop-sample
-invariant-loop-sample l = (k : ℕ) → k < l.sample-index → FitsSigned w32 (sample l.part k)
