@@ -2,7 +2,7 @@
 use Rattle.std.proofs.Common.{◌≡◌, ◌≢◌, ℕ, zero, suc, ◌+◌, ◌-◌, ◌*◌, ◌<◌, ◌≤◌, Bool, true, false, nat_lt, List, [], ◌∷◌, ◌++◌, length, map, take, drop, get_or, ℤ, pos, Option, Some, None, refl, sym, ◌∙◌, ap, ap₂, subst, arith, append-nil}
 use Rattle.std.specs.Prelude.{min, slice_index_or, slice_range}
 use Rattle.std.proofs.Math.Nat.{suc-mul}
-use Rattle.std.proofs.lemmas.List.{ext_get_or, get_or_append_left, get_or_past, get_or-append-add, get_or-drop, get_or-map, get_or-set_other, get_or-set_same, get_or-take, length-append, length-drop, length-take-le, nil_from_length, take-append-drop, take-append-le, take_all}
+use Rattle.std.proofs.lemmas.List.{ext_get_or, get_or_append_left, get_or_past, get_or-append-add, get_or-drop, get_or-map, get_or-set_other, get_or-set_same, get_or-take, length-append, length-drop, length-set, length-take-le, nil_from_length, take-append-drop, take-append-le, take_all}
 use Rattle.std.proofs.lemmas.List.Concat.{flat_map-append}
 use Rattle.std.proofs.Math.ListN.{set}
 use Rattle.std.proofs.lemmas.Bool.{ltb-false, ltb-true}
@@ -87,6 +87,29 @@ laid_more n i p block samples x within fits is before j less = one (nat_lt j i) 
 pub others_stay : (n i p : ℕ) (block old : List ℤ) (x : ℤ) → p < n → ((j c : ℕ) → c < n → c ≢ p → sample block (j * n + c) ≡ sample old (j * n + c))
     → (j c : ℕ) → c < n → c ≢ p → sample (set block (i * n + p) x) (j * n + c) ≡ sample old (j * n + c)
 others_stay n i p block old x within before j c low other = get_or-set_other block (i * n + p) (j * n + c) x (pos 0) (λ e. other (apart n j i c p low within e)) ∙ before j c low other
+
+-- two channels, a frame more
+pub pairs_more : (left right block : List ℤ) (x y : ℤ) (i frames : ℕ) → i < frames → length block ≡ frames * 2 → x ≡ sample left i → y ≡ sample right i → IsLaid 2 i (left ∷ right ∷ []) block
+    → IsLaid 2 (i + 1) (left ∷ right ∷ []) (set (set block (i * 2) x) (i * 2 + 1) y)
+pairs_more left right block x y i frames within long is also laid j c low few = one c few
+  where
+    first : List ℤ
+    first = set block (i * 2) x
+
+    left_laid : (j : ℕ) → j < i + 1 → sample first (j * 2 + 0) ≡ sample left j
+    left_laid = subst (λ (place : ℕ). (j : ℕ) → j < i + 1 → sample (set block place x) (j * 2 + 0) ≡ sample left j) (omega arith)
+        (laid_more 2 i 0 block left x (omega arith) (omega (arith, within, long)) is (λ k less. laid k 0 less (omega arith)))
+
+    right_before : (j : ℕ) → j < i → sample first (j * 2 + 1) ≡ sample right j
+    right_before j less = get_or-set_other block (i * 2) (j * 2 + 1) x (pos 0) (λ e. omega (arith, e)) ∙ laid j 1 less (omega arith)
+
+    right_laid : (j : ℕ) → j < i + 1 → sample (set first (i * 2 + 1) y) (j * 2 + 1) ≡ sample right j
+    right_laid = laid_more 2 i 1 first right y (omega arith) (omega (arith, within, long, length-set block (i * 2) x)) also right_before
+
+    one : (c : ℕ) → c < 2 → sample (set first (i * 2 + 1) y) (j * 2 + c) ≡ sample (get_or (left ∷ right ∷ []) c []) j
+    one zero few = get_or-set_other first (i * 2 + 1) (j * 2 + 0) y (pos 0) (λ e. omega (arith, e)) ∙ left_laid j low
+    one (suc zero) few = right_laid j low
+    one (suc (suc c)) few = absurd (omega (arith, few))
 
 -- the channels before it, and it
 pub laid_next : (frames n p : ℕ) (buffers : List (List ℤ)) (old samples block : List ℤ) → p < n → length buffers ≡ p → IsLaid n frames buffers old

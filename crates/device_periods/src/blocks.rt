@@ -58,3 +58,39 @@ pub fn lay_channel(block: &mut [i32], frames: usize, channels: usize, place: usi
         block[i * channels + place] = 0;
     }
 }
+
+/// Lays a sample of each of two channels, frame by frame.
+fn lay_pairs(block: &mut [i32], frames: usize, left: &[i32], right: &[i32])
+    requires block { length block.old ≡ frames * 2 }
+    requires frames { (frames ≤ length left.now) × (frames ≤ length right.now) }
+    ensures length { length block.new ≡ frames * 2 }
+    ensures laid { IsLaid 2 frames (left.now ∷ right.now ∷ []) block.new }
+{
+    for i in 0..frames {
+        block[i * 2] = left[i];
+        block[i * 2 + 1] = right[i];
+    }
+}
+
+/// Lays two channels of any length.
+fn lay_both(block: &mut [i32], frames: usize, left: &[i32], right: &[i32])
+    requires { length block.old ≡ frames * 2 }
+    ensures length { length block.new ≡ frames * 2 }
+    ensures laid { IsLaid 2 frames (left.now ∷ right.now ∷ []) block.new }
+{
+    if frames <= left.len() && frames <= right.len() {
+        lay_pairs(block, frames, left, right);
+    } else {
+        lay_channel(block, frames, 2, 0, left);
+        lay_channel(block, frames, 2, 1, right);
+    }
+}
+
+/// Lays two channels into an interleaved block of two, with zeros past the end of their samples.
+pub fn lay_two(block: &mut [i32], frames: usize, left: &[i32], right: &[i32])
+    requires { length block.old ≡ frames * 2 }
+    ensures laid { IsLaid 2 frames (left.now ∷ right.now ∷ []) block.new }
+    ensures whole { block.new ≡ interleaved frames (left.now ∷ right.now ∷ []) }
+{
+    lay_both(block, frames, left, right);
+}

@@ -6,5 +6,5 @@ mod captures;
 #[cfg(test)]
 mod tests;
 
-pub use blocks::{lay_channel, take_channel};
+pub use blocks::{lay_channel, lay_two, take_channel};
 pub use captures::Capture;

@@ -1,6 +1,6 @@
 //! The channels of the playback.
 
-ghost use Rattle.std.specs.Prelude.{◌≡◌, ℕ, ◌*◌, ◌<◌, ◌≤◌, ◌∷◌, [], MatchOption, length, map, take};
+ghost use Rattle.std.specs.Prelude.{◌≡◌, ℕ, ◌*◌, ◌<◌, ◌≤◌, ◌∷◌, [], IsTrue, MatchOption, length, map, take};
 ghost use Rattle.session_model.specs.Samples.{below, interleaved, mix};
 ghost use Rattle.playback_mix.specs.Mixes.{channel_mix, sounds_on};
 
@@ -8,9 +8,9 @@ use crate::sounds::samples_of;
 use client_benches::{ClientBench, add_part, copy_part};
 use client_kinds::Guest;
 use client_wiring::Heard;
-use device_periods::{Capture, lay_channel};
+use device_periods::{Capture, lay_channel, lay_two};
 use jack_host::Source;
-use port_mixer::Mixer;
+use port_mixer::{Mixer, see_samples};
 
 /// The samples of a channel that gets no more than one sound, no samples where it gets none.
 ///
@@ -85,6 +85,31 @@ fn mix_channel<G: Guest, S: Source>(
     }
 }
 
+/// Lays both channels of a stereo playback from the sounds themselves, where neither gets more than one. Says whether
+/// it did.
+fn lay_sounds<G: Guest, S: Source>(
+    benches: &[ClientBench<G>],
+    heard: &[Heard],
+    capture: &Capture<S>,
+    frames: usize,
+    block: &mut [i32],
+) -> bool
+    requires { length block.old ≡ frames * 2 }
+    ensures laid { IsTrue result → block.new ≡ interleaved frames (map (channel_mix frames benches.now capture.now.channels heard.now) (below 2)) }
+    ensures length { length block.new ≡ length block.old }
+{
+    let Some(left) = only_sound(benches, heard, capture, 0) else {
+        return false;
+    };
+    let Some(right) = only_sound(benches, heard, capture, 1) else {
+        return false;
+    };
+    see_samples(left);
+    see_samples(right);
+    lay_two(block, frames, left, right);
+    true
+}
+
 /// Mixes all channels, one after the other, into a block of as many frames as a channel has.
 fn mix_channels<G: Guest, S: Source>(
     mixer: &mut Mixer,
@@ -106,6 +131,9 @@ fn mix_channels<G: Guest, S: Source>(
     ensures frames { length out.new ≡ length out.old }
 {
     let frames = out.len();
+    if channels == 2 && lay_sounds(benches, heard, capture, frames, block) {
+        return;
+    }
     for channel in 0..channels {
         mix_channel(mixer, padded, benches, heard, capture, channel, out);
         lay_channel(block, frames, channels, channel, out);
