@@ -1,6 +1,7 @@
 #!/usr/bin/env bash
-# Want of memory, at each allocation of a play in turn, is answered by exit code 1, with nothing printed and no file made;
-# and a longer session makes no more allocations. The program is $JACKD, or crates/jackd/out/jackd as `rt run` leaves it,
+# Want of memory, at each allocation of a play in turn, is answered by exit code 1, with nothing printed and no file made,
+# or makes no difference, as where a vector's growth then asks for less (two at most); and a longer session makes no more
+# allocations. The program is $JACKD, or crates/jackd/out/jackd as `rt run` leaves it,
 # under an allocator that refuses one call; without gcc or python3 the check is passed over.
 set -u
 cd "$(dirname "$0")/.."
