@@ -172,7 +172,7 @@ next_stage desk lane plan is_script is_desk next = go (nat_le (2 * desk.phase) (
     go false t = absurd (again (is_desk.earlier plan in_plan (grind (arith, nat_tests))))
 
 -- an item before another one
-before_it : (xs : List Planned) (m n : ℕ) (x : Planned) → Ordered ByStage xs → m ≤ n → slice_get xs n ≡ Some x → (q : Planned) × (slice_get xs m ≡ Some q) × (q.stage ≤ x.stage)
+pub before_it : (xs : List Planned) (m n : ℕ) (x : Planned) → Ordered ByStage xs → m ≤ n → slice_get xs n ≡ Some x → (q : Planned) × (slice_get xs m ≡ Some q) × (q.stage ≤ x.stage)
 before_it [] m n x o l h = absurd (none-some x h)
 before_it (y ∷ xs) zero zero x o l h = (y, refl, let s : y.stage ≡ x.stage = ap (λ (p : Planned). p.stage) (some-same y x h) in omega (arith, s))
 before_it (y ∷ xs) (suc m) zero x o l h = absurd (omega (arith, l))

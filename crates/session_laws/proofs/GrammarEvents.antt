@@ -45,7 +45,7 @@ digit-value n h = go (hex_digit n) (hex_digit-is n h)
     go c (inl p) = (grind (arith, p.0, p.1), grind (arith, p.0, p.1))
     go c (inr p) = (grind (arith, p.0, p.1), grind (arith, p.0, p.1))
 
-value-digit : (c : ℕ) → is_hex_digit c ≡ true → (hex_value c < 16) × (hex_digit (hex_value c) ≡ c)
+pub value-digit : (c : ℕ) → is_hex_digit c ≡ true → (hex_value c < 16) × (hex_digit (hex_value c) ≡ c)
 value-digit c h = (small, go (hex_value c) refl (hex_digit-is (hex_value c) small))
   where
     small : hex_value c < 16
@@ -57,13 +57,13 @@ value-digit c h = (small, go (hex_value c) refl (hex_digit-is (hex_value c) smal
 
 -- ---- pairs of digits
 
-with_pair-ok : (b : Bool) (byte : ℕ) (o : Option (List ℕ)) (bytes : List ℕ) → with_pair b byte o ≡ Some bytes → (others : List ℕ) × (b ≡ true) × (o ≡ Some others) × (bytes ≡ byte ∷ others)
+pub with_pair-ok : (b : Bool) (byte : ℕ) (o : Option (List ℕ)) (bytes : List ℕ) → with_pair b byte o ≡ Some bytes → (others : List ℕ) × (b ≡ true) × (o ≡ Some others) × (bytes ≡ byte ∷ others)
 with_pair-ok true byte (Some others) bytes e = (others, refl, refl, cc)
 with_pair-ok true byte None bytes e = absurd cc
 with_pair-ok false byte (Some others) bytes e = absurd cc
 with_pair-ok false byte None bytes e = absurd cc
 
-pair-byte : (a b : ℕ) → is_hex_digit a ≡ true → is_hex_digit b ≡ true → (hex_byte (hex_value a * 16 + hex_value b) ≡ a ∷ b ∷ []) × (hex_value a * 16 + hex_value b < 256)
+pub pair-byte : (a b : ℕ) → is_hex_digit a ≡ true → is_hex_digit b ≡ true → (hex_byte (hex_value a * 16 + hex_value b) ≡ a ∷ b ∷ []) × (hex_value a * 16 + hex_value b < 256)
 pair-byte a b h k = go (hex_value a) (hex_value b) (value-digit a h) (value-digit b k)
   where
     go : (m n : ℕ) → (m < 16) × (hex_digit m ≡ a) → (n < 16) × (hex_digit n ≡ b) → (hex_byte (m * 16 + n) ≡ a ∷ b ∷ []) × (m * 16 + n < 256)
@@ -74,7 +74,7 @@ pair-byte a b h k = go (hex_value a) (hex_value b) (value-digit a h) (value-digi
         let low : (m * 16 + n) % 16 ≡ n = omega arith in
         (rw (high, low, p.1, q.1) refl, omega arith)
 
-hex_bytes-is : (w bytes : List ℕ) → hex_bytes w ≡ Some bytes → (w ≡ flat_map hex_byte bytes) × AllByRecursion (λ b. b < 256) bytes
+pub hex_bytes-is : (w bytes : List ℕ) → hex_bytes w ≡ Some bytes → (w ≡ flat_map hex_byte bytes) × AllByRecursion (λ b. b < 256) bytes
 hex_bytes-is [] bytes e = let same : [] ≡ bytes = cc in subst (λ (bs : List ℕ). ([] ≡ flat_map hex_byte bs) × AllByRecursion (λ b. b < 256) bs) same (refl, tt)
 hex_bytes-is (a ∷ []) bytes e = absurd cc
 hex_bytes-is (a ∷ b ∷ others) bytes e =
@@ -85,7 +85,7 @@ hex_bytes-is (a ∷ b ∷ others) bytes e =
     subst (λ (bs : List ℕ). (a ∷ b ∷ others ≡ flat_map hex_byte bs) × AllByRecursion (λ b. b < 256) bs) (sym p.3)
     (ap (λ (w : List ℕ). a ∷ b ∷ w) later.0 ∙ ap (λ (w : List ℕ). w ++ flat_map hex_byte p.0) (sym q.0), (q.1, later.1))
 
-hex_bytes-again : (bytes : List ℕ) → AllByRecursion (λ b. b < 256) bytes → hex_bytes (flat_map hex_byte bytes) ≡ Some bytes
+pub hex_bytes-again : (bytes : List ℕ) → AllByRecursion (λ b. b < 256) bytes → hex_bytes (flat_map hex_byte bytes) ≡ Some bytes
 hex_bytes-again [] h = refl
 hex_bytes-again (b ∷ bytes) h =
     let lt : b < 256 = h.0 in
@@ -122,7 +122,7 @@ status-again bytes h =
     let b : nat_lt (slice_index bytes 0) 128 ≡ false = grind arith in
     rw (a, b) refl
 
-event_bytes-with : (bytes : List ℕ) → event_bytes (event_with bytes) ≡ bytes
+pub event_bytes-with : (bytes : List ℕ) → event_bytes (event_with bytes) ≡ bytes
 event_bytes-with bytes = take_at bytes (replicate (16 - length bytes) 0) (length bytes) refl
 
 with-listed : (frame : ℕ) (bytes : List ℕ) → frame ≤ 2147483647 → IsStatus bytes → AllByRecursion (λ b. b < 256) bytes → IsListed (frame, event_with bytes)
@@ -152,7 +152,7 @@ listed-status item l =
     let most = l.event.most in
     record { least = omega (arith, len); most = omega (arith, len); status = l.status }
 
-abbrev rebuilt : ℕ → ℕ → List ℕ → Event
+abbrev pub rebuilt : ℕ → ℕ → List ℕ → Event
 rebuilt offset size bytes = record { offset = offset; size = size; bytes = record { 0 = bytes } }
 
 listed-with : (item : ℕ × Event) → IsListed item → event_with (event_bytes item.1) ≡ item.1

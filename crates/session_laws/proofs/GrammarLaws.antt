@@ -92,7 +92,7 @@ is_script header order bodies h old goods few good limits =
 are_events : (header : Header) (order : List Item) (bodies : List Body) → Goods IsItem [] order → AreEvents (record { header = header; events = lists_of order; lines = bodies }) order
 are_events header order bodies goods = record { lists = All-from_recursion (λ (item : Item). item.0 < 16) order (goods-listed [] order goods).0; each = λ list lt. lists_of-at order list lt }
 
-abbrev IsSpelled : List Line → Script → Type 0
+abbrev pub IsSpelled : List Line → Script → Type 0
 IsSpelled lines script = IsScript script × ((choices : Choices) × AreChoices script choices × LinesFill lines (lines_by script choices))
 
 assemble : (end : ℕ) (lines : List Line) (v rate p capture : ℕ × List Line) (playback : (ℕ × ℕ) × List Line) (m : (Option ℕ × Bool) × List Line) (ring drain fill : ℕ × List Line) (recorders : List Format × List Line) (disks : List ℕ × List Line) (events : List Item × List Line) (body : List Body)

@@ -125,7 +125,7 @@ lists_of-count order p = few_below-sum 16 order ∙ few_below-all 16 order p
 
 -- ---- frames that do not fall
 
-abbrev Rises : ℕ → List ℕ → Type 0
+abbrev pub Rises : ℕ → List ℕ → Type 0
 Rises low [] = Unit {0}
 Rises low (x ∷ xs) = (low ≤ x) × Rises x xs
 

@@ -221,7 +221,7 @@ command-plain header h (Release client) p = let w = client-word client p in (((o
 command-plain header h (Latency mode port) p = let w = port-word port p in let m = mode-plain mode in (((omega arith, refl), (m.0, (w.0, tt))), omega (arith, w.1, m.1))
 
 -- a segment that is open has at most a million cycles
-abbrev IsSmall : Option ℕ → Type 0
+abbrev pub IsSmall : Option ℕ → Type 0
 IsSmall None = Unit {0}
 IsSmall (Some cycles) = cycles ≤ 1000000
 

@@ -29,7 +29,7 @@ none_below p = omega arith
 pub AreWired-graph : (course : Course) (k : ℕ) → AreWired (graph course k)
 AreWired-graph course k = AreWired-replay (first_state course) (take (number course k) course.changes) (AreWired-opening course.script.header.capture course.script.header.playback)
 
-Contains-take : {X : Type 0} (n : ℕ) (xs : List X) (x : X) → Contains (take n xs) x → Contains xs x
+pub Contains-take : {X : Type 0} (n : ℕ) (xs : List X) (x : X) → Contains (take n xs) x → Contains xs x
 Contains-take zero xs x m = absurd (none_below m.1)
 Contains-take (suc n) [] x m = absurd (none_below m.1)
 Contains-take {X} (suc n) (y ∷ xs) x m = go (Contains-cases y x (take n xs) m) (Contains-take n xs x)

@@ -214,7 +214,7 @@ flat_map-none f e (x ∷ xs) = ap₂ (λ ys zs. ys ++ zs) (e x) (flat_map-none f
 slice-none : {X : Type 0} (x : X) → None ≡ Some x → ⊥
 slice-none x e = cc
 
-slice-some : {X : Type 0} (x y : X) → Some x ≡ Some y → x ≡ y
+pub slice-some : {X : Type 0} (x y : X) → Some x ≡ Some y → x ≡ y
 slice-some x y e = cc
 
 pub slice_get-map : {X Y : Type 0} (f : X → Y) (xs : List X) (i : ℕ) (y : Y) → slice_get (map f xs) i ≡ Some y → (x : X) × (slice_get xs i ≡ Some x) × (f x ≡ y)

@@ -29,7 +29,7 @@ bytes_self a = (bytes_decides a a).1 refl
 abbrev is_inner : Connection → Bool
 is_inner edge = is_direct edge.mark && not (is_system (client_part edge.destination))
 
-abbrev joined : Connection → List ℕ × List ℕ
+abbrev pub joined : Connection → List ℕ × List ℕ
 joined edge = (client_part edge.source, client_part edge.destination)
 
 abbrev pub inner : List Connection → List (List ℕ × List ℕ)

@@ -21,7 +21,7 @@ use Rattle.session_laws.proofs.ListLemmas.{Each, Each-weaker, Each-all, Each-app
 use Rattle.session_laws.proofs.TextLemmas.{Lacks, cut-same, IsLine, joined_lines, lines-same, IsLine-line, Lacks-decimal, Lacks-hex}
 
 -- of constant bytes
-lacks : (s : ℕ) (bytes : List ℕ) → list_all (λ b. not (b == s)) bytes ≡ true → Lacks s bytes
+pub lacks : (s : ℕ) (bytes : List ℕ) → list_all (λ b. not (b == s)) bytes ≡ true → Lacks s bytes
 lacks s [] h = tt
 lacks s (b ∷ bytes) h =
     let parts : (not (b == s) ≡ true) × (list_all (λ c. not (c == s)) bytes ≡ true) = and_parts (not (b == s)) (list_all (λ c. not (c == s)) bytes) h in
@@ -29,7 +29,7 @@ lacks s (b ∷ bytes) h =
 
 -- ---- no LF within a line
 
-Lacks-name : (refusal : Refusal) → Lacks 10 (refusal_name refusal)
+pub Lacks-name : (refusal : Refusal) → Lacks 10 (refusal_name refusal)
 Lacks-name NoClient = lacks 10 (codes "NoClient") refl
 Lacks-name NoPort = lacks 10 (codes "NoPort") refl
 Lacks-name IsOpen = lacks 10 (codes "IsOpen") refl
@@ -52,23 +52,23 @@ Lacks-name Busy = lacks 10 (codes "Busy") refl
 Lacks-name NotMaster = lacks 10 (codes "NotMaster") refl
 Lacks-name InUse = lacks 10 (codes "InUse") refl
 
-number_lacks : (n : ℕ) → Lacks 10 (decimal n)
+pub number_lacks : (n : ℕ) → Lacks 10 (decimal n)
 number_lacks n = Lacks-decimal 10 n (omega arith)
 
-no_space : (n : ℕ) → Lacks 32 (decimal n)
+pub no_space : (n : ℕ) → Lacks 32 (decimal n)
 no_space n = Lacks-decimal 32 n (omega arith)
 
-reply_lacks : (reply : Reply) → Each (Lacks 10) (reply_words reply)
+pub reply_lacks : (reply : Reply) → Each (Lacks 10) (reply_words reply)
 reply_lacks (Accepted number) = (lacks 10 (codes "ok") refl, (number_lacks number, tt))
 reply_lacks (Refused refusal) = (lacks 10 (codes "refused") refl, (number_lacks (refusal_number refusal), (Lacks-name refusal, tt)))
 reply_lacks (Latency range) = (lacks 10 (codes "latency") refl, (number_lacks range.min, (number_lacks range.max, tt)))
 
-state_lacks : (state : TransportState) → Lacks 10 (state_name state)
+pub state_lacks : (state : TransportState) → Lacks 10 (state_name state)
 state_lacks Stopped = lacks 10 (codes "stopped") refl
 state_lacks Starting = lacks 10 (codes "starting") refl
 state_lacks Rolling = lacks 10 (codes "rolling") refl
 
-bbt_lacks : (place : Option Bbt) → Lacks 10 (bbt_word place)
+pub bbt_lacks : (place : Option Bbt) → Lacks 10 (bbt_word place)
 bbt_lacks None = lacks 10 (codes "-") refl
 bbt_lacks (Some place) =
     Each-append (λ b. b ≢ 10) (decimal place.bar ++ codes "|" ++ decimal place.beat ++ codes "|") (decimal place.tick)
@@ -78,42 +78,42 @@ bbt_lacks (Some place) =
     (lacks 10 (codes "|") refl))
     (number_lacks place.tick)
 
-call_is_line : (call : PrintedCall) → IsLine (call_line call)
+pub call_is_line : (call : PrintedCall) → IsLine (call_line call)
 call_is_line call =
     IsLine-line (codes "call" ∷ decimal call.lane ∷ decimal call.index ∷ reply_words call.reply)
     (lacks 10 (codes "call") refl, (number_lacks call.lane, (number_lacks call.index, reply_lacks call.reply)))
 
-cycle_is_line : (cycle : PrintedCycle) → IsLine (cycle_line cycle)
+pub cycle_is_line : (cycle : PrintedCycle) → IsLine (cycle_line cycle)
 cycle_is_line cycle =
     IsLine-line (codes "cycle" ∷ decimal cycle.moment.cycle ∷ decimal cycle.number ∷ state_name cycle.moment.state ∷ decimal cycle.moment.frame ∷ bbt_word cycle.moment.bbt ∷ [])
     (lacks 10 (codes "cycle") refl, (number_lacks cycle.moment.cycle, (number_lacks cycle.number, (state_lacks cycle.moment.state, (number_lacks cycle.moment.frame, (bbt_lacks cycle.moment.bbt, tt))))))
 
-meter_is_line : (meter : PrintedMeter) → Lacks 10 meter.client → IsLine (meter_line meter)
+pub meter_is_line : (meter : PrintedMeter) → Lacks 10 meter.client → IsLine (meter_line meter)
 meter_is_line meter h = IsLine-line (codes "meter" ∷ meter.client ∷ decimal meter.peak ∷ []) (lacks 10 (codes "meter") refl, (h, (number_lacks meter.peak, tt)))
 
-event_is_line : (event : PrintedEvent) → Lacks 10 event.client → IsLine (event_line event)
+pub event_is_line : (event : PrintedEvent) → Lacks 10 event.client → IsLine (event_line event)
 event_is_line event h =
     IsLine-line (codes "midi" ∷ event.client ∷ decimal event.logged.cycle ∷ decimal event.logged.event.offset ∷ flat_map hex_byte (event_bytes event.logged.event) ∷ [])
     (lacks 10 (codes "midi") refl, (h, (number_lacks event.logged.cycle, (number_lacks event.logged.event.offset, (Lacks-hex (event_bytes event.logged.event), tt)))))
 
-overrun_is_line : (overrun : Overrun) → IsLine (overrun_line overrun)
+pub overrun_is_line : (overrun : Overrun) → IsLine (overrun_line overrun)
 overrun_is_line overrun =
     IsLine-line (codes "overrun" ∷ decimal overrun.recorder ∷ decimal overrun.cycle ∷ decimal overrun.sent ∷ decimal overrun.taken ∷ [])
     (lacks 10 (codes "overrun") refl, (number_lacks overrun.recorder, (number_lacks overrun.cycle, (number_lacks overrun.sent, (number_lacks overrun.taken, tt)))))
 
-underrun_is_line : (underrun : Underrun) → IsLine (underrun_line underrun)
+pub underrun_is_line : (underrun : Underrun) → IsLine (underrun_line underrun)
 underrun_is_line underrun =
     IsLine-line (codes "underrun" ∷ decimal underrun.disk ∷ decimal underrun.cycle ∷ decimal underrun.sent ∷ decimal underrun.taken ∷ [])
     (lacks 10 (codes "underrun") refl, (number_lacks underrun.disk, (number_lacks underrun.cycle, (number_lacks underrun.sent, (number_lacks underrun.taken, tt)))))
 
-recorder_are_lines : (recorder : PrintedRecorder) → Each IsLine (recorder_lines recorder)
+pub recorder_are_lines : (recorder : PrintedRecorder) → Each IsLine (recorder_lines recorder)
 recorder_are_lines recorder = (
   IsLine-line (codes "recorder" ∷ decimal recorder.recorder ∷ decimal recorder.blocks ∷ decimal (length recorder.overruns) ∷ [])
       (lacks 10 (codes "recorder") refl, (number_lacks recorder.recorder, (number_lacks recorder.blocks, (number_lacks (length recorder.overruns), tt)))),
   Each-map IsLine overrun_line recorder.overruns (Each-all (λ overrun. IsLine (overrun_line overrun)) overrun_is_line recorder.overruns),
 )
 
-disk_are_lines : (disk : PrintedDisk) → Each IsLine (disk_lines disk)
+pub disk_are_lines : (disk : PrintedDisk) → Each IsLine (disk_lines disk)
 disk_are_lines disk = (
   IsLine-line (codes "disk" ∷ decimal disk.disk ∷ decimal disk.blocks ∷ decimal (length disk.underruns) ∷ [])
       (lacks 10 (codes "disk") refl, (number_lacks disk.disk, (number_lacks disk.blocks, (number_lacks (length disk.underruns), tt)))),
@@ -145,7 +145,7 @@ pub record IsReadable (report : Report) : Type 0 where
   pub overruns : Each (λ (recorder : PrintedRecorder). Each IsSmallOverrun recorder.overruns) report.recorders
   pub underruns : Each (λ (disk : PrintedDisk). Each IsSmallUnderrun disk.underruns) report.disks
 
-report_are_lines : (report : Report) → IsReadable report → Each IsLine (report_lines report)
+pub report_are_lines : (report : Report) → IsReadable report → Each IsLine (report_lines report)
 report_are_lines report h =
     let a : List (List ℕ) = line (codes "report" ∷ codes "1" ∷ []) ∷ map call_line report.calls in
     let b : List (List ℕ) = map cycle_line report.cycles in
@@ -175,13 +175,13 @@ part_of text =
     let b : ℕ = get_or text 1 0 in
     cond (a == 99) (cond (b == 97) 1 2) (cond (a == 109) (cond (b == 101) 3 4) (cond (a == 114) (cond (get_or text 2 0 == 99) 5 0) (cond (a == 111) 5 (cond (a == 100) 6 (cond (a == 117) 6 0)))))
 
-abbrev IsOf : ℕ → List ℕ → Type 0
+abbrev pub IsOf : ℕ → List ℕ → Type 0
 IsOf part text = part_of text ≡ part
 
-taken_all : (part : ℕ) (lines : List (List ℕ)) → Each (IsOf part) lines → filter (λ text. part_of text == part) lines ≡ lines
+pub taken_all : (part : ℕ) (lines : List (List ℕ)) → Each (IsOf part) lines → filter (λ text. part_of text == part) lines ≡ lines
 taken_all part lines h = filter-all (λ text. part_of text == part) lines (Each-weaker (IsOf part) (λ text. (part_of text == part) ≡ true) (λ text e. eq-eqb (part_of text) part e) lines h)
 
-taken_none : (part other : ℕ) (lines : List (List ℕ)) → other ≢ part → Each (IsOf other) lines → filter (λ text. part_of text == part) lines ≡ []
+pub taken_none : (part other : ℕ) (lines : List (List ℕ)) → other ≢ part → Each (IsOf other) lines → filter (λ text. part_of text == part) lines ≡ []
 taken_none part other lines apart h =
     filter-none (λ text. part_of text == part) lines (Each-weaker (IsOf other) (λ text. (part_of text == part) ≡ false) (λ text e. ne_eqb (part_of text) part (λ f. apart (sym e ∙ f))) lines h)
 
@@ -286,22 +286,22 @@ module _ (report : Report) where
 -- ---- lines back to what they say
 
 -- a line with at least two words is the first, a space and the line of the others
-line-cons : (word next : List ℕ) (words : List (List ℕ)) → line (word ∷ next ∷ words) ≡ word ++ 32 ∷ line (next ∷ words)
+pub line-cons : (word next : List ℕ) (words : List (List ℕ)) → line (word ∷ next ∷ words) ≡ word ++ 32 ∷ line (next ∷ words)
 line-cons word next words =
     append_assoc (word ++ codes " ") (spaced (next ∷ words)) (10 ∷ []) ∙ append_assoc word (codes " ") (line (next ∷ words))
 
-next-word : (w v a b : List ℕ) (ws vs : List (List ℕ)) → Lacks 32 w → Lacks 32 v → line (w ∷ a ∷ ws) ≡ line (v ∷ b ∷ vs) → (w ≡ v) × (line (a ∷ ws) ≡ line (b ∷ vs))
+pub next-word : (w v a b : List ℕ) (ws vs : List (List ℕ)) → Lacks 32 w → Lacks 32 v → line (w ∷ a ∷ ws) ≡ line (v ∷ b ∷ vs) → (w ≡ v) × (line (a ∷ ws) ≡ line (b ∷ vs))
 next-word w v a b ws vs h k e = cut-same 32 w v (line (a ∷ ws)) (line (b ∷ vs)) h k (sym (line-cons w a ws) ∙ e ∙ line-cons v b vs)
 
-next-number : (m n : ℕ) (a b : List ℕ) (ws vs : List (List ℕ)) → m < 2 ^ 64 → n < 2 ^ 64 → line (decimal m ∷ a ∷ ws) ≡ line (decimal n ∷ b ∷ vs) → (m ≡ n) × (line (a ∷ ws) ≡ line (b ∷ vs))
+pub next-number : (m n : ℕ) (a b : List ℕ) (ws vs : List (List ℕ)) → m < 2 ^ 64 → n < 2 ^ 64 → line (decimal m ∷ a ∷ ws) ≡ line (decimal n ∷ b ∷ vs) → (m ≡ n) × (line (a ∷ ws) ≡ line (b ∷ vs))
 next-number m n a b ws vs p q e =
     let w = next-word (decimal m) (decimal n) a b ws vs (no_space m) (no_space n) e in
     (decimal_injective m n p q w.0, w.1)
 
-last-number : (m n : ℕ) → m < 2 ^ 64 → n < 2 ^ 64 → line (decimal m ∷ []) ≡ line (decimal n ∷ []) → m ≡ n
+pub last-number : (m n : ℕ) → m < 2 ^ 64 → n < 2 ^ 64 → line (decimal m ∷ []) ≡ line (decimal n ∷ []) → m ≡ n
 last-number m n p q e = decimal_injective m n p q (cut-same 10 (decimal m) (decimal n) [] [] (number_lacks m) (number_lacks n) e).0
 
-reply_some : (reply : Reply) → (word : List ℕ) × (words : List (List ℕ)) × (reply_words reply ≡ word ∷ words)
+pub reply_some : (reply : Reply) → (word : List ℕ) × (words : List (List ℕ)) × (reply_words reply ≡ word ∷ words)
 reply_some (Accepted number) = (codes "ok", decimal number ∷ [], refl)
 reply_some (Refused refusal) = (codes "refused", decimal (refusal_number refusal) ∷ refusal_name refusal ∷ [], refl)
 reply_some (Latency range) = (codes "latency", decimal range.min ∷ decimal range.max ∷ [], refl)
@@ -319,7 +319,7 @@ call-same a b p q e =
     let k = next-number a.index b.index u.0 v.0 u.1 v.1 p.index q.index h in
     (λ i. (g.0 i, k.0 i))
 
-cycle-same : (a b : PrintedCycle) → a.number < 2 ^ 64 → b.number < 2 ^ 64 → cycle_line a ≡ cycle_line b → a.number ≡ b.number
+pub cycle-same : (a b : PrintedCycle) → a.number < 2 ^ 64 → b.number < 2 ^ 64 → cycle_line a ≡ cycle_line b → a.number ≡ b.number
 cycle-same a b p q e =
     let ws : PrintedCycle → List (List ℕ) = λ (c : PrintedCycle). decimal c.moment.frame ∷ bbt_word c.moment.bbt ∷ [] in
     let f = next-word (codes "cycle") (codes "cycle") (decimal a.moment.cycle) (decimal b.moment.cycle) (decimal a.number ∷ state_name a.moment.state ∷ ws a) (decimal b.number ∷ state_name b.moment.state ∷ ws b)
@@ -327,7 +327,7 @@ cycle-same a b p q e =
     let g = next-word (decimal a.moment.cycle) (decimal b.moment.cycle) (decimal a.number) (decimal b.number) (state_name a.moment.state ∷ ws a) (state_name b.moment.state ∷ ws b) (no_space a.moment.cycle) (no_space b.moment.cycle) f.1 in
     (next-number a.number b.number (state_name a.moment.state) (state_name b.moment.state) (ws a) (ws b) p q g.1).0
 
-overrun-same : (a b : Overrun) → IsSmallOverrun a → IsSmallOverrun b → overrun_line a ≡ overrun_line b → a ≡ b
+pub overrun-same : (a b : Overrun) → IsSmallOverrun a → IsSmallOverrun b → overrun_line a ≡ overrun_line b → a ≡ b
 overrun-same a b p q e =
     let f = next-word (codes "overrun") (codes "overrun") (decimal a.recorder) (decimal b.recorder) (decimal a.cycle ∷ decimal a.sent ∷ decimal a.taken ∷ []) (decimal b.cycle ∷ decimal b.sent ∷ decimal b.taken ∷ [])
     (lacks 32 (codes "overrun") refl) (lacks 32 (codes "overrun") refl) e in
@@ -337,7 +337,7 @@ overrun-same a b p q e =
     let l = last-number a.taken b.taken p.taken q.taken k.1 in
     (λ i. record { recorder = g.0 i; cycle = h.0 i; sent = k.0 i; taken = l i })
 
-underrun-same : (a b : Underrun) → IsSmallUnderrun a → IsSmallUnderrun b → underrun_line a ≡ underrun_line b → a ≡ b
+pub underrun-same : (a b : Underrun) → IsSmallUnderrun a → IsSmallUnderrun b → underrun_line a ≡ underrun_line b → a ≡ b
 underrun-same a b p q e =
     let f = next-word (codes "underrun") (codes "underrun") (decimal a.disk) (decimal b.disk) (decimal a.cycle ∷ decimal a.sent ∷ decimal a.taken ∷ []) (decimal b.cycle ∷ decimal b.sent ∷ decimal b.taken ∷ [])
     (lacks 32 (codes "underrun") refl) (lacks 32 (codes "underrun") refl) e in
@@ -379,16 +379,16 @@ module _ {X : Type 0} where
       others : f x ∷ map f xs ≡ f y ∷ map f ys → map f xs ≡ map f ys
       others q = cc
 
-map-same_items : {X : Type 0} (xs : List X) → map (λ x. x) xs ≡ xs
+pub map-same_items : {X : Type 0} (xs : List X) → map (λ x. x) xs ≡ xs
 map-same_items [] = refl
 map-same_items (x ∷ xs) = ap (λ ys. x ∷ ys) (map-same_items xs)
 
 -- a run of lines that pass a test, with a line behind it that does not
-abbrev StartsOff : (List ℕ → Bool) → List (List ℕ) → Type 0
+abbrev pub StartsOff : (List ℕ → Bool) → List (List ℕ) → Type 0
 StartsOff test [] = Unit {0}
 StartsOff test (text ∷ lines) = test text ≡ false
 
-runs-same : (test : List ℕ → Bool) (a b x y : List (List ℕ)) → Each (λ text. test text ≡ true) a → Each (λ text. test text ≡ true) b → StartsOff test x → StartsOff test y → a ++ x ≡ b ++ y → (a ≡ b) × (x ≡ y)
+pub runs-same : (test : List ℕ → Bool) (a b x y : List (List ℕ)) → Each (λ text. test text ≡ true) a → Each (λ text. test text ≡ true) b → StartsOff test x → StartsOff test y → a ++ x ≡ b ++ y → (a ≡ b) × (x ≡ y)
 runs-same test [] [] x y h k p q e = (refl, e)
 runs-same test [] (c ∷ b) x y h k p q e = absurd (true≢false (sym (k.0) ∙ subst (StartsOff test) e p))
 runs-same test (c ∷ a) [] x y h k p q e = absurd (true≢false (sym (h.0) ∙ subst (StartsOff test) (sym e) q))
@@ -396,10 +396,10 @@ runs-same test (c ∷ a) (d ∷ b) x y h k p q e =
     let rest = runs-same test a b x y h.1 k.1 p q (rest-same c d (a ++ x) (b ++ y) e) in
     (ap₂ (λ z zs. z ∷ zs) (first-same c d (a ++ x) (b ++ y) e) rest.0, rest.1)
 
-abbrev is_overrun_line : List ℕ → Bool
+abbrev pub is_overrun_line : List ℕ → Bool
 is_overrun_line text = get_or text 0 0 == 111
 
-abbrev is_underrun_line : List ℕ → Bool
+abbrev pub is_underrun_line : List ℕ → Bool
 is_underrun_line text = get_or text 0 0 == 117
 
 recorders-same : (a b : List PrintedRecorder) → Each (λ (recorder : PrintedRecorder). Each IsSmallOverrun recorder.overruns) a → Each (λ (recorder : PrintedRecorder). Each IsSmallOverrun recorder.overruns) b

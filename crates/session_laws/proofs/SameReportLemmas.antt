@@ -67,16 +67,16 @@ module _ {X : Type 0} where
       each P (suc m) [] h = tt
       each P (suc m) (y ∷ ys) h = (h.0, each P m ys h.1)
 
-Contains-unmap : {X Y : Type 0} (f : X → Y) (xs : List X) (y : Y) → Contains (map f xs) y → (x : X) × Contains xs x × (f x ≡ y)
+pub Contains-unmap : {X Y : Type 0} (f : X → Y) (xs : List X) (y : Y) → Contains (map f xs) y → (x : X) × Contains xs x × (f x ≡ y)
 Contains-unmap {X = X} {Y = Y} f xs y c = Each-contains (λ z. (x : X) × Contains xs x × (f x ≡ z)) (map f xs) y (Each-map (λ z. (x : X) × Contains xs x × (f x ≡ z)) f xs (Each-from_contains (λ x. (w : X) × Contains xs w × (f w ≡ f x)) xs (λ x d. (x, d, refl)))) c
 
 -- ---- histories of the same calls
 
 -- a call that the script plans
-abbrev IsPlanned : Script → Call → Type 0
+abbrev pub IsPlanned : Script → Call → Type 0
 IsPlanned script call = (plan : Planned) × Contains (planned script) plan × (plan.call ≡ call)
 
-legal-planned : (script : Script) (history : List Entry) → Legal script history → Each (λ (entry : Entry). IsPlanned script entry.call) history
+pub legal-planned : (script : Script) (history : List Entry) → Legal script history → Each (λ (entry : Entry). IsPlanned script entry.call) history
 legal-planned script history legal =
     Each-from_contains (λ (entry : Entry). IsPlanned script entry.call) history
     (λ entry c.
@@ -281,7 +281,7 @@ planned-keep script h =
 name-byte : (b : ℕ) → is_name_byte b ≡ true → b ≢ 10
 name-byte b h e = true≢false (sym h ∙ ap is_name_byte e)
 
-no-place : (p : ℕ → Bool) (bytes : List ℕ) → length bytes ≤ position_or_len (λ b. not (p b)) bytes → Each (λ b. p b ≡ true) bytes
+pub no-place : (p : ℕ → Bool) (bytes : List ℕ) → length bytes ≤ position_or_len (λ b. not (p b)) bytes → Each (λ b. p b ≡ true) bytes
 no-place p [] h = tt
 no-place p (b ∷ bytes) h = go (p b) refl (no-place p bytes)
   where
@@ -289,14 +289,14 @@ no-place p (b ∷ bytes) h = go (p b) refl (no-place p bytes)
     go true e later = let k = rw e at h in (e, later (omega (arith, k)))
     go false e later = let k = rw e at h in absurd (omega (arith, k))
 
-no-position : (p : ℕ → Bool) (bytes : List ℕ) → position (λ b. not (p b)) bytes ≡ None → Each (λ b. p b ≡ true) bytes
+pub no-position : (p : ℕ → Bool) (bytes : List ℕ) → position (λ b. not (p b)) bytes ≡ None → Each (λ b. p b ≡ true) bytes
 no-position p bytes h = go (nat_lt (position_or_len (λ b. not (p b)) bytes) (length bytes)) refl
   where
     go : (t : Bool) → nat_lt (position_or_len (λ b. not (p b)) bytes) (length bytes) ≡ t → Each (λ b. p b ≡ true) bytes
     go true e = absurd (none-some (position_or_len (λ b. not (p b)) bytes) (sym (rw e at h)))
     go false e = no-place p bytes (grind (arith, nat_tests))
 
-name-lacks : (bytes : List ℕ) → IsClientName bytes → Lacks 10 bytes
+pub name-lacks : (bytes : List ℕ) → IsClientName bytes → Lacks 10 bytes
 name-lacks bytes h = go (length bytes == 0) (nat_lt 32 (length bytes)) (position (λ b. not (is_name_byte b)) bytes) refl refl refl
   where
     go : (s t : Bool) (o : Option ℕ) → (length bytes == 0) ≡ s → nat_lt 32 (length bytes) ≡ t → position (λ b. not (is_name_byte b)) bytes ≡ o → Lacks 10 bytes
@@ -361,7 +361,7 @@ slice_get-at [] i d h = absurd (omega (arith, h))
 slice_get-at (x ∷ xs) zero d h = refl
 slice_get-at (x ∷ xs) (suc i) d h = slice_get-at xs i d (omega (arith, h))
 
-filter-shorter : {X : Type 0} (p : X → Bool) (xs : List X) → length (filter p xs) ≤ length xs
+pub filter-shorter : {X : Type 0} (p : X → Bool) (xs : List X) → length (filter p xs) ≤ length xs
 filter-shorter p [] = omega arith
 filter-shorter {X = X} p (x ∷ xs) = go (p x) (filter-shorter p xs)
   where
@@ -369,7 +369,7 @@ filter-shorter {X = X} p (x ∷ xs) = go (p x) (filter-shorter p xs)
     go true h = omega (arith, h)
     go false h = omega (arith, h)
 
-filter_map-shorter : {X Y : Type 0} (f : X → Option Y) (xs : List X) → length (filter_map f xs) ≤ length xs
+pub filter_map-shorter : {X Y : Type 0} (f : X → Option Y) (xs : List X) → length (filter_map f xs) ≤ length xs
 filter_map-shorter f [] = omega arith
 filter_map-shorter {X = X} {Y = Y} f (x ∷ xs) = go (f x) (filter_map-shorter f xs)
   where
@@ -478,12 +478,12 @@ module _ (given : Given) (printed : Printed) (script_is : IsScript given.script)
         (Each-below (λ disk. Each IsSmallUnderrun (underruns_of here disk)) (length given.script.header.disks) underruns-small);
   }
 
-map-map : {X Y Z : Type 0} (f : Y → Z) (g : X → Y) (xs : List X) → map f (map g xs) ≡ map (λ x. f (g x)) xs
+pub map-map : {X Y Z : Type 0} (f : Y → Z) (g : X → Y) (xs : List X) → map f (map g xs) ≡ map (λ x. f (g x)) xs
 map-map f g [] = refl
 map-map f g (x ∷ xs) = ap (λ zs. f (g x) ∷ zs) (map-map f g xs)
 
 -- a list is the list of what it has at its places
-places-same : {X : Type 0} (f : ℕ → X) (xs : List X) (n : ℕ) (d : X) → length xs ≡ n → ((i : ℕ) → f i ≡ get_or xs i d) → map f (below n) ≡ xs
+pub places-same : {X : Type 0} (f : ℕ → X) (xs : List X) (n : ℕ) (d : X) → length xs ≡ n → ((i : ℕ) → f i ≡ get_or xs i d) → map f (below n) ≡ xs
 places-same f xs n d long h =
     ext_get_or d (map f (below n)) xs (length-map_below f n ∙ sym long)
     (λ i b. get_or-map_below f n i d (omega (arith, b, length-map_below f n)) ∙ h i)

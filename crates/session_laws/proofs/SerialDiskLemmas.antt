@@ -18,7 +18,7 @@ use Rattle.session_laws.proofs.SerialLossLemmas.{All-from_each, IsStrictlyIncrea
 abbrev with_underruns : Course → List (List Underrun) → Course
 with_underruns course underruns = record course { underruns = underruns }
 
-list_any-append : (p : Underrun → Bool) (xs ys : List Underrun) → list_any p (xs ++ ys) ≡ (list_any p xs || list_any p ys)
+pub list_any-append : (p : Underrun → Bool) (xs ys : List Underrun) → list_any p (xs ++ ys) ≡ (list_any p xs || list_any p ys)
 list_any-append p [] ys = refl
 list_any-append p (x ∷ xs) ys = go (p x) (list_any-append p xs ys)
   where
@@ -26,11 +26,11 @@ list_any-append p (x ∷ xs) ys = go (p x) (list_any-append p xs ys)
     go true e = refl
     go false e = e
 
-or-none : (b : Bool) → (b || false) ≡ b
+pub or-none : (b : Bool) → (b || false) ≡ b
 or-none true = refl
 or-none false = refl
 
-min-next : (m p : ℕ) → min m (min m p + 1) ≡ min m (p + 1)
+pub min-next : (m p : ℕ) → min m (min m p + 1) ≡ min m (p + 1)
 min-next m p = go (nat_lt p m) refl
   where
     go : (b : Bool) → nat_lt p m ≡ b → min m (min m p + 1) ≡ min m (p + 1)
@@ -41,7 +41,7 @@ min-next m p = go (nat_lt p m) refl
         let high : m ≤ p = grind (arith, nat_tests) in
         ap (λ k. min m (k + 1)) (min-eq_left high) ∙ min-eq_left (omega arith) ∙ sym (min-eq_left (omega (arith, high)))
 
-min-below : (m p : ℕ) → min m p < m → min m p ≡ p
+pub min-below : (m p : ℕ) → min m p < m → min m p ≡ p
 min-below m p h = go (nat_lt p m) refl
   where
     go : (b : Bool) → nat_lt p m ≡ b → min m p ≡ p

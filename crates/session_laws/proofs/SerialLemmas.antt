@@ -77,7 +77,7 @@ found_in earlier (u ∷ us) plan c = go (Contains-cases first plan rest c) (λ d
 pub plan_of-planned : (script : Script) (plan : Planned) → Contains (planned script) plan → plan_of script plan.call ≡ Some plan
 plan_of-planned script plan c = found_in [] (uncounted 0 0 (phases script)) plan c
 
-some-is : (a b : Planned) → Some a ≡ Some b → a ≡ b
+pub some-is : (a b : Planned) → Some a ≡ Some b → a ≡ b
 some-is a b e = cc
 
 -- ---- the history
