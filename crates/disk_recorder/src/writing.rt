@@ -52,6 +52,7 @@ pub fn serve<R: Wait, W: Store, G: Gate>(
     requires may { MayWrite consumer.old out.old }
     ensures ok { IfOk result (λ count. Serves count consumer.old out.old consumer.new out.new) }
     ensures err { OnErr result (Fails consumer.old out.old consumer.new out.new) }
+    ensures few { length consumer.new.got < 2 ^ 63 }
     ensures spare { block.new.samples.room ≡ block.old.samples.room }
     ensures cause { HasCause out.old.faults out.new.faults result }
 {

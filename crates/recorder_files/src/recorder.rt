@@ -3,14 +3,15 @@
 ghost use Rattle.std.specs.Prelude.{◌≡◌, ◌+◌, ◌<◌, ◌≤◌, ◌^◌, IfOk, IfSome, IsSome, OnErr, length};
 ghost use Rattle.jack_host.specs.Causes.{HasCause};
 ghost use Rattle.jack_host.specs.Told.{BothTold};
-ghost use Rattle.disk_recorder.specs.Recordings.{Drains, Fails, MayWrite};
+ghost use Rattle.disk_recorder.specs.Recordings.{Drains, Fails, MayWrite, Serves};
 
-use disk_recorder::drain;
-use jack_host::{Store, WriteFailed};
+use disk_recorder::{drain, serve};
+use jack_host::{Gate, Store, WriteFailed};
 use jack_types::{Format, Memory};
 use record_ring::{Block, Consumer, Producer, renew};
 use std::alloc::Global;
 use std::marker::Model;
+use std::sync::Wait;
 use wave_write::WaveOut;
 
 // Writes blocks of a ring into a file, at most so many.
@@ -33,6 +34,32 @@ fn write<W: Store>(
 {
     match file {
         Some(file) => drain(consumer, spare, file, most),
+        None => Ok(0),
+    }
+}
+
+// Writes blocks of a ring into a file, up to the ring's end.
+fn write_all<R: Wait, W: Store, G: Gate>(
+    wait: &R,
+    consumer: &mut Consumer,
+    spare: &mut Block,
+    file: &mut Option<WaveOut<W>>,
+    gate: &G,
+    place: u8,
+) -> Result<u64, WriteFailed>
+    requires room { spare.old.samples.room ≡ consumer.old.samples }
+    requires there { IsSome file.old }
+    requires may { IfSome file.old (MayWrite consumer.old) }
+    ensures ok { IfOk result (λ count. BothTold file.old file.new (λ tape after. Serves count consumer.old tape consumer.new after)) }
+    ensures err { OnErr result (BothTold file.old file.new (λ tape after. Fails consumer.old tape consumer.new after)) }
+    ensures cause { BothTold file.old file.new (λ tape after. HasCause tape.faults after.faults result) }
+    ensures count { IfOk result (λ count. length consumer.new.got ≡ length consumer.old.got + count) }
+    ensures few { length consumer.new.got < 2 ^ 63 }
+    ensures longer { length consumer.old.got ≤ length consumer.new.got }
+    ensures room { spare.new.samples.room ≡ consumer.new.samples }
+{
+    match file {
+        Some(file) => serve(wait, consumer, spare, file, gate, place),
         None => Ok(0),
     }
 }
@@ -63,13 +90,13 @@ impl<W: Store> Model for Recorder<W> {
 }
 
 impl<W: Store> Recorder<W> {
-    ghost use Rattle.std.specs.Prelude.{◌≡◌, ◌≤◌, [], List, ℤ, IfOk, IfSome, None, OnErr, OnOk, Some, false, is_some, option_map};
+    ghost use Rattle.std.specs.Prelude.{◌≡◌, ℕ, ◌+◌, ◌≤◌, [], List, ℤ, IfOk, IfSome, None, OnErr, OnOk, Some, false, is_some, option_map};
     ghost use Rattle.std.specs.Option.{ForSome};
     ghost use Rattle.jack_host.specs.Causes.{HasCause, Rose};
     ghost use Rattle.record_ring.specs.Rings.{IsPair};
     ghost use Rattle.session_model.specs.WaveFiles.{IsFormat, wave_text};
     ghost use Rattle.wave_write.specs.Tapes.{HasFront, HasSamples, IsCut, Tape};
-    ghost use Rattle.disk_recorder.specs.Recordings.{MayWrite};
+    ghost use Rattle.disk_recorder.specs.Recordings.{Fails, MayWrite, Serves};
     ghost use Rattle.recorder_files.specs.Recorders.{BreaksOff, GivesUp, Stored, held_in};
 
     /// A recorder without a file, over this end of a ring whose blocks have so many samples.
@@ -138,6 +165,35 @@ impl<W: Store> Recorder<W> {
         Ok(())
     }
 
+    /// Writes blocks of the ring into the file until the ring has ended, while another thread puts them. Where the file fails
+    /// it is stopped, and the block of the failing write is lost.
+    ///
+    /// It calls the gate before each get, with the recorder's place. It may wait for ever.
+    pub fn serve<R: Wait, G: Gate>(
+        &mut self,
+        wait: &R,
+        gate: &G,
+        place: u8,
+    ) -> Result<(), WriteFailed>
+        requires file { (tape : Tape) × (self.old.tape ≡ Some tape) × MayWrite self.old.getting tape }
+        ensures served { OnOk result ((tape : Tape) → self.old.tape ≡ Some tape → (after : Tape) × (count : ℕ) × (self.new ≡ record self.old { getting = self.new.getting; tape = Some after; blocks = self.old.blocks + count })
+            × Serves count self.old.getting tape self.new.getting after) }
+        ensures broken { OnErr result ((tape : Tape) → self.old.tape ≡ Some tape → (after : Tape) × (self.new ≡ record self.old { getting = self.new.getting; tape = Some after }) × Fails self.old.getting tape self.new.getting after) }
+        ensures cause { (tape after : Tape) → self.old.tape ≡ Some tape → self.new.tape ≡ Some after → HasCause tape.faults after.faults result }
+        ensures tells { (tape after : Tape) → self.old.tape ≡ Some tape → self.new.tape ≡ Some after → is_some after.bytes ≡ is_some tape.bytes }
+    {
+        let served = write_all(
+            wait,
+            &mut self.consumer,
+            &mut self.spare,
+            &mut self.file,
+            gate,
+            place,
+        );
+        self.blocks += served?;
+        Ok(())
+    }
+
     /// Finishes the file: writes its sizes. The store comes back in each case, and is kept for `take`.
     pub fn close(&mut self) -> Result<(), WriteFailed>
         requires file { (tape : Tape) × (self.old.tape ≡ Some tape) × (tape.stopped ≡ false) }
@@ -164,6 +220,16 @@ impl<W: Store> Recorder<W> {
             return Some(file.stop());
         }
         self.store.take()
+    }
+
+    /// Whether a write to its file failed. Behind that no block is written.
+    pub fn failed(&self) -> bool
+        ensures { IfSome self.now.tape (λ tape. result ≡ tape.stopped) }
+    {
+        match &self.file {
+            Some(file) => file.stopped(),
+            None => false,
+        }
     }
 
     /// How many blocks were written into the file.

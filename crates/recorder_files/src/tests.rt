@@ -4,7 +4,7 @@ ghost use Rattle.wave_write.specs.Tapes.{Tape};
 ghost use Rattle.disk_recorder.specs.Recordings.{MayWrite};
 
 use crate::Recorder;
-use jack_host::MemoryStore;
+use jack_host::{FreeGate, MemoryStore};
 use jack_types::Format;
 use record_ring::{Block, Producer, ring};
 use std::alloc::Global;
@@ -47,6 +47,7 @@ fn put_two(producer: &mut Producer, block: &mut Block, samples: [i32; 2]) -> Res
 // the write of this number fails, counted from 1.
 fn filled(alloc: Global, refused: u32) -> Result<(Producer, Recorder<MemoryStore>), Fail>
     ensures pair { IfOk result (λ made. IsPair made.0 made.1.getting) }
+    ensures going { IfOk result (λ made. made.0.ended ≡ false) }
     ensures file { IfOk result (λ made. (tape : Tape) × (made.1.tape ≡ Some tape) × MayWrite made.1.getting tape) }
 {
     let (mut producer, consumer) = ring(alloc, 4, 2, 6)?;
@@ -80,6 +81,37 @@ fn a_recorder_gives_up_blocks(rt: HostRuntime) -> Result<(), Fail> {
     };
     assert_eq!(rt; store.as_bytes(), WHOLE.as_slice());
     assert!(rt; recorder.take().is_none());
+    Ok(())
+}
+
+#[test]
+fn a_recorder_serves_up_to_the_end(rt: HostRuntime) -> Result<(), Fail> {
+    let (mut producer, mut recorder) = filled(rt.alloc(), 0)?;
+    producer.end();
+    let Ok(()) = recorder.serve(&rt, &FreeGate, 0) else {
+        return Err(Fail::from("no blocks"));
+    };
+    assert_eq!(rt; recorder.blocks(), 3);
+    let Some(store) = recorder.take() else {
+        return Err(Fail::from("no store"));
+    };
+    assert_eq!(rt; store.as_bytes().get(44..), WHOLE.get(44..));
+    Ok(())
+}
+
+// The third write is the second block's.
+#[test]
+fn a_refused_write_ends_the_serving(rt: HostRuntime) -> Result<(), Fail> {
+    let (mut producer, mut recorder) = filled(rt.alloc(), 3)?;
+    producer.end();
+    assert!(rt; !recorder.failed());
+    assert!(rt; recorder.serve(&rt, &FreeGate, 0).is_err());
+    assert!(rt; recorder.failed());
+    assert_eq!(rt; recorder.blocks(), 0);
+    let Some(store) = recorder.take() else {
+        return Err(Fail::from("no store"));
+    };
+    assert_eq!(rt; store.as_bytes(), CUT.as_slice());
     Ok(())
 }
 

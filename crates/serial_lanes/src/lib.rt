@@ -4,4 +4,4 @@
 mod lanes;
 pub mod laws;
 
-pub use lanes::{begin_phase, round};
+pub use lanes::{begin_group, begin_phase, round};

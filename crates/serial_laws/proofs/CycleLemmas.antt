@@ -1,7 +1,7 @@
 -- Where a session in serial mode is behind the front of a phase, and behind each of its cycles.
 --     SerialAt-begun, SerialKept-begun      the front of a phase
 --     SerialAt-turned, SerialKept-turned      a cycle of it
-use Rattle.std.proofs.Common.{◌≡◌, ℕ, suc, ◌+◌, ◌<◌, Bool, true, false, List, length, slice_get, Some, sym, ◌∙◌, ap, subst, arith}
+use Rattle.std.proofs.Common.{◌≡◌, ℕ, suc, ◌+◌, ◌<◌, Bool, true, false, List, length, slice_get, IsNone, Some, sym, ◌∙◌, ap, subst, arith}
 use Rattle.std.proofs.lemmas.Option.{none-some}
 use Rattle.session_model.specs.Explanations.{Given}
 use Rattle.session_model.specs.Scripts.{Phase, Script, Turn, phases, turns}
@@ -18,10 +18,10 @@ use Rattle.serial_laws.specs.Steps.{AreExact, Begun, Emptied, IsSound, KeepsOwn,
 AreExact-so_far : (session : Session) → SerialSoFar session → AreExact session
 AreExact-so_far session so_far = record { numbers = so_far.numbers; rows = so_far.rows; met = so_far.met }
 
-SerialSoFar-exact : (session : Session) → IsSound session → AreExact session → SerialSoFar session
-SerialSoFar-exact session sound exact = record {
+SerialSoFar-exact : (session : Session) → IsNone session.script.header.threads → IsSound session → AreExact session → SerialSoFar session
+SerialSoFar-exact session serial sound exact = record {
   one = sound.one;
-  serial = sound.serial;
+  serial = serial;
   numbers = exact.numbers;
   rows = exact.rows;
   met = exact.met;
@@ -87,7 +87,7 @@ SerialAt-begun exact_behind desk_behind same_cycles sound_behind session after d
     let runs : run after.driver ≡ run session.driver = same_cycles session after done begun in
     let cycles : cycles_before session.script done ≡ cycles_before after.script done = ap (λ (s : Script). cycles_before s done) (sym (script-begun done session after begun)) in
     record {
-      so_far = SerialSoFar-exact after (sound_behind done session after sound begun) (exact_behind session after done phase there behind.cycles_are sound behind.desk begun exact);
+      so_far = SerialSoFar-exact after (subst (λ (s : Script). IsNone s.header.threads) (sym (script-begun done session after begun)) behind.so_far.serial) (sound_behind done session after sound begun) (exact_behind session after done phase there behind.cycles_are sound behind.desk begun exact);
       desk = desk_behind session after done phase there behind.cycles_are sound behind.desk begun exact;
       cycles_are = omega (arith, runs, behind.cycles_are, cycles);
     }
@@ -167,7 +167,7 @@ module _ (there : CyclesThere) (are : CyclesAre) (exact_behind : TurnedExact) (s
       let runs : run after.driver ≡ run session.driver + 1 = one_more phase.is_freewheel session after turned in
       let cycles : cycles_before session.script done ≡ cycles_before after.script done = ap (λ (s : Script). cycles_before s done) (sym (script-turned phase.is_freewheel session after turned)) in
       record {
-        so_far = SerialSoFar-exact after sound_after exact_after;
+        so_far = SerialSoFar-exact after (subst (λ (s : Script). IsNone s.header.threads) (sym (script-turned phase.is_freewheel session after turned)) at.so_far.serial) sound_after exact_after;
         desk = desk_behind phase.is_freewheel session after done t phase phase_there early at.cycles_are sound at.desk turned exact;
         cycles_are = omega (arith, runs, at.cycles_are, cycles);
       }

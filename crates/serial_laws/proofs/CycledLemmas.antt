@@ -87,7 +87,6 @@ module _ (session after : Session) (sound : IsSound session) (steps : StepsOnce 
   IsSound-with : WritesOnce session.driver after.driver → ((turn_of session.script (run session.driver + 1)).is_freewheel ≡ true → AreEmpty session) → IsSound later
   IsSound-with writes empty = record {
     one = IsOne-cycled;
-    serial = sound.serial;
     misses = MissesInRun-cycled session after sound steps empty;
     files = HasFiles-cycled writes;
     no_end = All-places (λ (ring : Sending). ring.ended ≡ false) after.driver.rings (λ recorder ring here.

@@ -30,7 +30,7 @@ pub record Passed (most : ℕ) (session after : Session) (recorder : ℕ) : Type
   pub gives : GivesUp most reel reel_after
 
 -- a recorder has its two ends, its file and its count
-reel_at : (session : Session) (recorder : ℕ) → recorder < length session.driver.rings → recorder < length session.getting → recorder < length session.tapes → recorder < length session.counts
+pub reel_at : (session : Session) (recorder : ℕ) → recorder < length session.driver.rings → recorder < length session.getting → recorder < length session.tapes → recorder < length session.counts
     → (reel : Reel) × IsReel session recorder reel
 reel_at session recorder rings getting tapes counts =
     let ring = some_at session.driver.rings recorder rings in
@@ -46,10 +46,10 @@ module _ (session : Session) (sound : IsSound session) where
   pub many-rings : length session.driver.rings ≡ recorders
   many-rings = sound.one.rings.recorders ∙ ap (λ (s : Script). length s.header.recorders) sound.one.driver_script
 
-  many-tapes : length session.tapes ≡ recorders
+  pub many-tapes : length session.tapes ≡ recorders
   many-tapes = sym (length-map session.tapes (λ (tape : Tape). tape.format)) ∙ ap length sound.files.formats
 
-  many-counts : length session.counts ≡ recorders
+  pub many-counts : length session.counts ≡ recorders
   many-counts = sym (ap length sound.files.counted) ∙ length-map session.getting (λ (got : Getting). length got.got) ∙ sound.one.recorder_ends
 
   module _ (most : ℕ) (after : Session) (give : GiveUp most session after) where
@@ -182,7 +182,6 @@ module _ (session : Session) (sound : IsSound session) where
     IsSound-gave =
         let sound_later : IsSound later = record {
           one = IsOne-gave;
-          serial = sound.serial;
           misses = record { overruns = sound.misses.overruns; underruns = sound.misses.underruns };
           files = HasFiles-gave;
           no_end = All-places (λ (ring : Sending). ring.ended ≡ false) after.driver.rings (each-ring (λ recorder ring. ring.ended ≡ false) (λ recorder p. no_end-blocks most p.reel p.reel_after p.gives));

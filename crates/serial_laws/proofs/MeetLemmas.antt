@@ -8,7 +8,7 @@ use Rattle.run_laws.specs.Sessions.{IsOne, Session}
 use Rattle.serial_laws.specs.Steps.{Begun, IsSound, Met, Rounded}
 
 -- another desk over the same script and publication
-IsSound-desk : (session : Session) (desk : Desk) → IsSound session → IsDesk desk → desk.script ≡ session.desk.script → desk.publishing.table ≡ session.desk.publishing.table → IsSound (record session { desk = desk })
+pub IsSound-desk : (session : Session) (desk : Desk) → IsSound session → IsDesk desk → desk.script ≡ session.desk.script → desk.publishing.table ≡ session.desk.publishing.table → IsSound (record session { desk = desk })
 IsSound-desk session desk sound is script table =
     let one = sound.one in
     let files = sound.files in
@@ -30,7 +30,6 @@ IsSound-desk session desk sound is script table =
         disk_ends = one.disk_ends;
         disk_pairs = one.disk_pairs;
       };
-      serial = sound.serial;
       misses = record { overruns = sound.misses.overruns; underruns = sound.misses.underruns };
       files = record {
         playback = files.playback;
@@ -85,10 +84,9 @@ HasFiles-found session least files = record {
   counted = files.counted;
 }
 
-IsSound-found : (session : Session) (least : ℕ) → IsSound session → IsSound (found session least)
+pub IsSound-found : (session : Session) (least : ℕ) → IsSound session → IsSound (found session least)
 IsSound-found session least sound = record {
   one = IsOne-found session least sound.one;
-  serial = sound.serial;
   misses = record { overruns = sound.misses.overruns; underruns = sound.misses.underruns };
   files = HasFiles-found session least sound.files;
   no_end = sound.no_end;
@@ -96,7 +94,7 @@ IsSound-found session least sound = record {
 }
 
 -- a desk whose next look finds no less than this
-IsDesk-seen : (desk : Desk) (least : ℕ) → IsDesk desk → IsDesk (record desk { publishing = record desk.publishing { least = least } })
+pub IsDesk-seen : (desk : Desk) (least : ℕ) → IsDesk desk → IsDesk (record desk { publishing = record desk.publishing { least = least } })
 IsDesk-seen desk least is = record {
   legal = is.legal;
   published = is.published;

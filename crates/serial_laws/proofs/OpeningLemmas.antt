@@ -124,16 +124,16 @@ module _ (session : Session) (new : IsNew (bare session)) where
   none_run : run session.driver ≡ 0
   none_run = ap length new.new_driver.numbers
 
-  one : IsOne session
+  pub one : IsOne session
   one = IsOne-bare session new.one
 
-  misses : MissesInRun session
+  pub misses : MissesInRun session
   misses = record {
     overruns = all-none (λ (overrun : Overrun). (turn_of session.script overrun.cycle).is_freewheel ≡ false) session.driver.overruns new.new_driver.overruns;
     underruns = all-none (λ (underrun : Underrun). (turn_of session.script underrun.cycle).is_freewheel ≡ false) session.driver.underruns new.new_driver.underruns;
   }
 
-  met : IsMet session
+  pub met : IsMet session
   met = record {
     met = HaveMet-opening (base_of session.script) session.desk.publishing session.driver.reading new.opening;
     reader = ap (λ (r : Reading). r.least) new.opening.reader_is ∙ sym (ap (λ (p : Publishing). length p.all) new.opening.publisher_is);
@@ -143,10 +143,9 @@ module _ (session : Session) (new : IsNew (bare session)) where
   empty_ring : (recorder : ℕ) (ring : Sending) → slice_get session.driver.rings recorder ≡ Some ring → IsEmptyRing session.script.header.ring ring
   empty_ring recorder ring here = all-there (IsEmptyRing session.script.header.ring) session.driver.rings recorder ring new.new_driver.rings here
 
-  pub IsSound-new : IsNone session.script.header.threads → session.putting ≡ [] → HasFiles session → IsSound session
-  IsSound-new serial no_disks files = record {
+  pub IsSound-new : session.putting ≡ [] → HasFiles session → IsSound session
+  IsSound-new no_disks files = record {
     one = one;
-    serial = serial;
     misses = misses;
     files = files;
     no_end = All-weaker (IsEmptyRing session.script.header.ring) (λ (ring : Sending). ring.ended ≡ false) (λ ring empty. empty.ended) session.driver.rings new.new_driver.rings;

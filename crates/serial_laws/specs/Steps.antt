@@ -3,10 +3,10 @@
 --     GiveUp, Cycled, Met, Rounded      the steps: blocks leave the rings, a cycle of the driver, desk and driver meet, a round of the lanes
 --     Turned freewheel session after      one cycle of serial mode
 --     Begun done session after      the front of a phase, before its first cycle
---     IsSound session      what holds of a session's parts in serial mode, whatever was taken and played
+--     IsSound session      what holds of a session's parts in each mode, whatever was taken and played
 --     AreExact session      what it took is what serial mode takes
 --     KeepsOwn given session      each course over what was given that fits is kept
-use Rattle.std.specs.Prelude.{◌≡◌, ℕ, suc, Bool, true, false, [], length, slice_get, All, Some, IsNone, if◌then◌else◌, take}
+use Rattle.std.specs.Prelude.{◌≡◌, ℕ, suc, Bool, true, false, [], length, slice_get, All, Some, if◌then◌else◌, take}
 use Rattle.session_model.specs.Explanations.{Given}
 use Rattle.session_model.specs.Histories.{accepted}
 use Rattle.session_model.specs.Serial.{serial_history, serial_numbers}
@@ -93,10 +93,9 @@ pub record Begun (done : ℕ) (session after : Session) : Type 0 where
   pub rounds : Rounded met rounded
   pub meets_again : Met rounded after
 
--- its parts are one serial session's, nothing failed, no ring has an end, there are no disks, and overruns came in `run` cycles alone
+-- its parts are one session's, nothing failed, no ring has an end, there are no disks, and overruns came in `run` cycles alone
 pub record IsSound (session : Session) : Type 0 where
   pub one : IsOne session
-  pub serial : IsNone session.script.header.threads
   pub misses : MissesInRun session
   pub files : HasFiles session
   pub no_end : All (λ (ring : Sending). ring.ended ≡ false) session.driver.rings

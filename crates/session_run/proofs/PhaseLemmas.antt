@@ -69,7 +69,6 @@ module _ (session : Session) (period : ℕ) where
       disk_ends = sound.one.disk_ends;
       disk_pairs = sound.one.disk_pairs;
     };
-    serial = sound.serial;
     misses = record { overruns = sound.misses.overruns; underruns = sound.misses.underruns };
     files = record {
       playback = record { tape = sound.files.playback.tape; attached = sound.files.playback.attached; going = sound.files.playback.going };
@@ -88,7 +87,7 @@ module _ (session : Session) (period : ℕ) where
   so_far-set : IsSound session → SerialSoFar session → SerialSoFar (with_set session period)
   so_far-set sound far =
       let now = sound_set sound in
-      record { one = now.one; serial = now.serial; numbers = far.numbers; rows = far.rows; met = record { met = far.met.met; reader = far.met.reader; publisher = far.met.publisher }; misses = now.misses; files = now.files }
+      record { one = now.one; serial = far.serial; numbers = far.numbers; rows = far.rows; met = record { met = far.met.met; reader = far.met.reader; publisher = far.met.publisher }; misses = now.misses; files = now.files }
 
   pub at_set : (done cycles rounds : ℕ) → IsSound session → SerialAt session done cycles rounds → SerialAt (with_set session period) done cycles rounds
   at_set done cycles rounds sound at = record { so_far = so_far-set sound at.so_far; desk = at.desk; cycles_are = at.cycles_are }

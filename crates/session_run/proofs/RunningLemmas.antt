@@ -142,7 +142,7 @@ files-begun parts ready =
 -- ---- the laws of a run
 
 abbrev pub SoundAtFirst : Type 0
-SoundAtFirst = (session : Session) → IsNew (bare session) → IsNone session.script.header.threads → session.putting ≡ [] → HasFiles session → IsSound session
+SoundAtFirst = (session : Session) → IsNew (bare session) → session.putting ≡ [] → HasFiles session → IsSound session
 
 abbrev pub BehindAtFirst : Type 0
 BehindAtFirst = (session : Session) → IsNew (bare session) → IsNone session.script.header.threads → session.putting ≡ [] → HasFiles session → SerialBehind session 0
@@ -177,7 +177,7 @@ module _ {S W G : Type 0} where
     seen_is = sym (ap session_of view) ∙ session-whole works playback attached none_held
 
     pub ready-sound : SoundAtFirst → IsSound (seen works)
-    ready-sound law = subst (λ (s : Session). IsSound s) seen_is (law (session_of now) ready.0.new ready.0.serial refl (files-begun now ready))
+    ready-sound law = subst (λ (s : Session). IsSound s) seen_is (law (session_of now) ready.0.new refl (files-begun now ready))
 
     pub ready-behind : BehindAtFirst → SerialBehind (seen works) 0
     ready-behind law = subst (λ (s : Session). SerialBehind s 0) seen_is (law (session_of now) ready.0.new ready.0.serial refl (files-begun now ready))

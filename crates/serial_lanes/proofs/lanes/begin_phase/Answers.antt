@@ -1,29 +1,10 @@
-use Rattle.std.proofs.Common.{ap, subst, sym, ◌∙◌}
-use Rattle.session_model.specs.Grammar.{IsScript}
-use Rattle.session_model.specs.Histories.{accepted}
+use Rattle.std.proofs.Common.{refl}
 use Rattle.session_model.specs.Scripts.{phases}
-use Rattle.control_desk.specs.Desks.{Desk}
 use Rattle.serial_lanes.proofs.ItemLemmas.{some_at}
-use Rattle.serial_lanes.proofs.SerialLemmas.{group-done, group-makes}
-use Rattle.serial_lanes.proofs.StepLemmas.{group-published, same-steps}
+use Rattle.serial_lanes.proofs.SerialLemmas.{group-makes}
 use Rattle.serial_lanes.proofs.lanes.begin_phase.Goals as goal
 
 pub returns-clause-serial : goal.returns-clause-serial
 returns-clause-serial c =
     let here = some_at (phases c.args.desk.now.script) c.args.phase c.requires.there in
-    group-makes c.args.desk.now c.begin.new.self c.run_lane.new.desk c.args.phase here.0 c.kept_by_type.ensures.script here.1 c.requires.behind c.begin.ensures c.run_lane.ensures.runs
-
-pub returns-clause-done : goal.returns-clause-done
-returns-clause-done c =
-    group-done c.begin.new.self c.run_lane.new.desk (subst IsScript (sym (ap (λ (d : Desk). d.script) c.begin.ensures)) c.kept_by_type.ensures.script) c.run_lane.ensures.runs.calls c.run_lane.ensures.runs.steps
-
-pub returns-clause-published : goal.returns-clause-published
-returns-clause-published c =
-    group-published c.run_lane.ensures.runs.calls c.begin.new.self c.run_lane.new.desk c.run_lane.ensures.runs.steps
-    (ap (λ (d : Desk). d.publishing.all) c.begin.ensures ∙ c.kept_by_type.ensures.desk.published ∙ ap (λ (d : Desk). accepted d.history) (sym c.begin.ensures))
-    ∙ ap (λ (d : Desk). record d.publishing { all = accepted c.run_lane.new.desk.history; held = c.run_lane.new.desk.publishing.held }) c.begin.ensures
-
-pub returns-clause-same : goal.returns-clause-same
-returns-clause-same c =
-    same-steps c.run_lane.ensures.runs.calls c.begin.new.self 0 c.run_lane.new.desk c.run_lane.ensures.runs.steps
-    ∙ ap (λ (d : Desk). record d { history = c.run_lane.new.desk.history; publishing = c.run_lane.new.desk.publishing }) c.begin.ensures
+    group-makes c.args.desk.now _ c.begin_group.new.desk c.args.phase here.0 c.kept_by_type.ensures.script here.1 c.requires.behind refl c.begin_group.ensures.runs
