@@ -4,8 +4,8 @@ ghost use Rattle.std.specs.Prelude.{◌≡◌, IfOk, None, Some, map, replicate}
 
 use client_benches::ClientBench;
 use client_kinds::Guest;
-use http_server::Log;
 use jack_types::Memory;
+use proof_notes::Log;
 use std::alloc::{AllocError, Global};
 use std::marker::Model;
 

@@ -15,9 +15,9 @@ use client_kinds::Guest;
 use client_seats::Owners;
 use client_wiring::Wiring;
 use cycle_plan::Plan;
-use http_server::Log;
 use jack_types::{Kind, Memory};
 use owner_laws::owning::nobody_is_known_at_first;
+use proof_notes::Log;
 use std::alloc::Global;
 use std::marker::Model;
 

@@ -2,10 +2,10 @@
 
 use crate::works::Works;
 use client_kinds::Guest;
-use http_server::Log;
 use jack_host::{Source, Store};
 use jack_types::Format;
 use playback_mix::Playback;
+use proof_notes::Log;
 use session_script::Script;
 use std::marker::Model;
 use wave_write::WaveOut;
