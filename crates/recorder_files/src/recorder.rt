@@ -93,7 +93,7 @@ impl<W: Store> Recorder<W> {
     ghost use Rattle.std.specs.Prelude.{◌≡◌, ℕ, ◌+◌, ◌≤◌, [], List, ℤ, IfOk, IfSome, None, OnErr, OnOk, Some, false, is_some, option_map};
     ghost use Rattle.std.specs.Option.{ForSome};
     ghost use Rattle.jack_host.specs.Causes.{HasCause, Rose};
-    ghost use Rattle.record_ring.specs.Rings.{IsPair};
+    ghost use Rattle.record_ring.specs.Rings.{IsPair, Renews};
     ghost use Rattle.session_model.specs.WaveFiles.{IsFormat, wave_text};
     ghost use Rattle.wave_write.specs.Tapes.{HasFront, HasSamples, IsCut, Tape};
     ghost use Rattle.disk_recorder.specs.Recordings.{Fails, MayWrite, Serves};
@@ -192,6 +192,17 @@ impl<W: Store> Recorder<W> {
         );
         self.blocks += served?;
         Ok(())
+    }
+
+    /// Takes the ring's end mark away, and tells each end of the ring how far the other has come. It may be called behind a
+    /// failure too.
+    pub fn renew(&mut self, producer: &mut Producer)
+        requires { IsPair producer.old self.old.getting }
+        ensures renews { Renews producer.old self.old.getting producer.new self.new.getting }
+        ensures same { self.new ≡ record self.old { getting = self.new.getting } }
+    {
+        let theirs = &mut self.consumer;
+        renew(producer, theirs);
     }
 
     /// Finishes the file: writes its sizes. The store comes back in each case, and is kept for `take`.

@@ -3,8 +3,8 @@
 --     HasLists, Runs      behind `run`
 --     Ends      behind `end`
 --     report_in session      what the report prints, from the desk's and the driver's lists
---     StandsBehindFault session given      what the stores hold behind a fault
-use Rattle.std.specs.Prelude.{◌≡◌, ℕ, ◌<◌, List, [], ◌∷◌, length, map, flat_map, slice_get, slice_index_or, All, IfSome, Option, Some, None, IsNone}
+--     StandsSoFar kept session given      what the stores hold behind a fault, where so many cycles were played
+use Rattle.std.specs.Prelude.{◌≡◌, ℕ, ◌+◌, ◌<◌, ◌≤◌, List, [], ◌∷◌, length, map, flat_map, slice_get, slice_index_or, All, IfSome, Option, Some, None, IsNone}
 use Rattle.jack_types.specs.declared.commands.Change.{Change}
 use Rattle.jack_types.specs.declared.commands.Command.{Command}
 use Rattle.jack_types.specs.declared.commands.Command.TheVariants.{Open}
@@ -14,8 +14,8 @@ use Rattle.jack_types.specs.declared.moments.TransportState.TheVariants.{Stopped
 use Rattle.session_model.specs.Disks.{Played}
 use Rattle.session_model.specs.Explanations.{Given, playback_text, record_text}
 use Rattle.session_model.specs.Histories.{Cycles, Legal, accepted}
-use Rattle.session_model.specs.Playback.{playback_format, played_back}
-use Rattle.session_model.specs.Recorders.{Lost, recorded, recorder_format}
+use Rattle.session_model.specs.Playback.{playback_format}
+use Rattle.session_model.specs.Recorders.{Lost, recorder_format}
 use Rattle.session_model.specs.Reports.{PrintedCycle, PrintedDisk, PrintedEvent, PrintedMeter, PrintedRecorder, Report, printed_call, report_lines}
 use Rattle.session_model.specs.Samples.{below}
 use Rattle.session_model.specs.Scripts.{phases}
@@ -23,8 +23,10 @@ use Rattle.session_model.specs.Serial.{serial}
 use Rattle.graph_word.specs.Publications.{IsOpening}
 use Rattle.record_ring.specs.Rings.{Sending, Getting}
 use Rattle.wave_write.specs.Tapes.{HasFront}
+use Rattle.disk_recorder.specs.Recordings.{samples_of_blocks}
 use Rattle.control_desk.specs.Desks.{IsNewDesk, base_of}
 use Rattle.driver_laws.specs.Drivers.{Driver, log_in, overruns_on, peak_in, run, underruns_on}
+use Rattle.driver_laws.specs.Keeping.{kept_blocks, played_so_far}
 use Rattle.driver_laws.specs.Openings.{IsNew as IsNewDriver}
 use Rattle.run_laws.specs.Sessions.{Session, IsGiven, IsOne, KeepsGiven, course_in, printed_of}
 use Rattle.run_laws.specs.Runs.{AtPhase, RanPhases}
@@ -103,8 +105,10 @@ report_in session = record {
 abbrev pub text_in : Session → List ℕ
 text_in session = flat_map (λ text. text) (report_lines (report_in session))
 
--- behind a fault the stores that tell hold fronts of the files of the one computation over the session's own lists
-pub record StandsBehindFault (session : Session) (given : Given) : Type 0 where
-  pub playback : HasFront (playback_format (course_in given session)) (played_back (course_in given session)) session.playback_file
+-- behind a fault the stores that tell hold fronts of what the first `kept` cycles gave, by the session's own lists: a cycle that failed at the capture was not played, and of one that failed at the playback a front was
+pub record StandsSoFar (kept : ℕ) (session : Session) (given : Given) : Type 0 where
+  pub low : kept ≤ run session.driver
+  pub near : run session.driver ≤ kept + 1
+  pub playback : HasFront (playback_format (course_in given session)) (played_so_far (course_in given session) kept) session.playback_file
   pub records : (recorder : ℕ) (file : Option (List ℕ)) → slice_get session.record_files recorder ≡ Some file
-      → HasFront (recorder_format (course_in given session) recorder) (recorded (course_in given session) (overruns_on session.driver.overruns recorder) recorder) file
+      → HasFront (recorder_format (course_in given session) recorder) (samples_of_blocks (kept_blocks (course_in given session) (overruns_on session.driver.overruns recorder) recorder kept)) file
