@@ -262,9 +262,12 @@ module _ {P : Type 0} (content : P → List Change) (base_of : P → Base) (z : 
       )
 
 -- a load that found a newer plan and an exchange that brought it are one take
-pub took : (t : TableId) (e : ReaderView) (w f n : ℕ) (new : List Change) → n ≡ length new → length new ≡ f / 4 → e.least ≤ f / 4 → IsFront e.held new → Takes (reading_of t e) n (reading_of t (swap_after (ahead_after e w) f new))
-took t e w f n new same long least front = let is : f / 4 ≡ n = sym long ∙ sym same in record {
+pub took : (t : TableId) (e : ReaderView) (w f n : ℕ) (new : List Change) → length e.held < w → n ≡ length new → length new ≡ f / 4 → e.least ≤ f / 4 → IsFront e.held new → Takes (reading_of t e) n (reading_of t (swap_after (ahead_after e w) f new))
+took t e w f n new above same long least front = let is : f / 4 ≡ n = sym long ∙ sym same in record {
   earlier = w ∷ [];
+  one_more = omega arith;
+  newer = All-cons (λ q. length e.held < q) w [] above (All-nil (λ q. length e.held < q));
+  stays = λ none. absurd (cc);
   reads = append_assoc e.reads (w ∷ []) (f / 4 ∷ []) ∙ ap (λ (q : ℕ). e.reads ++ (w ∷ q ∷ [])) is;
   number = same;
   least = subst (λ (q : ℕ). e.least ≤ q) is least;

@@ -1,7 +1,7 @@
 -- What contracts see of the two ends of a publication. Content number n is the first n of all changes published so far.
 --     Publishing, Reading      the two ends
 --     Commits, Looks, Takes, Begins, Meets      what the calls do
-use Rattle.std.specs.Prelude.{◌≡◌, ℕ, ◌≤◌, List, [], ◌∷◌, ◌++◌, length, take, All, Contains}
+use Rattle.std.specs.Prelude.{◌≡◌, ℕ, ◌≤◌, ◌<◌, List, [], ◌∷◌, ◌++◌, length, take, All, Contains}
 use Rattle.atomic_table.specs.Seated.{TableId}
 use Rattle.jack_types.specs.declared.commands.Change.{Change}
 use Rattle.session_model.specs.Publication.{SeenPair}
@@ -56,9 +56,12 @@ pub record Looks (before : Publishing) (seen : ℕ) (after : Publishing) : Type 
   pub least : before.least ≤ seen
   pub after_is : after ≡ record before { pairs = before.pairs ++ record { cycle = seen; number = length before.all } ∷ []; least = seen }
 
--- a take reads once or twice, and answers the last number read, which is that of its place
+-- a take looks once, and once more exactly where it found a newer plan, which it brings; it answers the last number read, which is that of its place
 pub record Takes (before : Reading) (answer : ℕ) (after : Reading) : Type 0 where
   pub earlier : List ℕ
+  pub one_more : length earlier ≤ 1
+  pub newer : All (λ number. length before.held < number) earlier
+  pub stays : earlier ≡ [] → after.held ≡ before.held
   pub reads : after.reads ≡ before.reads ++ (earlier ++ answer ∷ [])
   pub number : answer ≡ length after.held
   pub least : before.least ≤ answer

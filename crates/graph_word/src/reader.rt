@@ -85,8 +85,8 @@ impl<P: Numbered> Reader<P> {
 
     /// Goes on to the newest plan, and answers its number.
     ///
-    /// One load of the graph word, and one exchange where its plan is newer than the own one; where it is not, nothing
-    /// moves. It neither waits nor takes memory, and copies no plan.
+    /// One load of the graph word, and one exchange exactly where its plan is newer than the own one: at most two looks
+    /// at the word. Where it is not newer, nothing moves. It neither waits nor takes memory, and copies no plan.
     pub fn take(&mut self) -> u32
         ensures { Takes self.old.0 result self.new.0 }
     {

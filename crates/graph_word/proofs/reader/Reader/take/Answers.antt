@@ -20,4 +20,4 @@ returns g c =
     let after : ReaderView = c.replace_with.new.dest.seat.me.0.reader in let brought : Exchanges c.load-found.new.seat.me.0.reader n after = search rules in
     let came : Exchanges (ahead_after e w) n after = subst (λ (m : Me (Option P) SeatView). Exchanges m.0.reader n after) looked brought in
     let tables : c.replace_with.new.dest.seat.table_id ≡ r.seat.table_id = search rules in
-    subst (λ (u : (Reading × P) × TableId × ReaderView). Takes u.0.0 n (reading_of u.1 u.2)) (λ j. (c.self.view_is j, sym tables j, sym came.after_is j)) (took r.seat.table_id e w came.found n came.content came.number_is came.long came.least came.front)
+    subst (λ (u : (Reading × P) × TableId × ReaderView). Takes u.0.0 n (reading_of u.1 u.2)) (λ j. (c.self.view_is j, sym tables j, sym came.after_is j)) (took r.seat.table_id e w came.found n came.content (omega arith) came.number_is came.long came.least came.front)
