@@ -3,8 +3,10 @@
 --     state_of held      the state that these clients and ports are, with no edges, no master and no timeout
 --     client_by held name, port_by held name      what has the name, if anything
 --     system_ports capture playback      the ports of `system`, without their ids
+--     AreInOrder ports      ports stand in order of birth
 --     IsRegistered held      what is true of every registry
 use Rattle.std.specs.Prelude.{◌≡◌, ◌≤◌, ◌<◌, ℕ, Bool, true, false, not, ◌&&◌, List, [], ◌∷◌, ◌++◌, map, filter, find, length, count_by, Contains, Option, Some, None, if◌then◌else◌}
+use Rattle.std.specs.List.Sorted.{IsNonDecreasingBy}
 use Rattle.std.specs.Str.{bytes_eq}
 use Rattle.jack_types.specs.Names.{client_part}
 use Rattle.jack_types.specs.Ports.{way_flags}
@@ -145,6 +147,10 @@ unlisted port = record port { id = record { 0 = 0 } }
 -- the ports of `system`, capture before playback, without their ids
 abbrev pub system_ports : ℕ → ℕ → List Port
 system_ports capture playback = map (system_port Out) (below capture) ++ map (system_port In) (below playback)
+
+-- ports stand in order of birth; all of `system`'s have one
+abbrev pub AreInOrder : List Port → Type 0
+AreInOrder ports = IsNonDecreasingBy (λ (port : Port). port.birth) ports
 
 -- the node of a client's ports; `system` is two
 abbrev pub node_for : Client → Way → Node

@@ -3,7 +3,7 @@
 ghost use Rattle.std.specs.Prelude.{◌≡◌, ◌≤◌, position, vec_capacity, OnOk, OnErr};
 ghost use Rattle.port_registry.specs.Registered.{client_by, port_by, has_name, IsRegistered};
 
-use crate::tables::{PORTS, PortIter, PortTable};
+use crate::tables::{PortIter, PortTable};
 use arrayvec::ArrayVec;
 use jack_types::{Client, ClientName, Memory, Port, PortId, PortName};
 use std::marker::Model;
@@ -56,8 +56,10 @@ fn place_in(clients: &[Client], name: &ClientName) -> Option<usize>
 }
 
 impl Registry {
-    /// Makes room for so many clients and ports in all, of which there can be no more than 2,064.
+    /// Makes room for so many clients and ports in all. There are at most 2,064 ports: 32 of each of 64 clients,
+    /// and 16 of `system`.
     pub fn reserve(&mut self, clients: u32, ports: u32) -> Result<(), Memory>
+        requires most_ports { ports ≤ 2064 }
         ensures clients { self.new.clients ≡ self.old.clients }
         ensures ports { self.new.ports ≡ self.old.ports }
         ensures client_room { OnOk result (clients ≤ self.new.client_room) }
@@ -71,9 +73,6 @@ impl Registry {
         let ports = ports as usize;
         widen(&mut self.clients, clients)?;
         widen(&mut self.lists, clients)?;
-        if ports > PORTS {
-            return Err(Memory);
-        }
         self.table.reserve(ports)?;
         self.client_room = self.client_room.max(clients);
         self.port_room = self.port_room.max(ports);

@@ -11,7 +11,7 @@ invariant_of-self-2 c = record {
   fits_clients = omega (arith, c.max-self-inside.ensures, c.in_ok-widen.ensures.room, c.widen.ensures.more, c.self.invariant.fits_clients);
   fits_lists = omega (arith, c.max-self-inside.ensures, c.in_ok-widen-2.ensures.room, c.widen-2.ensures.more, c.self.invariant.fits_lists);
   fits_ports = omega (arith, c.max-self-inside-2.ensures, c.in_ok-reserve.ensures.room, c.reserve.ensures.more, c.self.invariant.fits_ports);
-  most_ports = omega (arith, c.max-self-inside-2.ensures, c.if-ports-gt-PORTS.false, c.self.invariant.most_ports);
+  most_ports = omega (arith, c.max-self-inside-2.ensures, c.requires.most_ports, c.self.invariant.most_ports);
 }
 
 pub returns-clause-registered : goal.returns-clause-registered
