@@ -1,0 +1,69 @@
+#!/usr/bin/env bash
+# Each result that README.md and docs/*.md print is what the program gives. In these documents a fenced block whose first
+# line has two words, as in ```text first.session, is a file of that name; a ```console block is commands behind `$ `, each
+# with what it prints. A document's blocks are run in their order, in a folder of their own, with `jackd` on the path.
+# The program is $PROGRAM, or crates/jackd/out/jackd as `rt run` leaves it; where it or python3 is missing the check is
+# passed over, and so is a block that needs a tool that is missing.
+set -u
+cd "$(dirname "$0")/.."
+program=${PROGRAM:-$PWD/crates/jackd/out/jackd}
+if [ ! -x "$program" ]; then
+  echo "check-documents: passed over, no program at $program"
+  exit 0
+fi
+if ! command -v python3 >/dev/null; then
+  echo "check-documents: passed over, no python3"
+  exit 0
+fi
+python3 - "$program" README.md examples/README.md docs/*.md <<'PY'
+import os, re, shutil, subprocess, sys, tempfile
+
+program, documents = os.path.abspath(sys.argv[1]), sys.argv[2:]
+tools = ['sox', 'ffprobe', 'man']
+block = re.compile(r'^```(\S+)(?: (\S+))?\n(.*?)^```$', re.M | re.S)
+faults = commands = 0
+
+
+def calls(text):
+    """The commands of a block, each with what it prints."""
+    parts = re.split(r'^\$ (.*)\n', text, flags=re.M)
+    if parts[0]:
+        raise SystemExit(f'check-documents: a block begins without a command: {parts[0][:60]}')
+    return list(zip(parts[1::2], parts[2::2]))
+
+
+def run(words, place, path):
+    """What these commands print, one after the other in one shell, with standard error behind."""
+    mark = 'the end of one command'
+    script = ''.join(f'{it}\n{{ mark=$?; echo; echo "{mark}"; (exit $mark); }} 2>/dev/null\n' for it in words)
+    done = subprocess.run(['bash', '-c', script], cwd=place, env={**os.environ, 'PATH': path}, stdout=subprocess.PIPE, stderr=subprocess.DEVNULL, text=True)
+    return done.stdout.split(f'\n{mark}\n')
+
+
+for document in documents:
+    blocks = block.findall(open(document).read())
+    with tempfile.TemporaryDirectory() as folder:
+        place, tool = f'{folder}/work', f'{folder}/tool'
+        os.mkdir(place)
+        os.mkdir(tool)
+        os.symlink(program, f'{tool}/jackd')
+        path = f'{tool}:{os.environ["PATH"]}'
+        for language, name, text in blocks:
+            if name:
+                open(f'{place}/{name}', 'w').write(text)
+            elif language == 'console':
+                wanted = calls(text)
+                missing = [it for it in tools if re.search(rf'(^|[|$] *){it} ', text, re.M) and not shutil.which(it)]
+                if missing:
+                    print(f'check-documents: {document}: passed over, no {missing[0]}: {wanted[0][0][:60]}')
+                    continue
+                printed = run([it for it, _ in wanted], place, path)
+                for (command, result), got in zip(wanted, printed):
+                    commands += 1
+                    if got != result:
+                        faults += 1
+                        print(f'check-documents: {document}: {command}\n-- printed\n{got}-- and not\n{result}', end='')
+if not faults:
+    print(f'check-documents: passed, {commands} commands')
+sys.exit(faults != 0)
+PY
