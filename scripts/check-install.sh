@@ -1,0 +1,105 @@
+#!/usr/bin/env bash
+# scripts/install.sh installs a program that plays, under its two names or under one, with a man page that is read and
+# with completion that bash, zsh and fish take. The program is $PROGRAM, or crates/jackd/out/jackd as `rt run` leaves it;
+# without it, or where another jackd is on the path already, the check is passed over, and so is a tool that is missing.
+set -u
+cd "$(dirname "$0")/.."
+program=${PROGRAM:-$PWD/crates/jackd/out/jackd}
+if [ ! -x "$program" ]; then
+  echo "check-install: passed over, no program at $program"
+  exit 0
+fi
+if command -v jackd >/dev/null; then
+  echo "check-install: passed over, $(command -v jackd) is on the path"
+  exit 0
+fi
+folder=$(mktemp -d)
+trap 'rm -rf "$folder"' EXIT
+status=0
+fault() {
+  echo "check-install: $*"
+  status=1
+}
+over() { echo "check-install: passed over, no $1"; }
+
+# Where no other jackd is on the path both names are installed, and again over the first time.
+for time in first second; do
+  PROGRAM=$program PATH="$folder/free/bin:$PATH" bash scripts/install.sh "$folder/free" > "$folder/said" || fault "the $time time it failed: $(cat "$folder/said")"
+  for name in sagbufe-jackd jackd; do
+    [ "$("$folder/free/bin/$name" --version)" = "$("$program" --version)" ] || fault "the $time time $name is not the program"
+  done
+done
+# Another jackd keeps its name, and nothing of it is written over.
+mkdir -p "$folder/other"
+printf '#!/bin/sh\necho another\n' > "$folder/other/jackd"
+chmod +x "$folder/other/jackd"
+PROGRAM=$program PATH="$folder/other:$PATH" bash scripts/install.sh "$folder/kept" > "$folder/said" || fault "beside another jackd it failed"
+grep -q "$folder/other/jackd keeps the name" "$folder/said" || fault "it does not say that another jackd keeps its name"
+[ -e "$folder/kept/bin/sagbufe-jackd" ] || fault "sagbufe-jackd is not there beside another jackd"
+for name in bin/jackd share/man/man1/jackd.1 share/bash-completion/completions/jackd share/fish/vendor_completions.d/jackd.fish; do
+  [ -e "$folder/kept/$name" ] && fault "$name is there beside another jackd"
+done
+[ "$(head -n 1 "$folder/kept/share/zsh/site-functions/_sagbufe-jackd")" = '#compdef sagbufe-jackd' ] || fault "zsh completes another jackd"
+
+# The man page.
+page=$folder/free/share/man/man1/jackd.1
+if command -v man >/dev/null; then
+  MANPAGER=cat MANWIDTH=100 man -l "$page" 2>"$folder/warned" | grep -q 'EXIT STATUS' || fault "man does not show the page: $(cat "$folder/warned")"
+else
+  over man
+fi
+if command -v groff >/dev/null; then
+  warned=$(groff -man -Tutf8 -ww "$page" 2>&1 >/dev/null)
+  [ -z "$warned" ] || fault "groff: $warned"
+else
+  over groff
+fi
+if command -v mandoc >/dev/null; then
+  warned=$(mandoc -T lint -W warning "$page") || fault "mandoc: $warned"
+else
+  over mandoc
+fi
+
+# Completion in bash: what is offered behind these words, the last of which is completed.
+mkdir "$folder/files"
+touch "$folder/files/one.session"
+offered() {
+  (cd "$folder/files" && bash --norc -c '
+    source "$0"; COMP_WORDS=("$@"); COMP_CWORD=$(($# - 1))
+    "$(complete -p "$1" | sed "s/.* -F \(\S*\) .*/\1/")"; echo "${COMPREPLY[*]}"' "$folder/free/share/bash-completion/completions/$1" "$@")
+}
+try() {
+  local wanted=$1
+  shift
+  local got
+  got=$(offered "$@" 2>&1)
+  [ "$got" = "$wanted" ] || fault "bash offers '$got' behind '$*', not '$wanted'"
+}
+for name in jackd sagbufe-jackd; do
+  try 'play --help --version' $name ''
+  try 'play' $name p
+  try 'one.session' $name play ''
+  try 'one.session' $name play a b o
+  try '--record' $name play a b c ''
+  try 'one.session' $name play a b c --record ''
+  try '--record' $name play a b c --record d --record e --record f ''
+  try '' $name play a b c --record d --record e --record f --record g ''
+  try '' $name --help ''
+done
+
+# zsh reads its completion; fish offers what bash offers.
+if command -v zsh >/dev/null; then
+  zsh -n "$folder/free/share/zsh/site-functions/_sagbufe-jackd" || fault "zsh does not read its completion"
+else
+  over zsh
+fi
+if command -v fish >/dev/null; then
+  for name in jackd sagbufe-jackd; do
+    got=$(cd "$folder/files" && fish --no-config -c "source $folder/free/share/fish/vendor_completions.d/$name.fish; complete -C '$name '; complete -C '$name play a '; complete -C '$name play a b c --'" | cut -f 1 | tr '\n' ' ')
+    [ "$got" = 'play one.session --record ' ] || fault "fish offers '$got'"
+  done
+else
+  over fish
+fi
+[ $status -eq 0 ] && echo "check-install: passed"
+exit $status
