@@ -148,10 +148,11 @@ impl<G: Guest> Bench<G> {
         self.seat.lend(guest);
     }
 
-    /// The guest that was lent, if there is one. It leaves.
+    /// The guest that was lent, if there is one, as it is: with the numbers that it remembers. It leaves.
     pub fn give_back(&mut self) -> Option<G>
         ensures none { IfNone result (self.old.score ≡ None) }
         ensures guest { IfSome result (λ guest. self.old.score ≡ Some (G.score guest)) }
+        ensures numbers { IfSome result (λ guest. self.old.memory.numbers ≡ G.numbers guest) }
         ensures after { self.new ≡ record self.old { score = None; memory = record self.old.memory { numbers = []; is_dead = false } } }
     {
         self.seat.give_back()
