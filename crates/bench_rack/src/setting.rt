@@ -70,6 +70,7 @@ impl<G: Guest> Rack<G> {
         requires idle { (bench_at self.old place).kept.turn ≡ None }
         ensures none { IfNone result ((bench_at self.old place).kept.standing.score ≡ None) }
         ensures guest { IfSome result (λ guest. (bench_at self.old place).kept.standing.score ≡ Some (G.score guest)) }
+        ensures numbers { IfSome result (λ guest. (bench_at self.old place).kept.standing.memory.numbers ≡ G.numbers guest) }
         ensures after { self.new ≡ with_bench self.old place (record (bench_at self.old place) { kept = record (bench_at self.old place).kept { standing = record (bench_at self.old place).kept.standing { score = None; memory = record (bench_at self.old place).kept.standing.memory { numbers = []; is_dead = false } } } }) }
     {
         self.benches[place].give_back()

@@ -67,6 +67,7 @@ impl<G: Guest> ClientBench<G> {
         requires { self.old.kept.turn ≡ None }
         ensures none { IfNone result (self.old.kept.standing.score ≡ None) }
         ensures guest { IfSome result (λ guest. self.old.kept.standing.score ≡ Some (G.score guest)) }
+        ensures numbers { IfSome result (λ guest. self.old.kept.standing.memory.numbers ≡ G.numbers guest) }
         ensures after { self.new ≡ record self.old { kept = record self.old.kept { standing = record self.old.kept.standing { score = None; memory = record self.old.kept.standing.memory { numbers = []; is_dead = false } } } } }
     {
         self.parts.bench.give_back()

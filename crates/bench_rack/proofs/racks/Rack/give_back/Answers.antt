@@ -15,6 +15,11 @@ returns-clause-guest g c =
     let slot : IsSlot c.args.self.now c.self.inside.benches.items c.self.inside.links c.args.place c.index_mut.result.now = record { view = c.self.view_is; within = c.requires.place; is = c.index_mut.ensures.value } in
     subst (λ (seen : Seen). IfSome c.give_back.result (λ guest. seen.kept.standing.score ≡ Some (g.G.Guest.score guest))) (slot-is slot) c.give_back.ensures.guest
 
+pub returns-clause-numbers : goal.returns-clause-numbers
+returns-clause-numbers g c =
+    let slot : IsSlot c.args.self.now c.self.inside.benches.items c.self.inside.links c.args.place c.index_mut.result.now = record { view = c.self.view_is; within = c.requires.place; is = c.index_mut.ensures.value } in
+    subst (λ (seen : Seen). IfSome c.give_back.result (λ guest. seen.kept.standing.memory.numbers ≡ g.G.Guest.numbers guest)) (slot-is slot) c.give_back.ensures.numbers
+
 pub returns-clause-after : goal.returns-clause-after
 returns-clause-after g c =
     let slot : IsSlot c.args.self.now c.self.inside.benches.items c.self.inside.links c.args.place c.index_mut.result.now = record { view = c.self.view_is; within = c.requires.place; is = c.index_mut.ensures.value } in
