@@ -2,10 +2,11 @@
 --     a_cycle      it is a whole cycle, in the driver's own terms
 --     a_course, a_kept      a course fits behind it, and is kept
 --     a_playback      its playback gets the capture's first samples
-use Rattle.std.proofs.Common.{◌≡◌, ℕ, zero, suc, false, ◌==◌, ◌⊎◌, inl, inr, List, [], ◌∷◌, drop, take, slice_get, get_or, All, Contains, ℤ, pos, codes, Some, None, Option, option_map, refl, sym, ◌∙◌, ap, subst, arith, true≢false}
+use Rattle.std.proofs.Common.{◌≡◌, ℕ, zero, suc, ◌<◌, false, ◌==◌, ◌⊎◌, inl, inr, List, [], ◌∷◌, drop, take, slice_get, get_or, All, Contains, ℤ, pos, codes, Some, None, Option, option_map, refl, sym, ◌∙◌, ap, subst, arith, true≢false}
 use Rattle.std.specs.Fmt.{digits}
 use Rattle.std.specs.List.{list_any}
 use Rattle.std.proofs.lemmas.List.{get_or_past}
+use Rattle.std.proofs.lemmas.List.Elements.{All-cons, All-nil}
 use Rattle.std.proofs.lemmas.Option.{none-some}
 use Rattle.atomic_table.specs.Seated.{TableId}
 use Rattle.jack_types.specs.declared.commands.Call.{Call}
@@ -98,7 +99,7 @@ module _ (table : TableId) where
   before = record driver { playback = Some (tape_of 0) }
 
   abbrev taken_of : Reading
-  taken_of = record opening { held = content; reads = 1 ∷ []; least = 1 }
+  taken_of = record opening { held = content; reads = 1 ∷ 1 ∷ []; least = 1 }
 
   abbrev pub after : Driver
   after = record before {
@@ -115,7 +116,7 @@ module _ (table : TableId) where
   steps = record {
     taken = taken_of;
     number = 1;
-    takes = record { earlier = []; reads = refl; number = refl; least = omega arith; front = refl; same = refl };
+    takes = record { earlier = 1 ∷ []; one_more = omega arith; newer = All-cons (λ number. 0 < number) 1 [] (omega arith) (All-nil (λ number. 0 < number)); stays = λ none. absurd (cc); reads = refl; number = refl; least = omega arith; front = refl; same = refl };
     begins = record { after_is = refl };
     numbers = refl;
     rings = λ recorder ring ring_after here there. absurd (none-some ring here);
