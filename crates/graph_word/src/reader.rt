@@ -1,5 +1,6 @@
 //! The end of a publication that reads.
-ghost use Rattle.std.specs.Prelude.{◌≡◌, ◌<◌, true, false, [], ◌∷◌, None, length};
+ghost use Rattle.std.specs.Prelude.{◌<◌};
+ghost use Rattle.graph_word.specs.Ends.{IsHeld};
 ghost use Rattle.graph_word.specs.Steps.{Exchanges};
 
 use crate::plans::Numbered;
@@ -27,23 +28,22 @@ pub(crate) struct Hold<P: Numbered> {
 }
 
 impl<P: Numbered> Model for Reader<P> {
-    ghost use Rattle.std.specs.Prelude.{◌≡◌, ◌<◌, true, false, [], ◌∷◌, None, length};
     ghost use Rattle.std.specs.Arc.{arc_value};
     ghost use Rattle.graph_word.specs.Publications.{Reading};
-    ghost use Rattle.graph_word.specs.Ends.{reading_of};
+    ghost use Rattle.graph_word.specs.Ends.{reading_of, IsHeld};
 
     ghost Value = { Reading × P };
 
     ghost view = { λ r. (reading_of r.hold.seat.table_id r.hold.seat.me.0.reader, r.hold.plan) };
 
-    ghost invariant = { λ r. ((arc_value r.table).shared.table_id.words ≡ 2) × ((arc_value r.table).shared.table_id.slots ≡ 3) × (r.hold.seat.table_id ≡ (arc_value r.table).shared.table_id) × (r.hold.seat.me.1 ≡ (r.hold.place, None) ∷ []) × (r.hold.seat.me.0.is_reader ≡ true) × (r.hold.seat.me.0.is_publisher ≡ false) × (r.hold.seat.me.0.reader.holds ≡ true) × (r.hold.place ≡ r.hold.seat.me.0.reader.place) × (r.hold.place < 3) × (r.hold.number ≡ length r.hold.seat.me.0.reader.held) × (P.content r.hold.plan ≡ r.hold.seat.me.0.reader.held) × (P.base r.hold.plan ≡ r.hold.seat.me.0.reader.base) };
+    ghost invariant = { λ r. IsHeld P.content P.base (arc_value r.table).shared.table_id r.hold };
 }
 
 // Exchanges the plan of the reader's place for a newer one, which a load has found.
 fn swapped<P: Numbered>(words: &Words<P>, hold: Hold<P>) -> (Hold<P>, u32)
-    requires stands { (words.now.table_id.words ≡ 2) × (words.now.table_id.slots ≡ 3) × (hold.seat.table_id ≡ words.now.table_id) × (hold.seat.me.1 ≡ (hold.place, None) ∷ []) × (hold.seat.me.0.is_reader ≡ true) × (hold.seat.me.0.is_publisher ≡ false) × (hold.seat.me.0.reader.holds ≡ true) × (hold.place ≡ hold.seat.me.0.reader.place) × (hold.place < 3) × (hold.number ≡ length hold.seat.me.0.reader.held) × (P.content hold.plan ≡ hold.seat.me.0.reader.held) × (P.base hold.plan ≡ hold.seat.me.0.reader.base) }
+    requires stands { IsHeld P.content P.base words.now.table_id hold }
     requires newer { 0 < hold.seat.me.0.reader.ahead }
-    ensures stands { (words.now.table_id.words ≡ 2) × (words.now.table_id.slots ≡ 3) × (result.0.seat.table_id ≡ words.now.table_id) × (result.0.seat.me.1 ≡ (result.0.place, None) ∷ []) × (result.0.seat.me.0.is_reader ≡ true) × (result.0.seat.me.0.is_publisher ≡ false) × (result.0.seat.me.0.reader.holds ≡ true) × (result.0.place ≡ result.0.seat.me.0.reader.place) × (result.0.place < 3) × (result.0.number ≡ length result.0.seat.me.0.reader.held) × (P.content result.0.plan ≡ result.0.seat.me.0.reader.held) × (P.base result.0.plan ≡ result.0.seat.me.0.reader.base) }
+    ensures stands { IsHeld P.content P.base words.now.table_id result.0 }
     ensures swaps { Exchanges hold.seat.me.0.reader result.1 result.0.seat.me.0.reader }
 {
     let Hold {

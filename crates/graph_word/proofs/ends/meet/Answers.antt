@@ -6,7 +6,7 @@ use Rattle.graph_word.proofs.Meetings.{parts, joins, goes_back, meets}
 use Rattle.graph_word.proofs.ends.meet.Goals as goal
 
 pub split_seat-theirs-requires : goal.split_seat-theirs-requires
-split_seat-theirs-requires g c = (search rules, search rules, parts g.P.Numbered.content g.P.Numbered.base _ _ c.reader.inside.hold.seat.me.0 c.reader.invariant.4)
+split_seat-theirs-requires g c = (search rules, search rules, parts g.P.Numbered.content g.P.Numbered.base _ _ c.reader.inside.hold.seat.me.0 c.reader.invariant.reads)
 
 pub join_seat-requires : goal.join_seat-requires
 join_seat-requires g c =
@@ -15,7 +15,7 @@ join_seat-requires g c =
       search rules,
       search rules,
       search rules,
-      joins g.P.Numbered.content g.P.Numbered.base _ _ c.publisher.inside.seat.me.0 _ c.split_seat-theirs.result.me.0 c.publisher.invariant.4 (ap (λ (u : Me (Option g.row.P.Denot) SeatView). u.0.is_reader) cut.4 ∙ c.reader.invariant.4),
+      joins g.P.Numbered.content g.P.Numbered.base _ _ c.publisher.inside.seat.me.0 _ c.split_seat-theirs.result.me.0 c.publisher.invariant.4 (ap (λ (u : Me (Option g.row.P.Denot) SeatView). u.0.is_reader) cut.4 ∙ c.reader.invariant.reads),
     )
 
 pub load-requires : goal.load-requires
@@ -36,6 +36,6 @@ join_seat-requires-2 g c =
       search rules,
       search rules,
       search rules,
-      goes_back g.P.Numbered.content g.P.Numbered.base _ _ c.split_seat-theirs.new.seat.me.0 _ c.split_seat-back.result.me.0 (ap (λ (u : Me (Option g.row.P.Denot) SeatView). u.0.is_publisher) left ∙ c.reader.invariant.5)
+      goes_back g.P.Numbered.content g.P.Numbered.base _ _ c.split_seat-theirs.new.seat.me.0 _ c.split_seat-back.result.me.0 (ap (λ (u : Me (Option g.row.P.Denot) SeatView). u.0.is_publisher) left ∙ c.reader.invariant.alone)
           (ap (λ (u : Me (Option g.row.P.Denot) SeatView). u.0.is_reader) right ∙ ap (λ (u : Me (Option g.row.P.Denot) SeatView). u.0.is_reader) c.load.ensures.2.1) (ap (λ (u : Me (Option g.row.P.Denot) SeatView). u.0.is_publisher) right),
     )

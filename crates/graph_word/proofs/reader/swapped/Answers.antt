@@ -14,12 +14,12 @@ pub swap-found-requires : goal.swap-found-requires
 swap-found-requires g c =
     let r = c.args.hold in let i = c.requires.stands in let v : SeatView = r.seat.me.0 in let P : Type 0 = g.row.P.Denot in let n : ℕ = c.args.words.now.table_id.slots in
     let content = g.P.Numbered.content in let base_of = g.P.Numbered.base in let z : Base = base_of c.args.words.now.key in
-    let new : ℕ = r.number * 4 + r.place in let count : r.number ≡ length v.reader.held = i.9 in
-    let now = c.exchange.ensures.3 ∙ ap (λ (l : List (ℕ × Option P)). (v, (r.place, Some r.plan) ∷ rest l)) i.3 in (
+    let new : ℕ = r.number * 4 + r.place in let count : r.number ≡ length v.reader.held = i.number in
+    let now = c.exchange.ensures.3 ∙ ap (λ (l : List (ℕ × Option P)). (v, (r.place, Some r.plan) ∷ rest l)) i.slot_out in (
       search rules,
       search rules,
       subst (λ (m : Me (Option P) SeatView). Allows (PublicationRule content base_of z) n c.exchange.new.seat.id m 0 (λ _. new) (Swapped content base_of (step n 0 new 0 none) m)) (sym now)
-          (swaps content base_of z n c.exchange.new.seat.id v r.place new r.plan i.4 i.5 i.6 i.7 i.10 i.11 (ap (λ (q : ℕ). q * 4 + r.place) count) c.requires.newer),
+          (swaps content base_of z n c.exchange.new.seat.id v r.place new r.plan i.reads i.alone i.holds i.place i.content i.base (ap (λ (q : ℕ). q * 4 + r.place) count) c.requires.newer),
     )
 
 pub exchange-requires-2 : goal.exchange-requires-2
