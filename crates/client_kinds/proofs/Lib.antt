@@ -2,4 +2,5 @@ pub mod FillLemmas
 pub mod BufferLemmas
 pub mod LineLemmas
 pub mod ClickLemmas
+pub mod MixLemmas
 pub mod PlayLemmas

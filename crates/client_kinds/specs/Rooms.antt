@@ -4,7 +4,8 @@
 --     HasSums kind period room      a mix has room for its sums
 --     IsPlain kind memory      a guest's own numbers are all that its kind remembers
 --     IsRoomy kind period room memory      what stays true of a bench
---     IsMixed kind period inputs sums      the sums of a mix are those of its inputs
+--     HasMixed count period inputs sums      the sums are those of the inputs, but of an input alone
+--     IsMixed kind count period inputs sums      the sums of a mix are those of its inputs
 use Rattle.std.specs.Prelude.{◌≡◌, ℕ, ◌*◌, ◌<◌, ◌≤◌, ⊤, List, length, ℤ}
 use Rattle.jack_types.specs.declared.kinds.Kind.{Kind}
 use Rattle.jack_types.specs.declared.kinds.Kind.TheVariants.{Mix, Delay, Tone, Guest, Disk}
@@ -21,9 +22,13 @@ abbrev pub HasRoom : Kind → ℕ → ℕ → Type 0
 HasRoom (Disk disk) period room = room ≡ 8 * period
 HasRoom _ period room = ⊤
 
-abbrev pub IsMixed : Kind → ℕ → List (List ℤ) → List ℤ → Type 0
-IsMixed Mix period inputs sums = sums ≡ sums_of period inputs
-IsMixed _ period inputs sums = ⊤
+-- of inputs that are not one alone
+abbrev pub HasMixed : ℕ → ℕ → List (List ℤ) → List ℤ → Type 0
+HasMixed count period inputs sums = (count ≡ 1 → ⊥) → sums ≡ sums_of period inputs
+
+abbrev pub IsMixed : Kind → ℕ → ℕ → List (List ℤ) → List ℤ → Type 0
+IsMixed Mix count period inputs sums = HasMixed count period inputs sums
+IsMixed _ count period inputs sums = ⊤
 
 -- a mix has room for its sums
 abbrev pub HasSums : Kind → ℕ → ℕ → Type 0

@@ -3,7 +3,7 @@
 ghost use Rattle.std.specs.Prelude.{◌≡◌, ◌+◌, ◌*◌, ◌<◌, ◌≤◌, ◌^◌, IfOk, length};
 ghost use Rattle.port_mixer.specs.Sums.{sums_of};
 ghost use Rattle.client_kinds.specs.Buffers.{buffers_of};
-ghost use Rattle.client_kinds.specs.Rooms.{IsMixed, HasSums};
+ghost use Rattle.client_kinds.specs.Rooms.{HasMixed, IsMixed, HasSums};
 ghost use Rattle.client_kinds.specs.Sounds.{sound, stepped};
 ghost use Rattle.session_model.specs.Kinds.{outputs_by};
 
@@ -59,16 +59,29 @@ fn mix_inputs(mixer: &mut Mixer, ports: Shape, input: &[i32])
     }
 }
 
-/// Mixes the inputs where a kind plays their mix.
+/// Mixes the inputs, but one that is alone.
+fn mix_others(mixer: &mut Mixer, ports: Shape, input: &[i32])
+    requires room { ports.period ≤ mixer.old.room }
+    requires few { ports.inputs ≤ 16 }
+    requires input { length input.now ≡ ports.inputs * ports.period }
+    ensures sums { HasMixed ports.inputs ports.period (buffers_of ports.inputs ports.period input.now) mixer.new.sums }
+    ensures room { mixer.new.room ≡ mixer.old.room }
+{
+    if ports.inputs != 1 {
+        mix_inputs(mixer, ports, input);
+    }
+}
+
+/// Mixes the inputs where a kind plays the mix of more than one, or of none.
 fn prepare(mixer: &mut Mixer, kind: Kind, ports: Shape, input: &[i32])
     requires room { HasSums kind ports.period mixer.old.room }
     requires few { ports.inputs ≤ 16 }
     requires input { length input.now ≡ ports.inputs * ports.period }
-    ensures mixed { IsMixed kind ports.period (buffers_of ports.inputs ports.period input.now) mixer.new.sums }
+    ensures mixed { IsMixed kind ports.inputs ports.period (buffers_of ports.inputs ports.period input.now) mixer.new.sums }
     ensures room { mixer.new.room ≡ mixer.old.room }
 {
     match kind {
-        Kind::Mix => mix_inputs(mixer, ports, input),
+        Kind::Mix => mix_others(mixer, ports, input),
         _ => {}
     }
 }

@@ -2,12 +2,12 @@
 
 ghost use Rattle.std.specs.Prelude.{◌≡◌, ℕ, ◌+◌, ◌*◌, ◌<◌, ◌≤◌, ◌^◌, ◌%◌, [], All, IfOk, fold, length, map};
 ghost use Rattle.session_model.specs.Kinds.{click_sample, first, input_at, peak_with};
-ghost use Rattle.session_model.specs.Samples.{below, silence};
+ghost use Rattle.session_model.specs.Samples.{below, mix, silence};
 ghost use Rattle.client_kinds.specs.Buffers.{buffers_of, channels_of};
 ghost use Rattle.client_kinds.specs.Lines.{AreQuiet, IsWhole, items_of};
 ghost use Rattle.client_kinds.specs.Sounds.{sound};
 ghost use Rattle.client_kinds.specs.Standings.{IsPlayable, IsDisk};
-ghost use Rattle.client_kinds.specs.Rooms.{HasRoom};
+ghost use Rattle.client_kinds.specs.Rooms.{HasMixed, HasRoom};
 
 use crate::buffers::{buffer_at, heard};
 use crate::guests::Shape;
@@ -15,7 +15,7 @@ use crate::lines::{fill_delayed, silent_lines, step_lines};
 use crate::sounds::{fill_channel, fill_click, fill_gain, fill_silence, fill_tone, peak_behind};
 use circular_buffer::HeapCircularBuffer;
 use jack_types::{Kind, Moment, TransportState};
-use port_mixer::Mixer;
+use port_mixer::{Mixer, see_samples};
 use std::alloc::{AllocError, Global};
 use std::marker::Model;
 
@@ -123,7 +123,6 @@ impl Voice {
     }
 
     /// Plays the output of a place.
-    #[tactic(auto, using(crate::proofs::BufferLemmas::length_sums))]
     fn fill(
         &self,
         mixer: &Mixer,
@@ -133,7 +132,7 @@ impl Voice {
         place: usize,
         part: &mut [i32],
     )
-        requires mixed { IsMixed self.now.kind ports.period (buffers_of ports.inputs ports.period input.now) mixer.now.sums }
+        requires mixed { IsMixed self.now.kind ports.inputs ports.period (buffers_of ports.inputs ports.period input.now) mixer.now.sums }
         requires rate { 8000 ≤ moment.now.rate }
         requires frames { moment.now.frame + ports.period < 2 ^ 32 }
         requires period { ports.period ≤ self.now.period }
@@ -153,7 +152,7 @@ impl Voice {
                     part,
                 )
             }
-            Kind::Mix => mixer.settle(part),
+            Kind::Mix => fill_mix(mixer, ports, input, part),
             Kind::Delay { .. } => {
                 fill_delayed(
                     &self.lines[place],
@@ -177,7 +176,7 @@ impl Voice {
         input: &[i32],
         output: &mut [i32],
     )
-        requires mixed { IsMixed self.now.kind ports.period (buffers_of ports.inputs ports.period input.now) mixer.now.sums }
+        requires mixed { IsMixed self.now.kind ports.inputs ports.period (buffers_of ports.inputs ports.period input.now) mixer.now.sums }
         requires rate { 8000 ≤ moment.now.rate }
         requires frames { moment.now.frame + ports.period < 2 ^ 32 }
         requires period { ports.period ≤ self.now.period }
@@ -203,7 +202,7 @@ impl Voice {
         place: usize,
         output: &mut [i32],
     )
-        requires mixed { IsMixed self.now.kind ports.period (buffers_of ports.inputs ports.period input.now) mixer.now.sums }
+        requires mixed { IsMixed self.now.kind ports.inputs ports.period (buffers_of ports.inputs ports.period input.now) mixer.now.sums }
         requires rate { 8000 ≤ moment.now.rate }
         requires frames { moment.now.frame + ports.period < 2 ^ 32 }
         requires period { ports.period ≤ self.now.period }
@@ -235,6 +234,23 @@ impl Voice {
             Kind::Disk { .. } => self.channels = 0,
             _ => {}
         }
+    }
+}
+
+/// The mix of the inputs. An input alone is copied, and no sum of it is looked at.
+#[tactic(auto, using(crate::proofs::BufferLemmas::length_sums, crate::proofs::MixLemmas::mixed_alone))]
+fn fill_mix(mixer: &Mixer, ports: Shape, input: &[i32], part: &mut [i32])
+    requires mixed { HasMixed ports.inputs ports.period (buffers_of ports.inputs ports.period input.now) mixer.now.sums }
+    requires input { length input.now ≡ ports.inputs * ports.period }
+    requires part { length part.old ≡ ports.period }
+    ensures { part.new ≡ mix ports.period (buffers_of ports.inputs ports.period input.now) }
+{
+    if ports.inputs == 1 {
+        let only = buffer_at(ports, input, 0);
+        see_samples(only);
+        part.copy_from_slice(only);
+    } else {
+        mixer.settle(part);
     }
 }
 
