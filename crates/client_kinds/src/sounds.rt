@@ -1,6 +1,6 @@
 //! What is played on one buffer.
 
-ghost use Rattle.std.specs.Prelude.{◌≡◌, ℕ, ◌+◌, ◌*◌, ◌^◌, ◌<◌, ◌≤◌, ◌%◌, if◌then◌else◌, ◌*ℤ◌, ◌≤ℤ◌, pos, negsuc, length, map, nat_abs, neg_ℤ, max};
+ghost use Rattle.std.specs.Prelude.{◌≡◌, ℕ, ◌+◌, ◌*◌, ◌^◌, ◌<◌, ◌≤◌, ◌%◌, if◌then◌else◌, ◌*ℤ◌, ◌≤ℤ◌, pos, negsuc, length, map, nat_abs, nat_lt, neg_ℤ, max};
 ghost use Rattle.std.specs.Int.{int_shr};
 ghost use Rattle.client_kinds.specs.declared.sounds.TheConstants.{PIECE};
 ghost use Rattle.session_model.specs.Kinds.{peak_with, tone_sample};
@@ -60,7 +60,7 @@ fn fill_piece(x: &[i32], factor: i32, shift: u32, part: &mut [i32])
 }
 
 /// The samples times a factor, shifted right.
-pub(crate) fn fill_gain(x: &[i32], factor: i32, shift: u32, part: &mut [i32])
+fn fill_gain(x: &[i32], factor: i32, shift: u32, part: &mut [i32])
     requires lengths { length x.now ≡ length part.old }
     requires shift { shift ≤ 31 }
     ensures { part.new ≡ map (λ x. clamp (int_shr (x *ℤ factor) shift)) x.now }
@@ -70,6 +70,49 @@ pub(crate) fn fill_gain(x: &[i32], factor: i32, shift: u32, part: &mut [i32])
         let end = part.len().min(done + PIECE);
         fill_piece(&x[done..end], factor, shift, &mut part[done..end]);
         done = end;
+    }
+}
+
+/// Whether a gain makes each sample smaller.
+fn is_softer(factor: i32, shift: u32) -> bool
+    requires { shift ≤ 31 }
+    ensures { result ≡ nat_lt (nat_abs factor) (2 ^ shift) }
+{
+    factor.unsigned_abs() < 1 << shift
+}
+
+/// A sample by a gain that makes it smaller: a sample, with no clamp.
+#[tactic(auto, using(crate::proofs::GainLemmas::softer_fits, crate::proofs::GainLemmas::softer_clamped))]
+fn softened(x: i32, factor: i32, shift: u32) -> i32
+    requires shift { shift ≤ 31 }
+    requires softer { nat_abs factor < 2 ^ shift }
+    ensures { result ≡ clamp (int_shr (x *ℤ factor) shift) }
+{
+    shifted(product(x, factor), shift) as i32
+}
+
+/// The samples by a gain that makes them smaller.
+fn fill_softer(x: &[i32], factor: i32, shift: u32, part: &mut [i32])
+    requires lengths { length x.now ≡ length part.old }
+    requires shift { shift ≤ 31 }
+    requires softer { nat_abs factor < 2 ^ shift }
+    ensures { part.new ≡ map (λ x. clamp (int_shr (x *ℤ factor) shift)) x.now }
+{
+    for i in 0..x.len() {
+        part[i] = softened(x[i], factor, shift);
+    }
+}
+
+/// The samples by a gain, a factor and a shift right.
+pub(crate) fn play_gain(x: &[i32], factor: i32, shift: u32, part: &mut [i32])
+    requires lengths { length x.now ≡ length part.old }
+    requires shift { shift ≤ 31 }
+    ensures { part.new ≡ map (λ x. clamp (int_shr (x *ℤ factor) shift)) x.now }
+{
+    if is_softer(factor, shift) {
+        fill_softer(x, factor, shift, part);
+    } else {
+        fill_gain(x, factor, shift, part);
     }
 }
 

@@ -12,7 +12,7 @@ ghost use Rattle.client_kinds.specs.Rooms.{HasMixed, HasRoom};
 use crate::buffers::{buffer_at, heard};
 use crate::guests::Shape;
 use crate::lines::{fill_delayed, silent_lines, step_lines};
-use crate::sounds::{fill_channel, fill_click, fill_gain, fill_silence, fill_tone, peak_behind};
+use crate::sounds::{fill_channel, fill_click, fill_silence, fill_tone, peak_behind, play_gain};
 use circular_buffer::HeapCircularBuffer;
 use jack_types::{Kind, Moment, TransportState};
 use port_mixer::{Mixer, see_samples};
@@ -145,7 +145,7 @@ impl Voice {
         match self.kind {
             Kind::Pass => part.copy_from_slice(heard(ports, input, place, &self.silent)),
             Kind::Gain { factor, shift } => {
-                fill_gain(
+                play_gain(
                     heard(ports, input, place, &self.silent),
                     factor,
                     shift,
