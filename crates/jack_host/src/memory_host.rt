@@ -195,6 +195,8 @@ impl Host for MemoryHost {
         ensures missing { ¬ IsThere (Some (host_files self.old)) name.now → host_read_faults self.new ≡ host_read_faults self.old }
         ensures later { host_read_faults self.old ≤ host_read_faults self.new }
         ensures failed { IsThere (Some (host_files self.old)) name.now → OnErr result (Rose (host_read_faults self.old) (host_read_faults self.new)) }
+        ensures kept { OnOk result (host_read_faults self.new ≡ host_read_faults self.old) }
+        ensures once { host_read_faults self.new ≤ host_read_faults self.old + 1 }
         ensures writes { host_write_faults self.new ≡ host_write_faults self.old }
         ensures files { SameFiles (Some (host_files self.old)) (Some (host_files self.new)) }
         ensures lent { host_lent self.new ≡ host_lent self.old + (if is_ok result then 1 else 0) }
@@ -287,7 +289,7 @@ impl Host for MemoryHost {
         requires out { 0 < host_lent self.old }
         requires named { IsNamedThere (Some (host_files self.old)) (Some (store_name output)) }
         ensures bytes { Stands (Some (host_files self.old)) (Some (host_files self.new)) (Some (store_name output)) (Some (store_bytes output)) }
-        ensures adds { Adds (host_write_faults self.old) (store_faults output) (host_write_faults self.new) }
+        ensures adds { Adds (host_write_faults self.old) (store_faults output + (if is_ok result then 0 else 1)) (host_write_faults self.new) }
         ensures failed { OnErr result (Rose (host_write_faults self.old) (host_write_faults self.new)) }
         ensures reads { host_read_faults self.new ≡ host_read_faults self.old }
         ensures lent { host_lent self.new + 1 ≡ host_lent self.old }

@@ -5,6 +5,7 @@ use super::*;
 use jack_types::Memory;
 use std::alloc::Global;
 use std::fs;
+use std::fs::{File, Files};
 use std::test::Fail;
 
 // Reads by 64 reads into such a piece.
@@ -97,19 +98,23 @@ fn real_files_keep_what_was_written(rt: HostRuntime) -> Result<(), Fail> {
 
 #[test]
 fn a_file_without_a_room_moves_the_bytes_of_each_call(rt: HostRuntime) -> Result<(), Fail> {
-    let mut host = FileHost::new(rt.alloc(), &rt, 1)?;
-    let roomy = host.make_out("roomy").map_err(|_| "not made")?;
+    fs::write(&rt, "roomy", "hey")?;
+    let mut host = FileHost::new(rt.alloc(), &rt, 2)?;
+    let first = host.open_in("roomy").map_err(|_| "not there")?;
+    let second = host.open_in("roomy").map_err(|_| "not there")?;
     let mut bare = host.make_out("bare").map_err(|_| "not made")?;
     assert_eq!(rt; bare.write_at(0, b"hallo"), Ok(()));
     assert_eq!(rt; bare.write_at(5, b"!"), Ok(()));
     assert_eq!(rt; bare.write_at(1, b"e"), Ok(()));
+    assert_eq!(rt; fs::read(&rt, "bare")?.as_slice(), b"hello!".as_slice());
     assert_eq!(rt; host.done(bare), Ok(()));
-    assert_eq!(rt; host.done(roomy), Ok(()));
-    let roomy = host.open_in("roomy").map_err(|_| "not there")?;
-    let mut bare = host.open_in("bare").map_err(|_| "not there")?;
-    let bytes = read_by(rt.alloc(), &mut bare, &mut [0; 4])?;
+    let bare = host.open_in("bare").map_err(|_| "not there")?;
+    let mut last = host.open_in("bare").map_err(|_| "not there")?;
     host.back(bare);
-    host.back(roomy);
+    let bytes = read_by(rt.alloc(), &mut last, &mut [0; 4])?;
+    host.back(last);
+    host.back(second);
+    host.back(first);
     fs::remove_file(&rt, "roomy")?;
     fs::remove_file(&rt, "bare")?;
     assert_eq!(rt; bytes.as_slice(), b"hello!".as_slice());
@@ -138,6 +143,97 @@ fn a_long_file_is_written_in_order(rt: HostRuntime) -> Result<(), Fail> {
     assert_eq!(rt; bytes.first(), Some(&b'a'));
     assert_eq!(rt; bytes.get(40_000), Some(&b'b'));
     assert_eq!(rt; bytes.get(80_000), Some(&b'c'));
+    Ok(())
+}
+
+// The bytes of a file.
+fn text_of(rt: &HostRuntime, name: &str) -> Result<String, Fail> {
+    Ok(fs::read_to_string(rt, name)?)
+}
+
+// Why the last making failed.
+fn kind_of<R: Files<File = File>>(host: &FileHost<'_, R>) -> Option<FailureKind> {
+    host.last_write_failure().map(|failure| failure.kind())
+}
+
+#[test]
+fn an_input_is_not_made_by_another_name(rt: HostRuntime) -> Result<(), Fail> {
+    fs::write(&rt, "input", "capture")?;
+    let mut host = FileHost::new(rt.alloc(), &rt, 2)?;
+    let input = host.open_in("input").map_err(|_| "not there")?;
+    assert!(rt; host.make_out("./input").is_err());
+    assert!(rt; kind_of(&host) == Some(FailureKind::IsInput));
+    host.back(input);
+    assert!(rt; host.make_out(".//input").is_err());
+    let name = host
+        .last_write_failure()
+        .map_or("", |failure| failure.name());
+    assert_eq!(rt; name, ".//input");
+    assert_eq!(rt; text_of(&rt, "input")?.as_str(), "capture");
+    fs::remove_file(&rt, "input")?;
+    Ok(())
+}
+
+#[test]
+fn an_output_is_not_made_twice(rt: HostRuntime) -> Result<(), Fail> {
+    let mut host = FileHost::new(rt.alloc(), &rt, 2)?;
+    let output = host.make_out("output").map_err(|_| "not made")?;
+    fs::hard_link(&rt, "output", "link")?;
+    assert!(rt; host.make_out("link").is_err());
+    assert!(rt; kind_of(&host) == Some(FailureKind::IsOutput));
+    assert_eq!(rt; host.done(output), Ok(()));
+    let again = host.make_out("link").map_err(|_| "not made")?;
+    assert_eq!(rt; host.done(again), Ok(()));
+    fs::remove_file(&rt, "output")?;
+    fs::remove_file(&rt, "link")?;
+    Ok(())
+}
+
+#[test]
+fn a_file_that_another_writes_is_not_made(rt: HostRuntime) -> Result<(), Fail> {
+    let mut one = FileHost::new(rt.alloc(), &rt, 1)?;
+    let mut other = FileHost::new(rt.alloc(), &rt, 1)?;
+    let output = one.make_out("held").map_err(|_| "not made")?;
+    assert!(rt; other.make_out("held").is_err());
+    assert!(rt; kind_of(&other) == Some(FailureKind::InUse));
+    assert_eq!(rt; one.done(output), Ok(()));
+    let output = other.make_out("held").map_err(|_| "not made")?;
+    assert_eq!(rt; other.done(output), Ok(()));
+    fs::remove_file(&rt, "held")?;
+    Ok(())
+}
+
+#[test]
+fn a_file_keeps_its_bytes_until_the_first_is_written(rt: HostRuntime) -> Result<(), Fail> {
+    fs::write(&rt, "kept", "old bytes")?;
+    let mut host = FileHost::new(rt.alloc(), &rt, 3)?;
+    let mut output = host.make_out("kept").map_err(|_| "not made")?;
+    assert_eq!(rt; output.write_at(0, b"new"), Ok(()));
+    assert!(rt; host.make_out("no/folder").is_err());
+    assert!(rt; kind_of(&host) == Some(FailureKind::Making));
+    assert_eq!(rt; host.done(output), Ok(()));
+    assert_eq!(rt; text_of(&rt, "kept")?.as_str(), "old bytes");
+    let mut output = host.make_out("kept").map_err(|_| "not made")?;
+    assert_eq!(rt; output.write_at(0, b"new"), Ok(()));
+    assert_eq!(rt; host.done(output), Ok(()));
+    assert_eq!(rt; text_of(&rt, "kept")?.as_str(), "new");
+    fs::remove_file(&rt, "kept")?;
+    Ok(())
+}
+
+#[test]
+fn what_keeps_nothing_is_written_by_any_name(rt: HostRuntime) -> Result<(), Fail> {
+    let mut host = FileHost::new(rt.alloc(), &rt, 1)?;
+    let input = host.open_in("/dev/null").map_err(|_| "not there")?;
+    let mut output = host.make_out("/dev/null").map_err(|_| "not made")?;
+    assert_eq!(rt; output.write_at(0, b"away"), Ok(()));
+    assert_eq!(rt; host.done(output), Ok(()));
+    host.back(input);
+    assert!(rt; host.last_write_failure().is_none());
+    let mut full = host.make_out("/dev/full").map_err(|_| "not made")?;
+    assert_eq!(rt; full.write_at(0, b"away"), Ok(()));
+    assert_eq!(rt; host.done(full), Err(Failed));
+    assert!(rt; kind_of(&host) == Some(FailureKind::Writing));
     Ok(())
 }
 

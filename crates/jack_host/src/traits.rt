@@ -111,10 +111,12 @@ pub trait Host {
         ensures bytes { IfOk result (λ input. Gives (files self.old) name.now (Self.In.left input)) }
         ensures fresh { IfOk result (λ input. Self.In.faults input ≡ 0) }
 
-        // Where a told name is missing no count changes, and else a failure has raised the count.
+        // Where a told name is missing no count changes, and else a failure has raised the count by one.
         ensures missing { ¬ IsThere (files self.old) name.now → read_faults self.new ≡ read_faults self.old }
         ensures later { read_faults self.old ≤ read_faults self.new }
         ensures failed { IsThere (files self.old) name.now → OnErr result (Rose (read_faults self.old) (read_faults self.new)) }
+        ensures kept { OnOk result (read_faults self.new ≡ read_faults self.old) }
+        ensures once { read_faults self.new ≤ read_faults self.old + 1 }
 
         ensures writes { write_faults self.new ≡ write_faults self.old }
         ensures files { SameFiles (files self.old) (files self.new) }
@@ -147,7 +149,7 @@ pub trait Host {
         requires out { 0 < lent self.old }
         requires named { IsNamedThere (files self.old) (Self.Out.name output) }
         ensures bytes { Stands (files self.old) (files self.new) (Self.Out.name output) (Self.Out.content output) }
-        ensures adds { Adds (write_faults self.old) (Self.Out.faults output) (write_faults self.new) }
+        ensures adds { Adds (write_faults self.old) (Self.Out.faults output + (if is_ok result then 0 else 1)) (write_faults self.new) }
         ensures failed { OnErr result (Rose (write_faults self.old) (write_faults self.new)) }
         ensures reads { read_faults self.new ≡ read_faults self.old }
         ensures lent { lent self.new + 1 ≡ lent self.old };

@@ -1,0 +1,176 @@
+//! What is kept of a failure of the system.
+
+ghost use Rattle.std.specs.Prelude.{◌≡◌, ◌↔◌, Ok, IfOk, IsErr, IsNone, OnErr};
+ghost use Rattle.jack_host.specs.Causes.{Adds, HasCause};
+
+use crate::Failed;
+use crate::rooms::{keep_name, room_of_name};
+use std::alloc::{AllocError, Global};
+use std::io;
+
+/// What a call on a real file was about when it failed.
+#[derive(Clone, Copy, Debug, PartialEq, Eq)]
+pub enum FailureKind {
+    /// A file can't be opened for reading.
+    Opening,
+    /// A read failed.
+    Reading,
+    /// A file can't be made, or opened for writing.
+    Making,
+    /// A write failed, or what stood in a file can't be given up.
+    Writing,
+    /// A file that is to be written was opened for reading through this host.
+    IsInput,
+    /// A file that is to be written is another output that is out.
+    IsOutput,
+    /// Another program writes a file that is to be written.
+    InUse,
+}
+
+/// What failed, and the system's reason.
+#[derive(Clone, Copy)]
+pub(crate) struct Reason {
+    pub(crate) kind: FailureKind,
+    pub(crate) error: io::Error,
+}
+
+impl Reason {
+    pub(crate) fn new(kind: FailureKind, error: io::Error) -> Reason {
+        Reason { kind, error }
+    }
+}
+
+/// An answer of the system, with what it was about where it failed.
+pub(crate) fn about<T>(kind: FailureKind, answer: io::Result<T>) -> Result<T, Reason>
+    ensures ok { IfOk result (λ value. answer ≡ Ok value) }
+    ensures err { OnErr result (IsErr answer) }
+{
+    match answer {
+        Ok(value) => Ok(value),
+        Err(error) => Err(Reason::new(kind, error)),
+    }
+}
+
+/// The failure of a call on a file of this name.
+#[derive(Clone, Copy)]
+pub struct Failure<'a> {
+    name: &'a str,
+    reason: Reason,
+}
+
+impl<'a> Failure<'a> {
+    pub(crate) fn new(name: &'a str, reason: Reason) -> Failure<'a> {
+        Failure { name, reason }
+    }
+
+    /// What the call was about.
+    pub fn kind(&self) -> FailureKind {
+        self.reason.kind
+    }
+
+    /// The name that the file was opened or made by. It is empty where it has more than 4096 bytes.
+    pub fn name(&self) -> &'a str {
+        self.name
+    }
+
+    /// Why it failed, in the system's words, or in this crate's where the host refused it.
+    pub fn reason(&self) -> io::Error {
+        self.reason.error
+    }
+}
+
+/// How many calls of the system have failed, and why the last of them did.
+#[derive(Drop)]
+pub(crate) struct Faults {
+    pub(crate) count: u64,
+    pub(crate) last: Option<Reason>,
+    ghost told: { IsNone last ↔ (count ≡ 0) },
+}
+
+impl Faults {
+    pub(crate) fn new() -> Faults
+        ensures { result.count ≡ 0 }
+    {
+        Faults {
+            count: 0,
+            last: None,
+        }
+    }
+
+    /// Hands an answer of the system on, and counts it where it failed.
+    pub(crate) fn counted<T>(&mut self, answer: Result<T, Reason>) -> Result<T, Failed>
+        ensures ok { IfOk result (λ value. answer ≡ Ok value) }
+        ensures err { OnErr result (IsErr answer) }
+        ensures cause { HasCause self.old.count self.new.count result }
+    {
+        match answer {
+            Ok(value) => Ok(value),
+            Err(reason) => {
+                self.count = self.count.saturating_add(1);
+                self.last = Some(reason);
+                Err(Failed)
+            }
+        }
+    }
+
+    /// Takes up the faults of an object that comes back.
+    fn add(&mut self, more: &Faults)
+        ensures { Adds self.old.count more.now.count self.new.count }
+    {
+        self.count = self.count.saturating_add(more.count);
+        if let Some(reason) = more.last {
+            self.last = Some(reason);
+        }
+    }
+}
+
+/// How many calls on files have failed, why the last of them did, and the name of its file.
+#[derive(Drop)]
+pub(crate) struct NamedFaults {
+    pub(crate) faults: Faults,
+    name: String,
+}
+
+impl NamedFaults {
+    pub(crate) fn new(alloc: Global) -> Result<NamedFaults, AllocError>
+        ensures { IfOk result (λ named. named.faults.count ≡ 0) }
+    {
+        let name = room_of_name(alloc)?;
+        Ok(NamedFaults {
+            faults: Faults::new(),
+            name,
+        })
+    }
+
+    /// The last failure, where there was one.
+    pub(crate) fn last(&self) -> Option<Failure<'_>>
+        ensures { IsNone result ↔ (self.now.faults.count ≡ 0) }
+    {
+        match self.faults.last {
+            Some(reason) => Some(Failure::new(&self.name, reason)),
+            None => None,
+        }
+    }
+
+    /// Hands an answer about the file of this name on, and counts it where it failed.
+    pub(crate) fn counted<T>(&mut self, name: &str, answer: Result<T, Reason>) -> Result<T, Failed>
+        ensures ok { IfOk result (λ value. answer ≡ Ok value) }
+        ensures err { OnErr result (IsErr answer) }
+        ensures cause { HasCause self.old.faults.count self.new.faults.count result }
+    {
+        if answer.is_err() {
+            keep_name(&mut self.name, name);
+        }
+        self.faults.counted(answer)
+    }
+
+    /// Takes up the faults of an object of this name that comes back.
+    pub(crate) fn add(&mut self, name: &str, more: &Faults)
+        ensures { Adds self.old.faults.count more.now.count self.new.faults.count }
+    {
+        if more.last.is_some() {
+            keep_name(&mut self.name, name);
+        }
+        self.faults.add(more);
+    }
+}

@@ -1,0 +1,52 @@
+ghost use Rattle.std.specs.Prelude.{None, ◌≡◌, ◌↔◌, IsNone};
+
+use crate::failures::{Faults, about};
+use crate::{Failed, FailureKind, Sink};
+use std::io;
+use std::io::Write;
+
+/// A sink over any writer, which is flushed after each put. It tells no bytes.
+#[derive(Drop)]
+pub struct WriterSink<W> {
+    writer: W,
+    faults: Faults,
+}
+
+impl<W> WriterSink<W> {
+    /// A sink over this writer, that has counted nothing.
+    pub fn new(writer: W) -> WriterSink<W>
+        ensures { result.faults.count ≡ 0 }
+    {
+        WriterSink {
+            writer,
+            faults: Faults::new(),
+        }
+    }
+
+    /// Why the last put that failed did, where one has failed.
+    pub fn last_failure(&self) -> Option<io::Error>
+        ensures { IsNone result ↔ (self.now.faults.count ≡ 0) }
+    {
+        match self.faults.last {
+            Some(reason) => Some(reason.error),
+            None => None,
+        }
+    }
+}
+
+// Writes all the bytes, and flushes.
+fn write<W: Write>(writer: &mut W, bytes: &[u8]) -> io::Result<()> {
+    writer.write_all(bytes)?;
+    writer.flush()
+}
+
+impl<W: Write + Drop> Sink for WriterSink<W> {
+    ghost content = { λ _. None };
+
+    ghost faults = { λ s. s.faults.count };
+
+    fn put(&mut self, bytes: &[u8]) -> Result<(), Failed> {
+        let written = write(&mut self.writer, bytes);
+        self.faults.counted(about(FailureKind::Writing, written))
+    }
+}

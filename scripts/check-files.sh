@@ -1,0 +1,202 @@
+#!/usr/bin/env bash
+# What a play must not lose is there behind it, byte for byte: the script, the capture, and the outputs of a play that makes
+# none of them, whatever their names are. Compared are checksums, exit codes and standard output. The program is $JACKD, or
+# crates/jackd/out/jackd as `rt run` leaves it; without python3 or sha256sum the check is passed over.
+set -u
+cd "$(dirname "$0")/.."
+jackd=${JACKD:-$PWD/crates/jackd/out/jackd}
+if [ ! -x "$jackd" ]; then
+  echo "check-files: passed over, no program at $jackd"
+  exit 0
+fi
+for tool in python3 sha256sum; do
+  if ! command -v "$tool" >/dev/null; then
+    echo "check-files: passed over, no $tool"
+    exit 0
+  fi
+done
+folder=$(mktemp -d)
+trap 'chmod -R u+w "$folder"; rm -rf "$folder"' EXIT
+cp "$jackd" "$folder/jackd"
+jackd=$folder/jackd
+status=0
+cases=0
+
+# Scripts without and with a recorder, a capture of 40 samples, and a file of an earlier play.
+mkdir "$folder/given"
+printf '%s\n' 'jackd 1' 'rate 48000' 'period 4' 'capture 1' 'playback 1 16' 'mode serial' \
+  'do connect system:capture_1 system:playback_1' 'run 10' > "$folder/given/s"
+printf '%s\n' 'jackd 1' 'rate 48000' 'period 4' 'capture 1' 'playback 1 16' 'mode serial' 'recorder 1 16' \
+  'do open tape record 0' 'do register tape:in in audio' 'do activate tape' 'do connect system:capture_1 tape:in' \
+  'do connect system:capture_1 system:playback_1' 'run 10' > "$folder/given/r"
+python3 - "$folder/given" <<'PY'
+import struct, sys
+def wave(name, samples):
+    data = struct.pack(f'<{len(samples)}h', *samples)
+    header = b'RIFF' + struct.pack('<I', 36 + len(data)) + b'WAVEfmt ' + struct.pack('<IHHIIHH', 16, 1, 1, 48000, 96000, 2, 16)
+    open(f'{sys.argv[1]}/{name}', 'wb').write(header + b'data' + struct.pack('<I', len(data)) + data)
+wave('c', range(1, 41))
+wave('old', range(100, 200))
+PY
+
+fault() {
+  echo "check-files: $name: $1"
+  status=1
+}
+
+# A new case, in a folder of its own.
+begin() {
+  name=$1
+  cases=$((cases + 1))
+  cp -r "$folder/given" "$folder/$cases"
+  cd "$folder/$cases" || exit 1
+  report=$folder/report$cases
+}
+
+# Plays with these words, and wants this exit code, and standard output that is empty, or is a report.
+play() {
+  local wanted=$1 out=$2
+  shift 2
+  "$jackd" play "$@" > "$report" 2> "$folder/errors$cases"
+  local code=$?
+  [ $code -eq "$wanted" ] || fault "exit code $code, not $wanted"
+  case $out in
+    nothing) [ ! -s "$report" ] || fault 'something was put out' ;;
+    report) [ "$(head -n 1 "$report")" = 'report 1' ] && [ "$(tail -n 1 "$report")" = end ] || fault 'no report was put out' ;;
+  esac
+}
+
+# These files are as they were given.
+same() {
+  local file
+  for file in "$@"; do
+    [ "$(sha256sum < "$file")" = "$(sha256sum < "$folder/given/${file##*/}")" ] || fault "$file was changed"
+  done
+}
+
+# This file is the playback of the capture: a WAVE file of its 40 samples.
+played() {
+  [ "$(sha256sum < "$1")" = "$(sha256sum < "$folder/given/c")" ] || fault "$1 is not the playback"
+}
+
+begin 'a play'
+play 0 report s c p
+played p
+same s c
+
+begin 'a play over an earlier file'
+play 0 report r c old --record q
+played old
+played q
+same r c
+
+begin 'the capture as the playback, spelt otherwise'
+play 6 nothing s c ./c
+same s c
+
+begin 'the capture as the playback, by a symbolic link'
+ln -s c link
+play 6 nothing s c link
+same s c
+
+begin 'the capture as the playback, by a hard link'
+ln c link
+play 6 nothing s c link
+same s c
+
+begin 'the script as the playback'
+play 6 nothing s c ./s
+same s c
+
+begin 'the script as a record'
+play 6 nothing r c old --record ./r
+same r c old
+
+begin 'the capture as a record'
+play 6 nothing r c old --record ./c
+same r c old
+
+begin 'a record that is the playback'
+play 6 nothing r c old --record ./old
+same r c old
+
+begin 'a record that is the playback, by a hard link'
+ln old link
+play 6 nothing r c old --record link
+same r c old
+
+begin 'a record in a missing folder'
+play 6 nothing r c old --record missing/q
+same r c old
+
+begin 'a playback in a missing folder'
+play 6 nothing r c missing/p --record old
+same r c old
+
+begin 'a folder as the playback'
+mkdir to
+play 6 nothing s c to
+same s c
+
+begin 'a folder as a record'
+mkdir to
+play 6 nothing r c old --record to
+same r c old
+
+begin 'a record that may not be written'
+cp old locked
+chmod a-w locked
+if [ -w locked ]; then
+  echo "check-files: $name: passed over, this user may write all files"
+else
+  play 6 nothing r c old --record locked
+  same r c old
+  cmp -s locked "$folder/given/old" || fault 'locked was changed'
+fi
+
+if [ -c /dev/null ]; then
+  begin 'a playback that goes nowhere'
+  play 0 report s c /dev/null
+  same s c
+fi
+
+if [ -c /dev/full ]; then
+  begin 'a playback on a full disk'
+  play 6 nothing s c /dev/full
+  same s c
+fi
+
+# The first program holds its playback while it waits for its capture.
+begin 'two programs at once on one output'
+mkfifo pipe
+"$jackd" play s pipe old > "$report.first" &
+first=$!
+exec 3> pipe
+head -c 44 c >&3
+for _ in $(seq 50); do
+  sleep 0.1
+  if command -v lsof >/dev/null && lsof -t old >/dev/null; then break; fi
+done
+play 6 nothing s c old
+same s c old
+tail -c +45 c >&3
+exec 3>&-
+wait "$first" || fault 'the first program failed'
+played old
+
+begin 'standard output is closed'
+"$jackd" play s c p >&- 2> "$folder/errors$cases"
+code=$?
+[ $code -eq 6 ] || fault "exit code $code, not 6"
+same s c
+played p
+
+begin 'standard input and output are closed'
+"$jackd" play s c p <&- >&- 2> "$folder/errors$cases"
+code=$?
+[ $code -eq 6 ] || fault "exit code $code, not 6"
+same s c
+played p
+
+[ $status -eq 0 ] && echo "check-files: passed, $cases cases"
+exit $status
