@@ -1,7 +1,7 @@
 //! What is kept of a failure of the system.
 
-ghost use Rattle.std.specs.Prelude.{◌≡◌, ◌↔◌, Ok, IfOk, IsErr, IsNone, OnErr};
-ghost use Rattle.jack_host.specs.Causes.{Adds, HasCause};
+ghost use Rattle.std.specs.Prelude.{◌≡◌, ◌↔◌, ◌+◌, ◌≤◌, Ok, IfOk, IsErr, IsNone, OnErr, OnOk};
+ghost use Rattle.jack_host.specs.Causes.{Adds, IsCounted};
 
 use crate::Failed;
 use crate::rooms::{keep_name, room_of_name};
@@ -101,7 +101,7 @@ impl Faults {
     pub(crate) fn counted<T>(&mut self, answer: Result<T, Reason>) -> Result<T, Failed>
         ensures ok { IfOk result (λ value. answer ≡ Ok value) }
         ensures err { OnErr result (IsErr answer) }
-        ensures cause { HasCause self.old.count self.new.count result }
+        ensures counted { IsCounted self.old.count self.new.count result }
     {
         match answer {
             Ok(value) => Ok(value),
@@ -113,9 +113,18 @@ impl Faults {
         }
     }
 
+    /// `Ok` where none has failed.
+    pub(crate) fn as_result(&self) -> Result<(), Failed>
+        ensures ok { OnOk result (self.now.count ≡ 0) }
+        ensures err { OnErr result (1 ≤ self.now.count) }
+    {
+        if self.count == 0 { Ok(()) } else { Err(Failed) }
+    }
+
     /// Takes up the faults of an object that comes back.
     fn add(&mut self, more: &Faults)
-        ensures { Adds self.old.count more.now.count self.new.count }
+        ensures adds { Adds self.old.count more.now.count self.new.count }
+        ensures no_more { self.new.count ≤ self.old.count + more.now.count }
     {
         self.count = self.count.saturating_add(more.count);
         if let Some(reason) = more.last {
@@ -156,7 +165,7 @@ impl NamedFaults {
     pub(crate) fn counted<T>(&mut self, name: &str, answer: Result<T, Reason>) -> Result<T, Failed>
         ensures ok { IfOk result (λ value. answer ≡ Ok value) }
         ensures err { OnErr result (IsErr answer) }
-        ensures cause { HasCause self.old.faults.count self.new.faults.count result }
+        ensures counted { IsCounted self.old.faults.count self.new.faults.count result }
     {
         if answer.is_err() {
             keep_name(&mut self.name, name);
@@ -166,7 +175,8 @@ impl NamedFaults {
 
     /// Takes up the faults of an object of this name that comes back.
     pub(crate) fn add(&mut self, name: &str, more: &Faults)
-        ensures { Adds self.old.faults.count more.now.count self.new.faults.count }
+        ensures adds { Adds self.old.faults.count more.now.count self.new.faults.count }
+        ensures no_more { self.new.faults.count ≤ self.old.faults.count + more.now.count }
     {
         if more.last.is_some() {
             keep_name(&mut self.name, name);

@@ -214,17 +214,16 @@ impl<'a, R: Files<File = File>> Host for FileHost<'a, R> {
     }
 
     fn done(&mut self, mut output: FileStore) -> Result<(), Failed> {
-        let written = if self.gives_up && !output.has_begun() {
-            Ok(())
-        } else {
-            output.write_out()
-        };
+        if output.has_begun() || !self.gives_up {
+            let _ = output.write_out();
+        }
+        let done = output.faults.as_result();
         self.writes.add(&output.gathered.room.name, &output.faults);
         if let Some(identity) = output.identity() {
             self.outputs.remove(identity);
         }
         self.lent -= 1;
         self.keep_room(output.gathered.room);
-        written
+        done
     }
 }

@@ -1,6 +1,6 @@
 ghost use Rattle.std.specs.Prelude.{None, ◌≡◌, ◌≤◌, length};
 ghost use Rattle.std.specs.Io.{ReadsAtMost};
-ghost use Rattle.jack_host.specs.Causes.{HasCause};
+ghost use Rattle.jack_host.specs.Causes.{IsCounted};
 
 use crate::failures::{Faults, about};
 use crate::rooms::Room;
@@ -35,7 +35,7 @@ impl FileSource {
 
     // Gathers the file's next bytes, behind those that were given.
     fn gather(&mut self) -> Result<(), Failed>
-        ensures { HasCause self.old.faults.count self.new.faults.count result }
+        ensures { IsCounted self.old.faults.count self.new.faults.count result }
     {
         self.at = 0;
         self.end = 0;
@@ -47,7 +47,7 @@ impl FileSource {
     // Reads more bytes than there is room for straight into their place.
     fn read_through(&mut self, buffer: &mut [u8]) -> Result<usize, Failed>
         ensures bound { ReadsAtMost result buffer.new }
-        ensures cause { HasCause self.old.faults.count self.new.faults.count result }
+        ensures counted { IsCounted self.old.faults.count self.new.faults.count result }
     {
         let read = self.file.read(buffer);
         self.faults.counted(about(FailureKind::Reading, read))

@@ -1,5 +1,5 @@
 ghost use Rattle.std.specs.Prelude.{None, ◌≡◌, ◌≤◌, ◌+◌, ◌↔◌, length, IsTrue};
-ghost use Rattle.jack_host.specs.Causes.{HasCause};
+ghost use Rattle.jack_host.specs.Causes.{IsCounted};
 
 use crate::failures::{Faults, about};
 use crate::identities::Identity;
@@ -134,7 +134,7 @@ impl FileStore {
 
     /// Writes the gathered bytes out. After a failure they are given up.
     pub(crate) fn write_out(&mut self) -> Result<(), Failed>
-        ensures cause { HasCause self.old.faults.count self.new.faults.count result }
+        ensures counted { IsCounted self.old.faults.count self.new.faults.count result }
         ensures empty { self.new.gathered.count ≡ 0 }
     {
         let bytes = self.gathered.as_bytes();
@@ -145,7 +145,7 @@ impl FileStore {
 
     // Writes bytes that are too many to be gathered.
     fn write_through(&mut self, place: u64, bytes: &[u8]) -> Result<(), Failed>
-        ensures { HasCause self.old.faults.count self.new.faults.count result }
+        ensures { IsCounted self.old.faults.count self.new.faults.count result }
     {
         let written = self.target.write(place, bytes);
         self.faults.counted(about(FailureKind::Writing, written))

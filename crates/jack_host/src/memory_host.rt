@@ -205,7 +205,6 @@ impl Host for MemoryHost {
         ensures refused { Contains (host_refused self.old name.now) 0 → IsErr result }
         ensures why { OnErr result (IsNone (bytes_under (host_files self.old) name.now)
             ⊎ (Contains (host_refused self.old name.now) 0 ⊎ Rose (host_wants self.old) (host_wants self.new))) }
-        ensures counts { OnOk result (host_read_faults self.new ≡ host_read_faults self.old) }
         ensures wants { OnOk result (host_wants self.new ≡ host_wants self.old) }
         ensures input_refused { IfOk result (λ input. source_refused input ≡ host_refused self.old name.now) }
         ensures input_next { IfOk result (λ input. source_next input ≡ 1) }
@@ -235,6 +234,7 @@ impl Host for MemoryHost {
     fn back(&mut self, input: MemorySource)
         requires { 0 < host_lent self.old }
         ensures reads { Adds (host_read_faults self.old) (source_faults input) (host_read_faults self.new) }
+        ensures no_more { host_read_faults self.new ≤ host_read_faults self.old + source_faults input }
         ensures writes { host_write_faults self.new ≡ host_write_faults self.old }
         ensures files { SameFiles (Some (host_files self.old)) (Some (host_files self.new)) }
         ensures lent { host_lent self.new + 1 ≡ host_lent self.old }
@@ -253,6 +253,7 @@ impl Host for MemoryHost {
         ensures fresh { IfOk result (λ output. store_faults output ≡ 0) }
         ensures made { OnOk result (Replaces (Some (host_files self.old)) (Some (host_files self.new)) name.now []) }
         ensures cause { HasCause (host_write_faults self.old) (host_write_faults self.new) result }
+        ensures once { host_write_faults self.new ≤ host_write_faults self.old + 1 }
         ensures same { OnErr result (SameFiles (Some (host_files self.old)) (Some (host_files self.new))) }
         ensures reads { host_read_faults self.new ≡ host_read_faults self.old }
         ensures lent { host_lent self.new ≡ host_lent self.old + (if is_ok result then 1 else 0) }
@@ -260,7 +261,6 @@ impl Host for MemoryHost {
         // It fails where it is refused, and else only for want of memory.
         ensures refused { Contains (host_refused self.old name.now) 0 → IsErr result }
         ensures why { OnErr result (Contains (host_refused self.old name.now) 0 ⊎ Rose (host_wants self.old) (host_wants self.new)) }
-        ensures counts { OnOk result (host_write_faults self.new ≡ host_write_faults self.old) }
         ensures wants { OnOk result (host_wants self.new ≡ host_wants self.old) }
         ensures output_refused { IfOk result (λ output. store_refused output ≡ host_refused self.old name.now) }
         ensures output_next { IfOk result (λ output. store_next output ≡ 1) }
@@ -289,14 +289,17 @@ impl Host for MemoryHost {
         requires out { 0 < host_lent self.old }
         requires named { IsNamedThere (Some (host_files self.old)) (Some (store_name output)) }
         ensures bytes { Stands (Some (host_files self.old)) (Some (host_files self.new)) (Some (store_name output)) (Some (store_bytes output)) }
-        ensures adds { Adds (host_write_faults self.old) (store_faults output + (if is_ok result then 0 else 1)) (host_write_faults self.new) }
+        ensures whole { OnOk result (store_faults output ≡ 0) }
+        ensures kept { OnOk result (host_write_faults self.new ≡ host_write_faults self.old) }
+        ensures adds { Adds (host_write_faults self.old) (store_faults output) (host_write_faults self.new) }
+        ensures once { host_write_faults self.new ≤ host_write_faults self.old + store_faults output + 1 }
         ensures failed { OnErr result (Rose (host_write_faults self.old) (host_write_faults self.new)) }
         ensures reads { host_read_faults self.new ≡ host_read_faults self.old }
         ensures lent { host_lent self.new + 1 ≡ host_lent self.old }
 
-        // It fails exactly where it is refused.
-        ensures refused { IsErr result ↔ IsTrue (host_closing_refused self.old (store_name output)) }
-        ensures counts { OnOk result (host_write_faults self.new ≡ min (host_write_faults self.old + store_faults output) (2 ^ 64 - 1)) }
+        // It fails exactly where it is refused, which is one fault more, or where the output has counted one.
+        ensures refused { IsErr result ↔ (IsTrue (host_closing_refused self.old (store_name output)) ⊎ (1 ≤ store_faults output)) }
+        ensures exactly { host_write_faults self.new ≡ min (host_write_faults self.old + store_faults output + (if host_closing_refused self.old (store_name output) then 1 else 0)) (2 ^ 64 - 1) }
         ensures wants { host_wants self.new ≡ min (host_wants self.old + store_wants output) (2 ^ 64 - 1) }
         ensures refusals { SameRefusals self.old self.new }
     {
@@ -308,6 +311,9 @@ impl Host for MemoryHost {
         keep(&mut self.files, &output.name, bytes);
         if refused {
             self.write_faults = self.write_faults.saturating_add(1);
+            return Err(Failed);
+        }
+        if output.faults > 0 {
             return Err(Failed);
         }
         Ok(())

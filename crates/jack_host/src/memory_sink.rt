@@ -71,12 +71,12 @@ impl Sink for MemorySink {
     fn put(&mut self, bytes: &[u8]) -> Result<(), Failed>
         ensures bytes { Puts (Some (sink_bytes self.old)) (Some (sink_bytes self.new)) result bytes.now }
         ensures cause { HasCause (sink_faults self.old) (sink_faults self.new) result }
+        ensures once { sink_faults self.new ≤ sink_faults self.old + 1 }
 
         // It fails where it is refused, and else only for its own want of memory. Then nothing was put.
         ensures refused { Contains (sink_refused self.old) (sink_next self.old) → IsErr result }
         ensures failed { OnErr result (Contains (sink_refused self.old) (sink_next self.old) ⊎ Rose (sink_wants self.old) (sink_wants self.new)) }
         ensures nothing { OnErr result (sink_bytes self.new ≡ sink_bytes self.old) }
-        ensures counts { OnOk result (sink_faults self.new ≡ sink_faults self.old) }
         ensures wants { OnOk result (sink_wants self.new ≡ sink_wants self.old) }
         ensures next { sink_next self.new ≡ min (sink_next self.old + 1) (2 ^ 64 - 1) }
         ensures same { sink_refused self.new ≡ sink_refused self.old }

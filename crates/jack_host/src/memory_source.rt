@@ -97,10 +97,10 @@ impl Source for MemorySource {
         ensures bound { ReadsAtMost result buffer.new }
         ensures bytes { ReadConsumes (Some (source_left self.old)) (Some (source_left self.new)) result buffer.new }
         ensures cause { HasCause (source_faults self.old) (source_faults self.new) result }
+        ensures once { source_faults self.new ≤ source_faults self.old + 1 }
 
-        // It fails exactly where it is refused, and else counts no fault.
+        // It fails exactly where it is refused.
         ensures refused { IsErr result ↔ Contains (source_refused self.old) (source_next self.old) }
-        ensures counts { OnOk result (source_faults self.new ≡ source_faults self.old) }
         ensures next { source_next self.new ≡ min (source_next self.old + 1) (2 ^ 64 - 1) }
         ensures same { source_refused self.new ≡ source_refused self.old }
     {

@@ -104,12 +104,12 @@ impl Store for MemoryStore {
         ensures name { store_name self.new ≡ store_name self.old }
         ensures bytes { Writes (Some (store_bytes self.old)) (Some (store_bytes self.new)) result place bytes.now }
         ensures cause { HasCause (store_faults self.old) (store_faults self.new) result }
+        ensures once { store_faults self.new ≤ store_faults self.old + 1 }
 
         // It fails where it is refused, and else only for its own want of memory. Then nothing was written.
         ensures refused { Contains (store_refused self.old) (store_next self.old) → IsErr result }
         ensures failed { OnErr result (Contains (store_refused self.old) (store_next self.old) ⊎ Rose (store_wants self.old) (store_wants self.new)) }
         ensures nothing { OnErr result (store_bytes self.new ≡ store_bytes self.old) }
-        ensures counts { OnOk result (store_faults self.new ≡ store_faults self.old) }
         ensures wants { OnOk result (store_wants self.new ≡ store_wants self.old) }
         ensures next { store_next self.new ≡ min (store_next self.old + 1) (2 ^ 64 - 1) }
         ensures same { store_refused self.new ≡ store_refused self.old }

@@ -80,6 +80,26 @@ fn a_host_in_memory_refuses_as_listed(rt: HostRuntime) -> Result<(), Fail> {
     Ok(())
 }
 
+// A file is made, a write to it is refused, and it is closed.
+fn write_refused(host: &mut MemoryHost) -> Result<Result<(), Failed>, Failed>
+    requires { host_lent host.old ≡ 0 }
+{
+    let mut output = host.make_out("p")?;
+    output.write_at(0, b"ab")?;
+    let _ = output.write_at(2, b"cd");
+    Ok(host.done(output))
+}
+
+#[test]
+fn an_output_that_failed_is_not_done(rt: HostRuntime) -> Result<(), Fail> {
+    let mut host = MemoryHost::new(rt.alloc());
+    host.refuse("p", 2)?;
+    let closed = write_refused(&mut host).map_err(|_| "the file was not made")?;
+    assert_eq!(rt; closed, Err(Failed));
+    assert_eq!(rt; host.file("p").ok_or("p is missing")?, b"ab".as_slice());
+    Ok(())
+}
+
 #[test]
 fn real_files_keep_what_was_written(rt: HostRuntime) -> Result<(), Fail> {
     let mut host = FileHost::new(rt.alloc(), &rt, 1)?;

@@ -39,7 +39,8 @@ pub trait Source: Drop {
     fn read(&mut self, buffer: &mut [u8]) -> Result<usize, Failed>
         ensures bound { ReadsAtMost result buffer.new }
         ensures bytes { ReadConsumes (left self.old) (left self.new) result buffer.new }
-        ensures cause { HasCause (faults self.old) (faults self.new) result };
+        ensures cause { HasCause (faults self.old) (faults self.new) result }
+        ensures once { faults self.new ≤ faults self.old + 1 };
 }
 
 /// A file that is written, at any place up to its end.
@@ -62,7 +63,8 @@ pub trait Store: Drop {
         requires { ForSome (content self.old) (λ xs. place ≤ length xs) }
         ensures name { name self.new ≡ name self.old }
         ensures bytes { Writes (content self.old) (content self.new) result place bytes.now }
-        ensures cause { HasCause (faults self.old) (faults self.new) result };
+        ensures cause { HasCause (faults self.old) (faults self.new) result }
+        ensures once { faults self.new ≤ faults self.old + 1 };
 }
 
 /// Where bytes go, one piece after the other, as standard output.
@@ -78,7 +80,8 @@ pub trait Sink: Drop {
     /// After `Failed` a prefix of the bytes may have gone out, and the sink may be used again.
     fn put(&mut self, bytes: &[u8]) -> Result<(), Failed>
         ensures bytes { Puts (content self.old) (content self.new) result bytes.now }
-        ensures cause { HasCause (faults self.old) (faults self.new) result };
+        ensures cause { HasCause (faults self.old) (faults self.new) result }
+        ensures once { faults self.new ≤ faults self.old + 1 };
 }
 
 /// Opens files by name, and takes them back.
@@ -126,6 +129,7 @@ pub trait Host {
     fn back(&mut self, input: Self::In)
         requires { 0 < lent self.old }
         ensures reads { Adds (read_faults self.old) (Self.In.faults input) (read_faults self.new) }
+        ensures no_more { read_faults self.new ≤ read_faults self.old + Self.In.faults input }
         ensures writes { write_faults self.new ≡ write_faults self.old }
         ensures files { SameFiles (files self.old) (files self.new) }
         ensures lent { lent self.new + 1 ≡ lent self.old };
@@ -140,16 +144,24 @@ pub trait Host {
         ensures fresh { IfOk result (λ output. Self.Out.faults output ≡ 0) }
         ensures made { OnOk result (Replaces (files self.old) (files self.new) name.now []) }
         ensures cause { HasCause (write_faults self.old) (write_faults self.new) result }
+        ensures once { write_faults self.new ≤ write_faults self.old + 1 }
         ensures same { OnErr result (SameFiles (files self.old) (files self.new)) }
         ensures reads { read_faults self.new ≡ read_faults self.old }
         ensures lent { lent self.new ≡ lent self.old + (if is_ok result then 1 else 0) };
 
     /// Takes an output back, whose bytes then stand under its name, also after `Failed`.
+    ///
+    /// `Ok` comes only where no write of the output has failed.
     fn done(&mut self, output: Self::Out) -> Result<(), Failed>
         requires out { 0 < lent self.old }
         requires named { IsNamedThere (files self.old) (Self.Out.name output) }
         ensures bytes { Stands (files self.old) (files self.new) (Self.Out.name output) (Self.Out.content output) }
-        ensures adds { Adds (write_faults self.old) (Self.Out.faults output + (if is_ok result then 0 else 1)) (write_faults self.new) }
+        ensures whole { OnOk result (Self.Out.faults output ≡ 0) }
+        ensures kept { OnOk result (write_faults self.new ≡ write_faults self.old) }
+
+        // The output's faults are the host's, and a closing that fails is one more.
+        ensures adds { Adds (write_faults self.old) (Self.Out.faults output) (write_faults self.new) }
+        ensures once { write_faults self.new ≤ write_faults self.old + Self.Out.faults output + 1 }
         ensures failed { OnErr result (Rose (write_faults self.old) (write_faults self.new)) }
         ensures reads { read_faults self.new ≡ read_faults self.old }
         ensures lent { lent self.new + 1 ≡ lent self.old };
