@@ -33,6 +33,7 @@ pub wrote : (g g' : Getting) (t t' : Tape) (block : RingBlock) (found : ℕ) →
 wrote g g' t t' block found may is least few gained same going samples = subst (λ (u : Getting). Writes 1 g t u t') (sym is) record {
   same = ends g t t' block found least same;
   longer = front_append g.got (block ∷ []);
+  finds = front_append g.finds (found ∷ []);
   count_is = length-append g.got (block ∷ []);
   samples = λ before has. subst (λ (l : List ℤ). HasSamples t' l) (samples_more before g.got block) (samples (before ++ samples_of_blocks g.got) has);
   may = record {

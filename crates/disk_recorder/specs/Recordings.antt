@@ -1,8 +1,9 @@
 -- What the tasks that fill a file from a ring do.
 --     MayWrite getting tape      when they may be called
+--     FindsNone getting getting_after      a get of the call found no block more
 --     Drains, Serves, Finishes      what they did
 --     Fails      what stands behind a failed put
-use Rattle.std.specs.Prelude.{◌≡◌, ℕ, ◌+◌, ◌*◌, ◌<◌, ◌≤◌, true, false, List, ◌++◌, length, take, flat_map, ℤ, Option, IfSome, is_some}
+use Rattle.std.specs.Prelude.{◌≡◌, ℕ, ◌+◌, ◌*◌, ◌<◌, ◌≤◌, true, false, List, [], ◌∷◌, ◌++◌, length, take, flat_map, ℤ, Option, IfSome, is_some}
 use Rattle.session_model.specs.Rings.{RingBlock}
 use Rattle.session_model.specs.Samples.{width}
 use Rattle.session_model.specs.WaveFiles.{IsFormat, wave_text}
@@ -31,10 +32,17 @@ pub record SameEnds (getting : Getting) (tape : Tape) (getting_after : Getting) 
   pub later : tape.faults ≤ tape_after.faults
   pub least : getting.least ≤ getting_after.least
 
+-- the last get found as many blocks as were got, and it is a get of this call: what was found before it goes on from what was found before the call
+pub record FindsNone (getting getting_after : Getting) : Type 0 where
+  pub before : List ℕ
+  pub this_call : getting.finds ≡ take (length getting.finds) before
+  pub last : getting_after.finds ≡ before ++ length getting_after.got ∷ []
+
 -- so many blocks were got and written, in their order: a tape that had all samples got before has them afterwards
 pub record Writes (count : ℕ) (getting : Getting) (tape : Tape) (getting_after : Getting) (tape_after : Tape) : Type 0 where
   pub same : SameEnds getting tape getting_after tape_after
   pub longer : getting.got ≡ take (length getting.got) getting_after.got
+  pub finds : getting.finds ≡ take (length getting.finds) getting_after.finds
   pub count_is : length getting_after.got ≡ length getting.got + count
   pub samples : (samples : List ℤ) → HasSamples tape (samples ++ samples_of_blocks getting.got) → HasSamples tape_after (samples ++ samples_of_blocks getting_after.got)
   pub may : MayWrite getting_after tape_after
@@ -44,12 +52,14 @@ pub record Drains (most count : ℕ) (getting : Getting) (tape : Tape) (getting_
   pub writes : Writes count getting tape getting_after tape_after
   pub at_most : count ≤ most
   pub fewer : count < most → getting_after.least ≡ length getting_after.got
+  pub found_none : count < most → FindsNone getting getting_after
 
 -- all blocks up to the end
 pub record Serves (count : ℕ) (getting : Getting) (tape : Tape) (getting_after : Getting) (tape_after : Tape) : Type 0 where
   pub writes : Writes count getting tape getting_after tape_after
   pub done : getting_after.done ≡ true
   pub all : getting_after.least ≡ length getting_after.got
+  pub found_none : FindsNone getting getting_after
 
 -- a put failed: the file, whose sizes are not written, holds a front of its header and of the samples of the blocks got
 pub record Fails (getting : Getting) (tape : Tape) (getting_after : Getting) (tape_after : Tape) : Type 0 where
@@ -63,6 +73,7 @@ pub record Finishes (count : ℕ) (getting : Getting) (tape : Tape) (getting_aft
   pub longer : getting.got ≡ take (length getting.got) getting_after.got
   pub count_is : length getting_after.got ≡ length getting.got + count
   pub all : getting_after.least ≡ length getting_after.got
+  pub found_none : FindsNone getting getting_after
   pub least : getting.least ≤ getting_after.least
   pub file : (samples : List ℤ) → HasSamples tape (samples ++ samples_of_blocks getting.got) → IfSome bytes (λ text. text ≡ wave_text tape.format (samples ++ samples_of_blocks getting_after.got))
 
