@@ -1,17 +1,17 @@
 -- Blocks, frame by frame.
 use Rattle.std.proofs.Common.{◌≡◌, ◌≢◌, ℕ, zero, suc, ◌+◌, ◌-◌, ◌*◌, ◌<◌, ◌≤◌, Bool, true, false, nat_lt, List, [], ◌∷◌, ◌++◌, length, map, take, drop, get_or, ℤ, pos, Option, Some, None, refl, sym, ◌∙◌, ap, ap₂, subst, arith, append-nil}
-use Rattle.std.specs.Prelude.{min, slice_index_or, slice_range}
+use Rattle.std.specs.Prelude.{min, replicate, slice_index_or, slice_range}
 use Rattle.std.proofs.Math.Nat.{suc-mul}
 use Rattle.std.proofs.lemmas.List.{ext_get_or, get_or_append_left, get_or_past, get_or-append-add, get_or-drop, get_or-map, get_or-set_other, get_or-set_same, get_or-take, length-append, length-drop, length-set, length-take-le, nil_from_length, take-append-drop, take-append-le, take_all}
 use Rattle.std.proofs.lemmas.List.Concat.{flat_map-append}
 use Rattle.std.proofs.Math.ListN.{set}
 use Rattle.std.proofs.lemmas.Bool.{ltb-false, ltb-true}
-use Rattle.client_kinds.proofs.BufferLemmas.{place_within}
+use Rattle.client_kinds.proofs.BufferLemmas.{place_within, replicate-below}
 use Rattle.session_model.specs.Samples.{below, sample, silence, interleaved}
 use Rattle.session_laws.proofs.ActivationLemmas.{get_or-map_below, length-map_below}
 use Rattle.client_kinds.specs.Buffers.{buffers_of, channels_of, with_buffer}
 use Rattle.device_periods.specs.Blocks.{IsLaid, channel_of}
-use Rattle.device_periods.specs.Captures.{Fills, Reads}
+use Rattle.device_periods.specs.Captures.{AreOf, Fills, Reads}
 
 -- ---- frames of a file
 
@@ -235,6 +235,21 @@ reads (Some left) new block channels count frames lengths is filled = (
         map_end : (f : ℕ → ℤ) (xs : List ℕ) (x : ℕ) → map f (xs ++ x ∷ []) ≡ map f xs ++ f x ∷ []
         map_end f [] x = refl
         map_end f (y ∷ xs) x = ap (λ (ys : List ℤ). f y ∷ ys) (map_end f xs x)
+
+-- the channels of a block are as many as were asked for, each of as many frames
+pub shape : (count frames : ℕ) (block : List ℤ) → AreOf count frames (channels_of count frames block)
+shape count frames block = record {
+  count_is = length-map_below (channel_of count frames block) count;
+  frames_are = λ j d within.
+      let inside : j < count = omega (arith, within, length-map_below (channel_of count frames block) count) in
+      ap (λ (channel : List ℤ). length channel) (get_or-map_below (channel_of count frames block) count j d inside) ∙ length-channel count frames block j;
+}
+
+-- no period yet
+pub no_frames : (count : ℕ) (samples : List ℤ) → buffers_of count 0 samples ≡ replicate count []
+no_frames count samples =
+    same_below (λ j. slice_range samples (j * 0) (j * 0 + 0)) (λ _. []) count (λ j h. ap (λ (n : ℕ). take n (drop (j * 0) samples)) (let none : (j * 0 + 0) - j * 0 ≡ 0 = omega arith in none))
+    ∙ replicate-below count []
 
 -- ---- the channel of a place
 

@@ -1,12 +1,12 @@
 //! The capture, read by periods.
 
-ghost use Rattle.std.specs.Prelude.{◌≡◌, ◌*◌, ◌%◌, ◌≤◌, ◌<◌, false, IfOk, is_err, length, replicate};
+ghost use Rattle.std.specs.Prelude.{◌≡◌, ◌*◌, ◌%◌, ◌≤◌, ◌<◌, false, IfOk, OnErr, is_err, length, replicate};
 ghost use Rattle.jack_host.specs.Causes.{HasCause};
 ghost use Rattle.session_model.specs.Samples.{silence};
 ghost use Rattle.client_kinds.specs.Buffers.{buffers_of, channels_of, with_buffer};
 ghost use Rattle.device_periods.specs.Blocks.{channel_of};
 ghost use Rattle.wave_pcm.specs.Readings.{SameReading};
-ghost use Rattle.device_periods.specs.Captures.{Fills, Reads};
+ghost use Rattle.device_periods.specs.Captures.{AreOf, Fills, Reads};
 
 use crate::blocks::take_channel;
 use jack_host::{ReadFailed, Source};
@@ -122,7 +122,9 @@ fn read_period<S: Source>(
     requires planar { channels * frames ≤ length planar.old }
     ensures block { length block.new ≡ length block.old }
     ensures planar { length planar.new ≡ length planar.old }
+    ensures shape { IfOk result (λ _. AreOf channels frames (buffers_of channels frames planar.new)) }
     ensures reads { IfOk result (λ _. Reads wave.old.left wave.new.left (buffers_of channels frames planar.new) channels frames) }
+    ensures kept { OnErr result (planar.new ≡ planar.old) }
     ensures same { SameReading wave.old wave.new }
     ensures failed { wave.new.failed ≡ is_err result }
     ensures cause { HasCause wave.old.faults wave.new.faults result }
@@ -140,10 +142,12 @@ impl<S: Source> Capture<S> {
     ghost use Rattle.wave_pcm.specs.Readings.{SameReading};
 
     /// A capture that is read from where its file stands, by periods of at most so many frames. Where memory lacks, the
-    /// file comes back.
+    /// file comes back. No period was read yet: the channels have no frames.
+    #[tactic(auto, using(crate::proofs::PeriodLemmas::no_frames))]
     pub fn new(alloc: Global, wave: Wave<S>, room: u32) -> Result<Capture<S>, (Wave<S>, Memory)>
         requires { room ≤ 4096 }
         ensures made { IfOk result (λ capture. (capture.reading ≡ wave) × (capture.room ≡ room)) }
+        ensures none { IfOk result (λ capture. capture.channels ≡ replicate wave.format.channels []) }
         ensures back { IfErr result (λ refused. refused.0 ≡ wave) }
     {
         let samples = room as usize * usize::from(wave.format().channels);
@@ -162,12 +166,15 @@ impl<S: Source> Capture<S> {
         })
     }
 
-    /// Reads the next frames, with zeros past the capture's end. After a failure only `into_wave` may be called.
+    /// Reads the next frames, with zeros past the capture's end. Each channel then has so many, also where the file tells
+    /// nothing. After a failure only `into_wave` may be called.
     pub fn read(&mut self, frames: u32) -> Result<(), ReadFailed>
         requires going { self.old.reading.failed ≡ false }
         requires room { frames ≤ self.old.room }
+        ensures shape { IfOk result (λ _. AreOf self.old.reading.format.channels frames self.new.channels) }
         ensures reads { IfOk result (λ _. Reads self.old.reading.left self.new.reading.left self.new.channels self.old.reading.format.channels frames) }
         ensures same { SameReading self.old.reading self.new.reading }
+        ensures kept { OnErr result (self.new.channels ≡ self.old.channels) }
         ensures room { self.new.room ≡ self.old.room }
         ensures failed { self.new.reading.failed ≡ is_err result }
         ensures cause { HasCause self.old.reading.faults self.new.reading.faults result }

@@ -1,8 +1,12 @@
-use Rattle.std.proofs.Common.{◌≡◌, ◌*◌, ◌∙◌, ap, length, List, ℤ}
+use Rattle.std.proofs.Common.{◌≡◌, ◌*◌, sym, ◌∙◌, ap, subst, length, List, ℤ}
 use Rattle.std.proofs.lemmas.List.{length-take-le}
 use Rattle.client_kinds.specs.Buffers.{channels_of}
-use Rattle.device_periods.proofs.PeriodLemmas.{reads, take_seam}
+use Rattle.device_periods.specs.Captures.{AreOf}
+use Rattle.device_periods.proofs.PeriodLemmas.{reads, shape, take_seam}
 use Rattle.device_periods.proofs.captures.read_period.Goals as goal
+
+pub returns-clause-shape : goal.returns-clause-shape
+returns-clause-shape g c = subst (AreOf c.args.channels c.args.frames) (sym c.take_front.ensures.channels) (shape c.args.channels c.args.frames _)
 
 pub returns-clause-reads : goal.returns-clause-reads
 returns-clause-reads g c =
