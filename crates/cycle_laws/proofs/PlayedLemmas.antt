@@ -75,15 +75,6 @@ module _ {freewheel : Bool} {before after : Gear} {plan : Planned} {moment : Mom
       ∙ length-below plan.base.capture
       ∙ ap (λ (base : Base). base.capture) (base-now gear may turns steps)
 
-  -- one step of the transport, in the driver's own terms
-  transport-now : All HasTarget (drop (last_number driver) plan.changes)
-      → after.transport.row ≡ next_row before.transport.row (adopted_now driver played) (slow_numbers (graph_now played)) (timeout_of (graph_now played) before.script.header.rate before.set) before.set
-  transport-now targets =
-      turns.row targets
-      ∙ ap₂ (λ (changes : List Change) state. next_row before.transport.row (drop (last_number driver) changes) (slow_numbers state) (timeout_of state before.transport.rate before.set) before.set)
-      (sym (content-now gear may turns steps)) (sym (graph-now gear may turns steps))
-      ∙ ap (λ rate. next_row before.transport.row (adopted_now driver played) (slow_numbers (graph_now played)) (timeout_of (graph_now played) rate before.set) before.set) gear.rate
-
   nodes-now : open_clients after.stage.staged.nodes ≡ open_clients plan.nodes
   nodes-now = ap open_clients turns.stands.stands.nodes
 
@@ -96,12 +87,12 @@ module _ {freewheel : Bool} {before after : Gear} {plan : Planned} {moment : Mom
       bench-seen after n (bench-within (open_clients plan.nodes) after.stage.staged.racked after.stage.staged.owned n n turns.stands.stands.seating ((turns.stands.staffed staffed).has n low))
       ∙ ap (λ (p : Planned). bench_on p after.stage.staged n) turns.plan_is
 
-  pub plays-own : (left : List ℤ) → after.stage.staged.is_staffed ≡ true → All HasTarget (drop (last_number driver) plan.changes) → PlaysPlan (own_course driver) before.stage.staged plan (settled_now driver played left) after.stage.staged → PlaysOwn driver played left
-  plays-own left staffed targets plays = record {
+  pub plays-own : (left : List ℤ) → after.stage.staged.is_staffed ≡ true → PlaysPlan (own_course driver) before.stage.staged plan (settled_now driver played left) after.stage.staged → PlaysOwn driver played left
+  plays-own left staffed plays = record {
     period = may.period_is;
     full = λ disk low. absurd (none low);
-    transport = transport-now targets;
-    moments = turns.moments ∙ ap (λ m. before.moments ++ m ∷ []) (moment-now gear may turns steps);
+    transport = steps.transport of_calls;
+    moments = steps.moments;
     links = plan.links;
     before = plays.before;
     plan = subst (λ state. IsPlan state (open_clients after.stage.staged.nodes) plan.links) (sym (graph-now gear may turns steps))

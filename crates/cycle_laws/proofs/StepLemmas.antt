@@ -3,9 +3,10 @@
 --     puts      at each ring the blocks were put as by the driver
 --     frames-is      the frames of one cycle more
 --     StepsOnce-turned      it is a step
-use Rattle.std.proofs.Common.{◌≡◌, ℕ, ◌+◌, ◌*◌, ◌<◌, ◌≤◌, Bool, true, false, List, [], drop, length, position, slice_get, ℤ, Some, refl, sym, ◌∙◌, ap, ap₂, subst}
+use Rattle.std.proofs.Common.{◌≡◌, ℕ, ◌+◌, ◌*◌, ◌<◌, ◌≤◌, Bool, true, false, List, [], ◌∷◌, ◌++◌, drop, length, position, All, slice_get, ℤ, Some, refl, sym, ◌∙◌, ap, ap₂, subst}
 use Rattle.std.proofs.lemmas.List.Elements.{All-nil}
 use Rattle.std.proofs.lemmas.Option.{get_or_from_slice_get, none-some, slice_get_within}
+use Rattle.jack_types.specs.declared.commands.Change.{Change}
 use Rattle.jack_types.specs.declared.moments.Moment.{Moment}
 use Rattle.jack_types.specs.declared.replies.Underrun.{Underrun}
 use Rattle.session_model.specs.Courses.{players}
@@ -13,13 +14,17 @@ use Rattle.session_model.specs.Kinds.{input_at}
 use Rattle.session_model.specs.Recorders.{is_tape}
 use Rattle.session_model.specs.Scripts.{Script}
 use Rattle.session_model.specs.State.{OpenClient, State}
+use Rattle.session_model.specs.Transport.{active_master, next_row, shown, slow_numbers, timeout_of}
 use Rattle.port_registry.specs.Registered.{open_clients}
 use Rattle.cycle_plan.specs.Plans.{Planned, state_of_plan}
 use Rattle.record_ring.specs.Rings.{Sending}
+use Rattle.transport.specs.Standings.{HasTarget, Standing}
 use Rattle.bench_rack.specs.Racks.{bench_at as bench_of_rack}
 use Rattle.device_periods.specs.Captures.{Captured}
 use Rattle.driver_laws.specs.Cycling.{MayCycle, PutsOne, StepsOnce}
-use Rattle.driver_laws.specs.Drivers.{HasOwnRings, HasOwnRows, bench_at, block_in, channels_on, frames_read, frames_run, graph_now, has_tape, overruns_on, turn_of}
+use Rattle.driver_laws.specs.Drivers.{HasOwnRings, HasOwnRows, bench_at, block_in, channels_on, content_now, frames_read, frames_run, graph_now, has_tape, overruns_on, turn_of}
+use Rattle.driver_laws.specs.Keeping.{AreOfCalls}
+use Rattle.driver_laws.specs.Playing.{adopted_now, last_number, moment_now}
 use Rattle.recorder_rings.specs.Sending.{channels_at, no_ring, ring_at}
 use Rattle.cycle_blocks.specs.Blocks.{block_by, is_taped}
 use Rattle.cycle_laws.specs.Gears.{Gear, IsGear, driver_of}
@@ -98,13 +103,36 @@ module _ (freewheel : Bool) (before after : Gear) (plan : Planned) (moment : Mom
           before.set (frames_read (turn_of before.script (length before.numbers + 1))) (turned.reads e) is.capture_channels
           (sym (frames-of_run (turn_of before.script (length before.numbers + 1)) (may.turn_is ∙ e) ∙ may.period_is)) told
 
-  pub StepsOnce-turned : StepsOnce (driver_of before) (driver_of after)
-  StepsOnce-turned = record {
+  content-is : content_now (driver_of after) ≡ plan.changes
+  content-is = own-rows.last ∙ ap (λ (p : Planned). p.changes) turned.plan_is
+
+  -- one step of the transport
+  transport-is : (AreOfCalls before.script plan.changes → All HasTarget (drop (last_number (driver_of before)) plan.changes)) → AreOfCalls before.script (content_now (driver_of after))
+      → after.transport.row
+      ≡ next_row before.transport.row (adopted_now (driver_of before) (driver_of after)) (slow_numbers (graph_now (driver_of after))) (timeout_of (graph_now (driver_of after)) before.script.header.rate before.set) before.set
+  transport-is targets of_calls =
+      turned.row (targets (subst (AreOfCalls before.script) content-is of_calls))
+      ∙ ap₂ (λ (changes : List Change) state. next_row before.transport.row (drop (last_number (driver_of before)) changes) (slow_numbers state) (timeout_of state before.transport.rate before.set) before.set)
+      (sym content-is) (sym graph-is)
+      ∙ ap (λ rate. next_row before.transport.row (adopted_now (driver_of before) (driver_of after)) (slow_numbers (graph_now (driver_of after))) (timeout_of (graph_now (driver_of after)) rate before.set) before.set) is.rate
+
+  -- and what it shows
+  moment-is : moment ≡ moment_now (driver_of before) (driver_of after)
+  moment-is =
+      turned.moment_is
+      ∙ ap₂ (λ cycles rate. shown cycles after.transport.row rate (active_master (state_of_plan plan)))
+      (ap (λ (s : Standing). s.cycles) turned.standing ∙ ap (λ cycles. cycles + 1) (is.in_step may.sound).cycles) is.rate
+      ∙ ap (λ state. shown (length before.numbers + 1) after.transport.row before.script.header.rate (active_master state)) (sym graph-is)
+
+  pub StepsOnce-turned : (AreOfCalls before.script plan.changes → All HasTarget (drop (last_number (driver_of before)) plan.changes)) → StepsOnce (driver_of before) (driver_of after)
+  StepsOnce-turned targets = record {
     taken = turned.taken;
     number = turned.number;
     takes = turned.takes;
     begins = turned.begins;
     numbers = turned.numbers;
+    transport = transport-is targets;
+    moments = turned.moments ∙ ap (λ m. before.moments ++ m ∷ []) moment-is;
     rings = puts;
     as_many = turned.sends.as_many;
     overruns = turned.sends.overruns;

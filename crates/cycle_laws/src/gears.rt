@@ -37,7 +37,9 @@ pub fn a_cycle_may_be_played()
 /// What the calls of a cycle leave is one step of the driver, whatever was played.
 pub fn a_cycle_is_a_step()
     ensures { (freewheel : Bool) (before after : Gear) (plan : Planned) (moment : MomentValue) → IsGear before → MayCycle (driver_of before) freewheel → Turns freewheel before plan moment after → StepsOnce (driver_of before) (driver_of after) }
-{}
+{
+    calls_have_targets();
+}
 
 /// Behind a cycle the parts are as before it.
 pub fn a_cycle_leaves_the_parts()
@@ -61,7 +63,6 @@ pub fn a_cycle_plays_its_own()
     a_cycle_leaves_the_parts();
     all_have_their_benches();
     content_is_of_calls();
-    calls_have_targets();
     a_period_is_what_the_capture_has();
     the_device_has_its_ports();
     old_scripts_are_plain();

@@ -113,12 +113,15 @@ module _ (table : TableId) where
   }
 
   steps : StepsOnce before after
+  unfolding digits
   steps = record {
     taken = taken_of;
     number = 1;
     takes = record { earlier = 1 ∷ []; one_more = omega arith; newer = All-cons (λ number. 0 < number) 1 [] (omega arith) (All-nil (λ number. 0 < number)); stays = λ none. absurd (cc); reads = refl; number = refl; least = omega arith; front = refl; same = refl };
     begins = record { after_is = refl };
     numbers = refl;
+    transport = λ of_calls. refl;
+    moments = refl;
     rings = λ recorder ring ring_after here there. absurd (none-some ring here);
     as_many = refl;
     overruns = [];

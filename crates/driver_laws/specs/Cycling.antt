@@ -19,13 +19,14 @@ use Rattle.session_model.specs.Driving.{settled_from}
 use Rattle.session_model.specs.Recorders.{block}
 use Rattle.session_model.specs.Rings.{RingBlock}
 use Rattle.session_model.specs.Scripts.{turns}
-use Rattle.session_model.specs.Transport.{moment, row}
+use Rattle.session_model.specs.Transport.{moment, next_row, row, slow_numbers, timeout_of}
 use Rattle.graph_word.specs.Publications.{Reading, Takes, Begins}
 use Rattle.record_ring.specs.Rings.{Sending, Getting, Puts, IsFull, Gets}
 use Rattle.record_ring.specs.declared.consumer.Got.TheVariants.{Block, Empty, Ended}
 use Rattle.wave_write.specs.Tapes.{Tape, SameFile}
-use Rattle.driver_laws.specs.Drivers.{Driver, run, turn_of, frames_read, graph_now, has_tape, has_disk, overruns_on, underruns_on, bench_at, memory_in, block_in, HasOwnRows, HasOwnRings, HasPlayback}
-use Rattle.driver_laws.specs.Keeping.{Fits, Keeps, HasTape, HasTapeFront, played_so_far}
+use Rattle.driver_laws.specs.Drivers.{Driver, run, turn_of, frames_read, content_now, graph_now, has_tape, has_disk, overruns_on, underruns_on, bench_at, memory_in, block_in, HasOwnRows, HasOwnRings, HasPlayback}
+use Rattle.driver_laws.specs.Keeping.{AreOfCalls, Fits, Keeps, HasTape, HasTapeFront, played_so_far}
+use Rattle.driver_laws.specs.Playing.{adopted_now, moment_now}
 
 -- the next cycle is there and of this kind, its period is set, a playback is attached, nothing failed, and rows and rings are as the driver's own cycles left them, without an end
 pub record MayCycle (driver : Driver) (freewheel : Bool) : Type 0 where
@@ -53,13 +54,16 @@ pub data GetsOne (k disk : ℕ) (active : Bool) (before after : Getting) (misses
   Missed : (one : RingBlock) (found : ℕ) → active ≡ true → Gets before after one found (Empty found found)
       → misses_after ≡ misses ++ record { disk = disk; cycle = k; sent = found; taken = found } ∷ [] → GetsOne k disk active before after misses misses_after
 
--- what a cycle appends, in the driver's own terms: one take and one row; at each ring what `PutsOne` or `GetsOne` says; overruns and underruns of this cycle alone; the capture's next frames only in a `run` cycle, where it tells them
+-- what a cycle appends, in the driver's own terms: one take and one row; one step of the transport, where what it took is of the script's calls, and what that shows; at each ring what `PutsOne` or `GetsOne` says; overruns and underruns of this cycle alone; the capture's next frames only in a `run` cycle, where it tells them
 pub record StepsOnce (driver after : Driver) : Type 0 where
   pub taken : Reading
   pub number : ℕ
   pub takes : Takes driver.reading number taken
   pub begins : Begins taken (run driver + 1) after.reading
   pub numbers : after.numbers ≡ driver.numbers ++ number ∷ []
+  pub transport : AreOfCalls driver.script (content_now after)
+      → after.transport ≡ next_row driver.transport (adopted_now driver after) (slow_numbers (graph_now after)) (timeout_of (graph_now after) driver.script.header.rate driver.set) driver.set
+  pub moments : after.moments ≡ driver.moments ++ moment_now driver after ∷ []
   pub rings : (recorder : ℕ) (ring ring_after : Sending) → slice_get driver.rings recorder ≡ Some ring → slice_get after.rings recorder ≡ Some ring_after
       → PutsOne (run driver + 1) recorder (has_tape (graph_now after) recorder) (block_in after recorder) ring ring_after (overruns_on driver.overruns recorder) (overruns_on after.overruns recorder)
   pub as_many : length after.rings ≡ length driver.rings

@@ -1,5 +1,8 @@
+use Rattle.driver_laws.specs.Playing.{last_number}
+use Rattle.cycle_laws.specs.Gears.{driver_of}
 use Rattle.cycle_laws.proofs.StepLemmas.{StepsOnce-turned}
 use Rattle.cycle_laws.proofs.gears.a_cycle_is_a_step.Goals as goal
 
 pub returns : goal.returns
-returns c = StepsOnce-turned
+returns c freewheel before after plan moment is may turned =
+    StepsOnce-turned freewheel before after plan moment is may turned (c.calls_have_targets.ensures.adopted before.script plan.changes (last_number (driver_of before)) is.served.lawful)

@@ -2,7 +2,6 @@ use Rattle.std.proofs.Common.{◌≡◌, true}
 use Rattle.driver_laws.specs.Drivers.{content_now}
 use Rattle.driver_laws.specs.Cycling.{StepsOnce}
 use Rattle.driver_laws.specs.Keeping.{AreOfCalls}
-use Rattle.driver_laws.specs.Playing.{last_number}
 use Rattle.cycle_laws.specs.Gears.{driver_of}
 use Rattle.cycle_laws.proofs.PlayedLemmas.{calls-behind, calls-last, calls-now, plays-now, plays-own}
 use Rattle.cycle_laws.proofs.gears.a_cycle_plays_its_own.Goals as goal
@@ -15,7 +14,6 @@ returns c freewheel before after plan moment is may turns left course fits keeps
     let staffed : after.stage.staged.is_staffed ≡ true =
     c.all_have_their_benches.ensures after (c.a_cycle_leaves_the_parts.ensures freewheel before after plan moment is may turns) (calls-behind is may turns steps of) in
     plays-own is may turns steps of left staffed
-    (c.calls_have_targets.ensures.adopted before.script plan.changes (last_number (driver_of before)) is.served.lawful of_plan)
     (plays-now is may turns steps of left told
     c.a_period_is_what_the_capture_has.ensures.as_many
     c.a_period_is_what_the_capture_has.ensures.read
