@@ -6,5 +6,7 @@ mod ensembles;
 mod linking;
 mod playing;
 mod sources;
+#[cfg(test)]
+mod tests;
 
 pub use ensembles::Ensemble;

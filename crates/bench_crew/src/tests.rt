@@ -1,0 +1,112 @@
+ghost use Rattle.std.specs.Prelude.{◌≡◌, ◌<◌, IfOk, length, true};
+ghost use Rattle.client_benches.specs.Seen.{has_room_at};
+ghost use Rattle.bench_crew.specs.Ensembles.{bench_of};
+
+use crate::Ensemble;
+use client_benches::{ClientBench, Rooms};
+use client_kinds::{Guest, Shape};
+use jack_host::FreeGate;
+use jack_types::{Kind, Link, Memory, Moment, TransportState};
+use std::alloc::Global;
+use std::test::Fail;
+use std::thread::Threads;
+
+type Bench = ClientBench<Box<dyn Guest + Send>>;
+
+const MOMENT: Moment = Moment {
+    cycle: 1,
+    state: TransportState::Stopped,
+    frame: 0,
+    rate: 48_000,
+    bbt: None,
+};
+
+// A wave of four frames, which is handed on over the two links that go out from its node.
+fn wave(alloc: Global) -> Result<Bench, Memory>
+    ensures { IfOk result (λ bench. (has_room_at bench 0 ≡ true) × (has_room_at bench 1 ≡ true)) }
+{
+    let kind = Kind::Tone {
+        half: 2,
+        level: 1000,
+    };
+    let mut bench = ClientBench::new(alloc, kind, 4)?;
+    let ports = Shape {
+        inputs: 0,
+        outputs: 1,
+        period: 4,
+    };
+    bench.begin(&MOMENT, ports, 2);
+    bench.carry(0, Some(0));
+    bench.carry(1, Some(0));
+    bench.link(0, Rooms::new(alloc)?);
+    bench.link(1, Rooms::new(alloc)?);
+    Ok(bench)
+}
+
+// What comes over the first incoming link, so many times.
+fn times(alloc: Global, factor: i32) -> Result<Bench, Memory> {
+    let kind = Kind::Gain { factor, shift: 0 };
+    let mut bench = ClientBench::new(alloc, kind, 4)?;
+    let ports = Shape {
+        inputs: 1,
+        outputs: 1,
+        period: 4,
+    };
+    bench.begin(&MOMENT, ports, 0);
+    bench.hear_carried(0, 0, 0);
+    Ok(bench)
+}
+
+// Plays a cycle over links from node 0 to the two nodes.
+fn play<T: Threads + Sync>(
+    threads: &T,
+    ensemble: &mut Ensemble<Box<dyn Guest + Send>>,
+    benches: &mut [Bench],
+    low: u32,
+    high: u32,
+)
+    requires nodes { (0 < low) × (low < high) × (high < 4) × (ensemble.old.nodes ≡ 4) × (length benches.old ≡ 4) }
+    requires rooms { (has_room_at (bench_of benches.old 0) 0 ≡ true) × (has_room_at (bench_of benches.old 0) 1 ≡ true) }
+    ensures nodes { (ensemble.new.nodes ≡ 4) × (length benches.new ≡ 4) }
+    ensures rooms { (has_room_at (bench_of benches.new 0) 0 ≡ true) × (has_room_at (bench_of benches.new 0) 1 ≡ true) }
+{
+    let links = [Link { from: 0, to: low }, Link { from: 0, to: high }];
+    ensemble.play(threads, &FreeGate, &links, benches);
+}
+
+// The first and the last sample that each bench gave in its last cycle.
+fn given(benches: &[Bench]) -> [(Option<i32>, Option<i32>); 4] {
+    let mut ends = [(None, None); 4];
+    for (place, bench) in benches.iter().take(4).enumerate() {
+        let samples = bench.output(0);
+        ends[place] = (samples.first().copied(), samples.last().copied());
+    }
+    ends
+}
+
+fn ends(sample: i32) -> (Option<i32>, Option<i32>) {
+    (Some(sample), Some(-sample))
+}
+
+// Two cycles: the wave goes to nodes 1 and 2, and then, over another plan, to nodes 2 and 3.
+#[test]
+fn four_seats_play_two_plans(rt: HostRuntime) -> Result<(), Fail> {
+    let alloc = rt.alloc();
+    let mut benches = Vec::with_capacity(alloc, 4)?;
+    benches.push_reserved(wave(alloc)?);
+    benches.push_reserved(times(alloc, 2)?);
+    benches.push_reserved(times(alloc, 3)?);
+    benches.push_reserved(times(alloc, 4)?);
+    let mut ensemble = Ensemble::new(alloc, 4, 4)?;
+    play(&rt, &mut ensemble, benches.as_mut_slice(), 1, 2);
+    assert_eq!(rt;
+        given(&benches),
+        [ends(1000), ends(2000), ends(3000), ends(0)]
+    );
+    play(&rt, &mut ensemble, benches.as_mut_slice(), 2, 3);
+    assert_eq!(rt;
+        given(&benches),
+        [ends(1000), ends(0), ends(3000), ends(4000)]
+    );
+    Ok(())
+}
