@@ -179,3 +179,25 @@ fn the_call_behind_4096_is_a_fault(rt: HostRuntime) -> Result<(), Fail> {
         "fault 5 script 4103 TooMany\n",
     )
 }
+
+/// As many calls as there may be, and 204 segments behind them.
+#[test]
+fn a_script_of_4300_lines_is_played(rt: HostRuntime) -> Result<(), Fail> {
+    let mut script = text(rt.alloc(), &[HEADER])?;
+    for _ in 0..4096_u32 {
+        script.push_str("do stop\n")?;
+    }
+    for _ in 0..204_u32 {
+        script.push_str("run 1\n")?;
+    }
+    let mut report = accepted(rt.alloc(), 4096)?;
+    for cycle in 1..=204_u32 {
+        writeln!(report, "cycle {cycle} 4096 stopped 0 -")?;
+    }
+    report.push_str("end\n")?;
+    let capture = wave(rt.alloc(), MONO, &[])?;
+    let played = play(&rt, &PLAY, &[&script], &capture)?;
+    assert_eq!(rt; played.status, Status::Ok);
+    has_out(&rt, &played, &report);
+    Ok(())
+}
