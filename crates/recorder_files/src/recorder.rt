@@ -243,7 +243,7 @@ impl<W: Store> Recorder<W> {
         }
     }
 
-    /// How many blocks were written into the file.
+    /// How many blocks were written into the file by calls that did not fail.
     pub fn blocks(&self) -> u64
         ensures { result ≡ self.now.blocks }
     {
