@@ -241,10 +241,15 @@ gives_all (Some xs) b n asked out f le short =
     (⊎_elim (λ (h : n < asked). omega (arith, f.0, short h, h)) (λ (h : asked ≤ n). omega (arith, f.0, h, le)) (cases_lt n asked), f.1, f.2)
 
 pub same_reading-trans : (a b c : Reading) → SameReading a b → SameReading b c → SameReading a c
-same_reading-trans a b c f g = record { format = g.format ∙ f.format; size = g.size ∙ f.size; later = omega (arith, f.later, g.later) }
+same_reading-trans a b c f g = record {
+  format = g.format ∙ f.format;
+  size = g.size ∙ f.size;
+  later = omega (arith, f.later, g.later);
+  kept = λ going. let second = g.kept going in let first = f.kept second.0 in (first.0, second.1 ∙ first.1);
+}
 
 pub same_reading-refl : (a : Reading) → SameReading a a
-same_reading-refl a = record { format = refl; size = refl; later = omega arith }
+same_reading-refl a = record { format = refl; size = refl; later = omega arith; kept = λ going. (going, refl) }
 
 -- ---- what was opened
 

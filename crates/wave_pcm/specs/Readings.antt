@@ -1,7 +1,7 @@
 -- What contracts see of a WAVE file that is read.
 --     Reading      its format, the samples left where the source tells its bytes, and how far it came
 --     Gives left left_after count asked out      the next samples were read
-use Rattle.std.specs.Prelude.{◌≡◌, ℕ, ◌≤◌, min, Bool, true, ⊤, List, length, take, drop, ℤ, Option, Some, None, All, ◌<◌}
+use Rattle.std.specs.Prelude.{◌≡◌, ℕ, ◌≤◌, min, Bool, true, false, ⊤, List, length, take, drop, ℤ, Option, Some, None, All, ◌<◌}
 use Rattle.jack_types.specs.declared.files.Format.{Format}
 use Rattle.session_model.specs.Samples.{samples_of}
 use Rattle.session_model.specs.WaveFiles.{is_width, whole_frames}
@@ -42,8 +42,9 @@ abbrev pub Gave : Option (List ℤ) → Option (List ℤ) → ℕ → List ℤ �
 Gave None after count out = ⊤
 Gave (Some left) after count out = (count ≤ length left) × (take count out ≡ take count left) × (after ≡ Some (drop count left))
 
--- one file, before and after
+-- one file, before and after: its count of faults stands where no read failed
 pub record SameReading (old new : Reading) : Type 0 where
   pub format : new.format ≡ old.format
   pub size : new.size ≡ old.size
   pub later : old.faults ≤ new.faults
+  pub kept : new.failed ≡ false → (old.failed ≡ false) × (new.faults ≡ old.faults)

@@ -29,6 +29,7 @@ pub fn read_header<S: Source>(source: &mut S) -> Result<(Format, u32), WaveFault
     ensures fails { IfErr result (λ fault. fault ≢ WaveFault.Read → IfSome (S.left source.old) (λ bytes. opened bytes ≡ Err fault)) }
     ensures readable { IfOk result (λ told. IsReadable told.0 × (told.1 < 2 ^ 32)) }
     ensures later { S.faults source.old ≤ S.faults source.new }
+    ensures kept { OnOk result (S.faults source.new ≡ S.faults source.old) }
     ensures failed { IfErr result (λ fault. fault ≡ WaveFault.Read → Rose (S.faults source.old) (S.faults source.new)) }
 {
     read_riff(source)?;
@@ -54,6 +55,7 @@ fn read_riff<S: Source>(source: &mut S) -> Result<(), WaveFault>
     ensures begins { OnOk result (Begins (S.left source.old) (S.left source.new)) }
     ensures fails { IfErr result (λ fault. fault ≢ WaveFault.Read → IfSome (S.left source.old) (λ bytes. opened bytes ≡ Err fault)) }
     ensures later { S.faults source.old ≤ S.faults source.new }
+    ensures kept { OnOk result (S.faults source.new ≡ S.faults source.old) }
     ensures failed { IfErr result (λ fault. fault ≡ WaveFault.Read → Rose (S.faults source.old) (S.faults source.new)) }
 {
     let mut head = [0u8; 12];
@@ -104,6 +106,7 @@ fn read_head<S: Source>(source: &mut S) -> Result<Option<[u8; 8]>, WaveFault>
     ensures short { IfOk result (λ told. IfNone told (IfSome (S.left source.old) (λ bytes. length bytes < 8))) }
     ensures fault { IfErr result (λ fault. fault ≡ WaveFault.Read) }
     ensures later { S.faults source.old ≤ S.faults source.new }
+    ensures kept { OnOk result (S.faults source.new ≡ S.faults source.old) }
     ensures failed { OnErr result (Rose (S.faults source.old) (S.faults source.new)) }
 {
     let mut head = [0u8; 8];
@@ -150,6 +153,7 @@ fn read_chunk<S: Source>(
     ensures small { IfOk result (λ next. taken next ≤ 2 ^ 33) }
     ensures readable { IfOk result IsReadableNext }
     ensures later { S.faults source.old ≤ S.faults source.new }
+    ensures kept { OnOk result (S.faults source.new ≡ S.faults source.old) }
     ensures failed { IfErr result (λ fault. fault ≡ WaveFault.Read → Rose (S.faults source.old) (S.faults source.new)) }
 {
     let Some(head) = read_head(source)? else {
@@ -185,6 +189,7 @@ fn read_first_format<S: Source>(source: &mut S, read: u64, size: u32) -> Result<
         ⊎ ((cut_format_fault (read + length content) size content ≡ None) × (fault ≡ WaveFault.NoData) × (length content < size + size % 2)))) }
     ensures readable { IfOk result IsReadableNext }
     ensures later { S.faults source.old ≤ S.faults source.new }
+    ensures kept { OnOk result (S.faults source.new ≡ S.faults source.old) }
     ensures failed { IfErr result (λ fault. fault ≡ WaveFault.Read → Rose (S.faults source.old) (S.faults source.new)) }
 {
     let (format, done) = read_format(source, size, read)?;
@@ -203,6 +208,7 @@ fn pass<S: Source>(
     ensures taken { OnOk result (Drops (S.left source.old) (S.left source.new) (size + size % 2 - done)) }
     ensures ends { IfErr result (λ fault. fault ≢ WaveFault.Read → (fault ≡ ended_fault found) × IfSome (S.left source.old) (λ told. length told < size + size % 2 - done)) }
     ensures later { S.faults source.old ≤ S.faults source.new }
+    ensures kept { OnOk result (S.faults source.new ≡ S.faults source.old) }
     ensures failed { IfErr result (λ fault. fault ≡ WaveFault.Read → Rose (S.faults source.old) (S.faults source.new)) }
 {
     let padded = u64::from(size) + u64::from(size % 2);

@@ -126,6 +126,7 @@ pub fn read_format<S: Source>(
     ensures fails { IfErr result (λ fault. fault ≢ WaveFault.Read → IfSome (S.left source.old) (λ content. cut_format_fault (read + length content) size content ≡ Some fault)) }
     ensures readable { IfOk result (λ told. IsReadable told.0) }
     ensures later { S.faults source.old ≤ S.faults source.new }
+    ensures kept { OnOk result (S.faults source.new ≡ S.faults source.old) }
     ensures failed { IfErr result (λ fault. fault ≡ WaveFault.Read → Rose (S.faults source.old) (S.faults source.new)) }
 {
     if size < 16 {
@@ -170,6 +171,7 @@ fn read_content<S: Source>(
     ensures content { OnOk result (IfSome (S.left source.old) (λ told. IsTestedBy size told content.new)) }
     ensures fails { IfErr result (λ fault. fault ≢ WaveFault.Read → IfSome (S.left source.old) (λ told. (nat_lt (length told) (needed size told) ≡ true) × (fault ≡ WaveFault.Ends (read + length told)))) }
     ensures later { S.faults source.old ≤ S.faults source.new }
+    ensures kept { OnOk result (S.faults source.new ≡ S.faults source.old) }
     ensures failed { IfErr result (λ fault. fault ≡ WaveFault.Read → Rose (S.faults source.old) (S.faults source.new)) }
 {
     read_part(source, content, 0, 16, read)?;
@@ -197,6 +199,7 @@ fn read_part<S: Source>(
     ensures bytes { OnOk result (Consumes (S.left source.old) (S.left source.new) (slice_range content.new from to)) }
     ensures fails { IfErr result (λ fault. fault ≢ WaveFault.Read → IfSome (S.left source.old) (λ told. (length told < to - from) × (fault ≡ WaveFault.Ends (read + length told)))) }
     ensures later { S.faults source.old ≤ S.faults source.new }
+    ensures kept { OnOk result (S.faults source.new ≡ S.faults source.old) }
     ensures failed { IfErr result (λ fault. fault ≡ WaveFault.Read → Rose (S.faults source.old) (S.faults source.new)) }
 {
     let count = match fill(source, &mut content[from..to]) {

@@ -61,6 +61,7 @@ impl<S: Source> Wave<S> {
         ensures opened { IfOk result (λ wave. IfSome (S.left source) (λ bytes. (told : Opened) × (opened bytes ≡ Ok told) × (wave.format ≡ told.format) × (wave.left ≡ Some (wave_in told)))) }
         ensures fresh { IfOk result (λ wave. IsReadable wave.format × (wave.given ≡ 0) × (wave.failed ≡ false)) }
         ensures later { IfOk result (λ wave. S.faults source ≤ wave.faults) }
+        ensures kept { IfOk result (λ wave. wave.faults ≡ S.faults source) }
 
         // Each fault but that of the source is the one that the bytes have.
         ensures fault { IfErr result (λ e. e.1 ≢ WaveFault.Read → IfSome (S.left source) (λ bytes. (opened bytes ≡ Err e.1) × (AreBytes bytes → wave_fault bytes ≡ Some e.1))) }

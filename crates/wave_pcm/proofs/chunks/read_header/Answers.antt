@@ -19,7 +19,7 @@ chunks-preserved g c =
       short = omega (arith, small, c.chunks.invariant.short);
       few = omega (arith, c.chunks-test.true);
       readable = readable;
-      later = omega (arith, c.chunks.invariant.later, c.read_chunk.ensures.later);
+      kept = omega (arith, c.chunks.invariant.kept, c.in-Ok-Chunk.ensures.kept);
     }
 
 pub returns-in-Err-clause-fails : goal.returns-in-Err-clause-fails

@@ -1,4 +1,4 @@
-use Rattle.std.proofs.Common.{◌+◌, ◌-◌, ◌*◌, ◌^◌, ◌≤◌}
+use Rattle.std.proofs.Common.{◌≡◌, ◌+◌, ◌-◌, ◌*◌, ◌^◌, ◌≤◌}
 use Rattle.std.specs.Prelude.{IfSome}
 use Rattle.wave_pcm.specs.Openings.{IsOnward}
 use Rattle.wave_pcm.specs.Readings.{IsReadable}
@@ -10,7 +10,7 @@ invariant-chunks g l = record {
   short : l.read ≤ 12 + l.passed * 2 ^ 33;
   few : l.passed ≤ 4096;
   readable : IfSome l.found IsReadable;
-  later : g.S.Source.faults l.fn.source ≤ g.S.Source.faults l.source;
+  kept : g.S.Source.faults l.source ≡ g.S.Source.faults l.fn.source;
 }
 
 abbrev pub decreases-chunks : goal.decreases-chunks

@@ -7,5 +7,5 @@ filling-preserved g c =
     record {
       within = c.in_ok-count.ensures.bound;
       taken = filled _ _ _ c.filling.buffer c.read_from.new.buffer c.filling.at c.in_ok-count.count c.read_from.ensures.front c.filling.invariant.taken c.in_ok-count.ensures.bytes;
-      later = search rules;
+      kept = search rules;
     }

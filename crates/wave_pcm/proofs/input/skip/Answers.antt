@@ -12,5 +12,5 @@ skipping-preserved g c =
     record {
       within = omega (arith, c.skipping.invariant.within);
       taken = skipped _ _ _ c.args.count c.skipping.left c.in_ok-taken.taken c.in_ok-taken.ensures.bound c.skipping.invariant.within c.skipping.invariant.taken c.in_ok-taken.ensures.taken;
-      later = search rules;
+      kept = search rules;
     }

@@ -1,4 +1,4 @@
-use Rattle.std.proofs.Common.{◌≤◌, ◌-◌}
+use Rattle.std.proofs.Common.{◌≡◌, ◌≤◌, ◌-◌}
 use Rattle.wave_pcm.specs.Steps.{Drops}
 use Rattle.wave_pcm.proofs.input.skip.Given as goal
 
@@ -6,7 +6,7 @@ abbrev pub invariant-skipping : goal.invariant-skipping
 invariant-skipping g l = record {
   within : l.left ≤ l.count;
   taken : Drops (g.S.Source.left l.initial.source) (g.S.Source.left l.source) (l.count - l.left);
-  later : g.S.Source.faults l.initial.source ≤ g.S.Source.faults l.source;
+  kept : g.S.Source.faults l.source ≡ g.S.Source.faults l.initial.source;
 }
 
 abbrev pub decreases-skipping : goal.decreases-skipping

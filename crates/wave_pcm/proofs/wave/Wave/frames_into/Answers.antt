@@ -1,4 +1,4 @@
-use Rattle.std.proofs.Common.{rules, ◌≡◌, ◌+◌, ◌*◌, ◌≤◌, ℕ, arith, drop, length, subst, sym, take}
+use Rattle.std.proofs.Common.{rules, ◌≡◌, ◌+◌, ◌*◌, ◌≤◌, ◌∙◌, ℕ, arith, drop, length, subst, sym, take}
 use Rattle.jack_types.specs.declared.files.Format.{Format}
 use Rattle.session_model.specs.WaveFiles.{frame_bytes}
 use Rattle.wave_pcm.specs.Readings.{Gave, Gives}
@@ -74,4 +74,5 @@ reading-preserved g c =
       given = omega (arith, more, c.reading.invariant.given);
       going = search rules;
       same = same_reading-trans c.args.self.now c.reading.self c.read_at.new.self now c.in_ok-got.ensures.same;
+      kept = (rw c.in_ok-got.was at c.read_at.ensures.cause.kept) ∙ c.reading.invariant.kept;
     }

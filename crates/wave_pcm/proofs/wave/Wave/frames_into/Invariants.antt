@@ -11,6 +11,7 @@ invariant-reading g l = record {
   given : l.self.given ≡ l.initial.self.given + l.done * frame_bytes l.initial.self.format;
   going : l.self.failed ≡ false;
   same : SameReading l.initial.self l.self;
+  kept : l.self.faults ≡ l.initial.self.faults;
 }
 
 abbrev pub decreases-reading : goal.decreases-reading
