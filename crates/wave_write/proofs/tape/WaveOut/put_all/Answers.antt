@@ -1,4 +1,4 @@
-use Rattle.std.proofs.Common.{rules, ◌≡◌, ◌+◌, ◌-◌, ◌*◌, ◌≤◌, ℕ, arith, drop, length, length-drop, subst, sym, take}
+use Rattle.std.proofs.Common.{rules, ◌≡◌, ◌+◌, ◌-◌, ◌*◌, ◌≤◌, ◌∙◌, ℕ, arith, drop, length, length-drop, subst, sym, take}
 use Rattle.std.specs.Prelude.{slice_range}
 use Rattle.std.proofs.lemmas.List.{length-take}
 use Rattle.jack_types.specs.declared.files.Format.{Format}
@@ -32,4 +32,5 @@ putting-preserved g c =
           (subst (λ (f : Format). Gained c.putting.self c.put_piece.new.self (bytes_of f.bits (slice_range c.args.samples.now c.putting.at c.min-end.result))) c.putting.invariant.file.format c.in_ok-put_piece.ensures.gained);
       going = search rules;
       file = same_file-trans c.args.self.now c.putting.self c.put_piece.new.self c.putting.invariant.file c.in_ok-put_piece.ensures.file;
+      kept = (rw c.in_ok-put_piece.was at c.put_piece.ensures.cause.kept) ∙ c.putting.invariant.kept;
     }

@@ -9,6 +9,7 @@ invariant-putting g l = record {
   gained : Gained l.initial.self l.self (bytes_of l.initial.self.format.bits (take l.at l.samples));
   going : l.self.stopped ≡ false;
   file : SameFile l.initial.self l.self;
+  kept : l.self.faults ≡ l.initial.self.faults;
 }
 
 abbrev pub decreases-putting : goal.decreases-putting
