@@ -171,7 +171,7 @@ begin 'two programs at once on one output'
 mkfifo pipe
 "$jackd" play s pipe old > "$report.first" &
 first=$!
-exec 3> pipe
+exec 3<> pipe
 head -c 44 c >&3
 for _ in $(seq 50); do
   sleep 0.1
