@@ -1,4 +1,4 @@
-use Rattle.std.proofs.Common.{◌≡◌, ◌<◌, ◌≤◌, ◌∙◌, length, get_or, arith}
+use Rattle.std.proofs.Common.{◌≡◌, ◌<◌, ◌≤◌, ◌∙◌, length, get_or}
 use Rattle.jack_types.specs.declared.replies.Entry.{Entry}
 use Rattle.session_model.specs.Reports.{call_line, printed_call}
 use Rattle.report_lines.proofs.GatherLemmas.{item_gathered, waiting_cut, waiting_put}
@@ -16,7 +16,7 @@ loop-entry-preserved g c =
     let at : c.entry-item.result ≡ get_or c.args.history.now c.loop-entry.entry-index c.entry-item.result = search in
     record {
       gathered = item_gathered (λ (entry : Entry). call_line (printed_call entry)) c.args.history.now c.loop-entry.entry-index c.entry-item.result _ _ _ _ _ _ within at c.line_of.ensures c.loop-entry.invariant.gathered c.in_ok-gather.ensures.ok;
-      later = omega (arith, c.loop-entry.invariant.later, c.gather.ensures.cause.later);
+      kept = (rw c.in_ok-gather.was at c.gather.ensures.cause.kept) ∙ c.loop-entry.invariant.kept;
     }
 
 pub returns-clause-puts : goal.returns-clause-puts

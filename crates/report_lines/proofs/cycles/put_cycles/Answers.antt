@@ -17,7 +17,7 @@ loop-i-preserved g c =
     let within : c.loop-i.i < length (cycles_of c.args.numbers.now c.args.moments.now) = omega (arith, a, b, length-cycles c.args.numbers.now c.args.moments.now) in
     record {
       gathered = item_gathered cycle_line (cycles_of c.args.numbers.now c.args.moments.now) c.loop-i.i _ _ _ _ _ _ _ within (cycles-at c.args.numbers.now c.args.moments.now c.loop-i.i _ _ a b) c.line_of.ensures c.loop-i.invariant.gathered c.in_ok-gather.ensures.ok;
-      later = omega (arith, c.loop-i.invariant.later, c.gather.ensures.cause.later);
+      kept = (rw c.in_ok-gather.was at c.gather.ensures.cause.kept) ∙ c.loop-i.invariant.kept;
     }
 
 pub returns-clause-puts : goal.returns-clause-puts

@@ -1,4 +1,4 @@
-use Rattle.std.proofs.Common.{◌≤◌, take, flat_map}
+use Rattle.std.proofs.Common.{◌≡◌, take, flat_map}
 use Rattle.session_model.specs.Reports.{cycle_line}
 use Rattle.report_lines.specs.Inside.{IsGathered}
 use Rattle.report_lines.specs.Outputs.{cycles_of}
@@ -7,5 +7,5 @@ use Rattle.report_lines.proofs.cycles.put_cycles.Given as goal
 abbrev pub invariant-loop-i : goal.invariant-loop-i
 invariant-loop-i g l = record {
   gathered : IsGathered (g.K.Sink.content l.initial.out) (g.K.Sink.content l.out) l.block.bytes (flat_map cycle_line (take l.i (cycles_of l.numbers l.moments)));
-  later : g.K.Sink.faults l.initial.out ≤ g.K.Sink.faults l.out;
+  kept : g.K.Sink.faults l.out ≡ g.K.Sink.faults l.initial.out;
 }
