@@ -2,11 +2,11 @@
 # Each result that README.md and docs/*.md print is what the program gives. In these documents a fenced block whose first
 # line has two words, as in ```text first.session, is a file of that name; a ```console block is commands behind `$ `, each
 # with what it prints. A document's blocks are run in their order, in a folder of their own, with `jackd` on the path.
-# The program is $PROGRAM, or crates/jackd/out/jackd as `rt run` leaves it; where it or python3 is missing the check is
+# The program is $PROGRAM or $JACKD, or crates/jackd/out/jackd as `rt run` leaves it; where it or python3 is missing the check is
 # passed over, and so is a block that needs a tool that is missing.
 set -u
 cd "$(dirname "$0")/.."
-program=${PROGRAM:-$PWD/crates/jackd/out/jackd}
+program=${PROGRAM:-${JACKD:-$PWD/crates/jackd/out/jackd}}
 if [ ! -x "$program" ]; then
   echo "check-documents: passed over, no program at $program"
   exit 0

@@ -1,10 +1,10 @@
 #!/usr/bin/env bash
 # Each session of examples/ prints its report, byte for byte, and writes the files that examples/expected.py computes from
-# its capture. The program is $PROGRAM, or crates/jackd/out/jackd as `rt run` leaves it; where it or python3 is missing,
+# its capture. The program is $PROGRAM or $JACKD, or crates/jackd/out/jackd as `rt run` leaves it; where it or python3 is missing,
 # the check is passed over. Captures are made with sox, and with Python where sox lacks.
 set -u
 cd "$(dirname "$0")/.."
-program=${PROGRAM:-$PWD/crates/jackd/out/jackd}
+program=${PROGRAM:-${JACKD:-$PWD/crates/jackd/out/jackd}}
 if [ ! -x "$program" ]; then
   echo "check-examples: passed over, no program at $program"
   exit 0

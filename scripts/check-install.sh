@@ -1,10 +1,10 @@
 #!/usr/bin/env bash
 # scripts/install.sh installs a program that plays, under its two names or under one, with a man page that is read and
-# with completion that bash, zsh and fish take. The program is $PROGRAM, or crates/jackd/out/jackd as `rt run` leaves it;
+# with completion that bash, zsh and fish take. The program is $PROGRAM or $JACKD, or crates/jackd/out/jackd as `rt run` leaves it;
 # without it, or where another jackd is on the path already, the check is passed over, and so is a tool that is missing.
 set -u
 cd "$(dirname "$0")/.."
-program=${PROGRAM:-$PWD/crates/jackd/out/jackd}
+program=${PROGRAM:-${JACKD:-$PWD/crates/jackd/out/jackd}}
 if [ ! -x "$program" ]; then
   echo "check-install: passed over, no program at $program"
   exit 0

@@ -1,11 +1,11 @@
 #!/usr/bin/env bash
 # The man page, the completion of each shell and `jackd --help` name the same commands and options, the man page and the
 # help the same exit codes, and the newest release of CHANGELOG.md has the version that `jackd --version` prints. The
-# program is $PROGRAM, or crates/jackd/out/jackd as `rt run` leaves it; where it or python3 is missing the check is
+# program is $PROGRAM or $JACKD, or crates/jackd/out/jackd as `rt run` leaves it; where it or python3 is missing the check is
 # passed over.
 set -u
 cd "$(dirname "$0")/.."
-program=${PROGRAM:-$PWD/crates/jackd/out/jackd}
+program=${PROGRAM:-${JACKD:-$PWD/crates/jackd/out/jackd}}
 if [ ! -x "$program" ]; then
   echo "check-words: passed over, no program at $program"
   exit 0

@@ -2,7 +2,7 @@
 # Installs the program, its man page and its completion below PREFIX, which is ~/.local if it is not said:
 #     scripts/install.sh [PREFIX]
 # The program is installed as `sagbufe-jackd`, and as `jackd` too where no other program on the path has that name, as
-# the server of JACK has. It is $PROGRAM, or crates/jackd/out/jackd as `rt run` leaves it.
+# the server of JACK has. It is $PROGRAM or $JACKD, or crates/jackd/out/jackd as `rt run` leaves it.
 set -eu
 if [ $# -gt 1 ] || [[ ${1:-} == -* ]]; then
   sed -n '2,5s/^# //p' "$0"
@@ -11,7 +11,7 @@ fi
 mkdir -p "${1:-$HOME/.local}"
 prefix=$(cd "${1:-$HOME/.local}" && pwd)
 cd "$(dirname "$0")/.."
-program=${PROGRAM:-$PWD/crates/jackd/out/jackd}
+program=${PROGRAM:-${JACKD:-$PWD/crates/jackd/out/jackd}}
 if [ ! -x "$program" ]; then
   echo "install: no program at $program: (cd crates/jackd && rt run -- --version) proves and builds it" >&2
   exit 1
