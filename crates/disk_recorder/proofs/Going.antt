@@ -1,5 +1,5 @@
 -- Blocks after blocks.
-use Rattle.std.proofs.Common.{◌≡◌, ℕ, ◌+◌, ◌≤◌, true, List, [], ◌∷◌, ◌++◌, length, sym, refl, ◌∙◌, subst, le_trans, le_refl, arith}
+use Rattle.std.proofs.Common.{◌≡◌, ℕ, ◌+◌, ◌≤◌, true, List, [], ◌∷◌, ◌++◌, length, ap, sym, refl, ◌∙◌, subst, le_trans, le_refl, arith}
 use Rattle.std.specs.Prelude.{Bool, ℤ, Option}
 use Rattle.jack_types.specs.declared.files.Format.{Format}
 use Rattle.record_ring.specs.Rings.{Getting, Gets}

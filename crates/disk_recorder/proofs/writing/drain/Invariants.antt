@@ -8,4 +8,5 @@ invariant-loop-count g l = record {
   few : 0 < l.count → length l.consumer.got < 2 ^ 63;
   room : l.block.samples.room ≡ l.consumer.samples;
   spare : l.block.samples.room ≡ l.initial.block.samples.room;
+  kept : l.out.faults ≡ l.initial.out.faults;
 }
