@@ -1,7 +1,7 @@
 #!/usr/bin/env bash
 # Each library that crates.txt names for a crate is cited by a file of that crate, in src/, specs/ or proofs/.
 set -u
-cd "$(dirname "$0")/.."
+cd "$(dirname "$0")/.." || exit 1
 status=0
 
 while IFS=: read -r crate names; do

@@ -2,20 +2,11 @@
 # Each result that README.md and docs/*.md print is what the program gives. In these documents a fenced block whose first
 # line has two words, as in ```text first.session, is a file of that name; a ```console block is commands behind `$ `, each
 # with what it prints. A document's blocks are run in their order, in a folder of their own, with `jackd` on the path.
-# The program is $PROGRAM or $JACKD, or crates/jackd/out/jackd as `rt run` leaves it; where it or python3 is missing the check is
-# passed over, and so is a block that needs a tool that is missing.
+# A block that needs a tool that is missing is passed over.
 set -u
-cd "$(dirname "$0")/.."
-program=${PROGRAM:-${JACKD:-$PWD/crates/jackd/out/jackd}}
-if [ ! -x "$program" ]; then
-  echo "check-documents: passed over, no program at $program"
-  exit 0
-fi
-if ! command -v python3 >/dev/null; then
-  echo "check-documents: passed over, no python3"
-  exit 0
-fi
-python3 - "$program" README.md examples/README.md docs/*.md <<'PY'
+# shellcheck source=scripts/program.sh
+. "$(dirname "$0")/program.sh" python3
+python3 - "$jackd" README.md examples/README.md docs/*.md <<'PY'
 import os, re, shutil, subprocess, sys, tempfile
 
 program, documents = os.path.abspath(sys.argv[1]), sys.argv[2:]

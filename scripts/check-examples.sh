@@ -1,18 +1,9 @@
 #!/usr/bin/env bash
 # Each session of examples/ prints its report, byte for byte, and writes the files that examples/expected.py computes from
-# its capture. The program is $PROGRAM or $JACKD, or crates/jackd/out/jackd as `rt run` leaves it; where it or python3 is missing,
-# the check is passed over. Captures are made with sox, and with Python where sox lacks.
+# its capture. Captures are made with sox, and with Python where sox lacks.
 set -u
-cd "$(dirname "$0")/.."
-program=${PROGRAM:-${JACKD:-$PWD/crates/jackd/out/jackd}}
-if [ ! -x "$program" ]; then
-  echo "check-examples: passed over, no program at $program"
-  exit 0
-fi
-if ! command -v python3 >/dev/null; then
-  echo "check-examples: passed over, no python3"
-  exit 0
-fi
+# shellcheck source=scripts/program.sh
+. "$(dirname "$0")/program.sh" python3
 examples=$PWD/examples
 folder=$(mktemp -d)
 trap 'rm -rf "$folder"' EXIT
@@ -26,7 +17,7 @@ for session in "$examples"/*.session; do
   for ((r = 0; r < recorders; r++)); do
     words+=(--record "$name.record$r.wav")
   done
-  if ! "$program" "${words[@]}" > "$name.report"; then
+  if ! "$jackd" "${words[@]}" > "$name.report"; then
     echo "check-examples: $name: not played: $(tail -n 1 "$name.report")"
     status=1
   elif ! cmp -s "$name.report" "$examples/$name.report"; then

@@ -1,20 +1,9 @@
 #!/usr/bin/env bash
 # What a play must not lose is there behind it, byte for byte: the script, the capture, and the outputs of a play that makes
-# none of them, whatever their names are. Compared are checksums, exit codes and standard output. The program is $JACKD, or
-# crates/jackd/out/jackd as `rt run` leaves it; without python3 or sha256sum the check is passed over.
+# none of them, whatever their names are. Compared are checksums, exit codes and standard output.
 set -u
-cd "$(dirname "$0")/.."
-jackd=${JACKD:-$PWD/crates/jackd/out/jackd}
-if [ ! -x "$jackd" ]; then
-  echo "check-files: passed over, no program at $jackd"
-  exit 0
-fi
-for tool in python3 sha256sum; do
-  if ! command -v "$tool" >/dev/null; then
-    echo "check-files: passed over, no $tool"
-    exit 0
-  fi
-done
+# shellcheck source=scripts/program.sh
+. "$(dirname "$0")/program.sh" python3 sha256sum
 folder=$(mktemp -d)
 trap 'chmod -R u+w "$folder"; rm -rf "$folder"' EXIT
 cp "$jackd" "$folder/jackd"

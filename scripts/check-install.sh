@@ -1,14 +1,10 @@
 #!/usr/bin/env bash
 # scripts/install.sh installs a program that plays, under its two names or under one, with a man page that is read and
-# with completion that bash, zsh and fish take. The program is $PROGRAM or $JACKD, or crates/jackd/out/jackd as `rt run` leaves it;
-# without it, or where another jackd is on the path already, the check is passed over, and so is a tool that is missing.
+# with completion that bash, zsh and fish take. Where another jackd is on the path already the check is passed over, and
+# so is a tool that is missing.
 set -u
-cd "$(dirname "$0")/.."
-program=${PROGRAM:-${JACKD:-$PWD/crates/jackd/out/jackd}}
-if [ ! -x "$program" ]; then
-  echo "check-install: passed over, no program at $program"
-  exit 0
-fi
+# shellcheck source=scripts/program.sh
+. "$(dirname "$0")/program.sh"
 if command -v jackd >/dev/null; then
   echo "check-install: passed over, $(command -v jackd) is on the path"
   exit 0
@@ -24,16 +20,16 @@ over() { echo "check-install: passed over, no $1"; }
 
 # Where no other jackd is on the path both names are installed, and again over the first time.
 for time in first second; do
-  PROGRAM=$program PATH="$folder/free/bin:$PATH" bash scripts/install.sh "$folder/free" > "$folder/said" || fault "the $time time it failed: $(cat "$folder/said")"
+  PROGRAM=$jackd PATH="$folder/free/bin:$PATH" bash scripts/install.sh "$folder/free" > "$folder/said" || fault "the $time time it failed: $(cat "$folder/said")"
   for name in sagbufe-jackd jackd; do
-    [ "$("$folder/free/bin/$name" --version)" = "$("$program" --version)" ] || fault "the $time time $name is not the program"
+    [ "$("$folder/free/bin/$name" --version)" = "$("$jackd" --version)" ] || fault "the $time time $name is not the program"
   done
 done
 # Another jackd keeps its name, and nothing of it is written over.
 mkdir -p "$folder/other"
 printf '#!/bin/sh\necho another\n' > "$folder/other/jackd"
 chmod +x "$folder/other/jackd"
-PROGRAM=$program PATH="$folder/other:$PATH" bash scripts/install.sh "$folder/kept" > "$folder/said" || fault "beside another jackd it failed"
+PROGRAM=$jackd PATH="$folder/other:$PATH" bash scripts/install.sh "$folder/kept" > "$folder/said" || fault "beside another jackd it failed"
 grep -q "$folder/other/jackd keeps the name" "$folder/said" || fault "it does not say that another jackd keeps its name"
 [ -e "$folder/kept/bin/sagbufe-jackd" ] || fault "sagbufe-jackd is not there beside another jackd"
 for name in bin/jackd share/man/man1/jackd.1 share/bash-completion/completions/jackd share/fish/vendor_completions.d/jackd.fish; do

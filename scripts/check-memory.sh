@@ -1,21 +1,10 @@
 #!/usr/bin/env bash
 # Want of memory, at each allocation of a play in turn, is answered by exit code 1, with nothing printed and no file made,
 # or makes no difference, as where a vector's growth then asks for less (two at most); and a longer session makes no more
-# allocations. The program is $JACKD, or crates/jackd/out/jackd as `rt run` leaves it,
-# under an allocator that refuses one call; without gcc or python3 the check is passed over.
+# allocations. The program runs under an allocator that refuses one call.
 set -u
-cd "$(dirname "$0")/.."
-jackd=${JACKD:-$PWD/crates/jackd/out/jackd}
-if [ ! -x "$jackd" ]; then
-  echo "check-memory: passed over, no program at $jackd"
-  exit 0
-fi
-for tool in python3 gcc; do
-  if ! command -v "$tool" >/dev/null; then
-    echo "check-memory: passed over, no $tool"
-    exit 0
-  fi
-done
+# shellcheck source=scripts/program.sh
+. "$(dirname "$0")/program.sh" python3 gcc
 folder=$(mktemp -d)
 trap 'rm -rf "$folder"' EXIT
 

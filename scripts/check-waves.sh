@@ -1,17 +1,9 @@
 #!/usr/bin/env bash
 # Files that jackd writes, at each of the four widths, are read by Python's wave, by sox and by ffprobe with the right
-# numbers. The program is $JACKD, or crates/jackd/out/jackd as `rt run` leaves it; a tool that is missing is passed over.
+# numbers. A tool that is missing is passed over.
 set -u
-cd "$(dirname "$0")/.."
-jackd=${JACKD:-$PWD/crates/jackd/out/jackd}
-if [ ! -x "$jackd" ]; then
-  echo "check-waves: passed over, no program at $jackd"
-  exit 0
-fi
-if ! command -v python3 >/dev/null; then
-  echo "check-waves: passed over, no python3"
-  exit 0
-fi
+# shellcheck source=scripts/program.sh
+. "$(dirname "$0")/program.sh" python3
 folder=$(mktemp -d)
 trap 'rm -rf "$folder"' EXIT
 status=0

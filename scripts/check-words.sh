@@ -1,20 +1,10 @@
 #!/usr/bin/env bash
 # The man page, the completion of each shell and `jackd --help` name the same commands and options, the man page and the
-# help the same exit codes, and the newest release of CHANGELOG.md has the version that `jackd --version` prints. The
-# program is $PROGRAM or $JACKD, or crates/jackd/out/jackd as `rt run` leaves it; where it or python3 is missing the check is
-# passed over.
+# help the same exit codes, and the newest release of CHANGELOG.md has the version that `jackd --version` prints.
 set -u
-cd "$(dirname "$0")/.."
-program=${PROGRAM:-${JACKD:-$PWD/crates/jackd/out/jackd}}
-if [ ! -x "$program" ]; then
-  echo "check-words: passed over, no program at $program"
-  exit 0
-fi
-if ! command -v python3 >/dev/null; then
-  echo "check-words: passed over, no python3"
-  exit 0
-fi
-python3 - "$program" <<'PY'
+# shellcheck source=scripts/program.sh
+. "$(dirname "$0")/program.sh" python3
+python3 - "$jackd" <<'PY'
 import re, subprocess, sys
 
 told = lambda word: subprocess.run([sys.argv[1], word], stdout=subprocess.PIPE, text=True, check=True).stdout
