@@ -6,7 +6,7 @@ ghost use Rattle.guests.specs.Guests.{IsPlayable};
 
 use guests::AnyGuest;
 use jack_host::MemoryHost;
-use jack_types::{Format, Score, Taps};
+use jack_types::{Format, Score};
 use std::alloc::Global;
 use std::test::Fail;
 
@@ -15,13 +15,6 @@ pub const MONO: Format = Format {
     rate: 48000,
     channels: 1,
     bits: 16,
-};
-
-/// 48,000 frames a second of one channel, in 32 bits.
-pub const WIDE: Format = Format {
-    rate: 48000,
-    channels: 1,
-    bits: 32,
 };
 
 // How many bytes a sample has, at most 4.
@@ -116,21 +109,6 @@ fn add_guest(alloc: Global, guests: &mut Vec<AnyGuest>, score: Score) -> Result<
     let guest = AnyGuest::new(alloc, score)?;
     guests.push(guest)?;
     Ok(())
-}
-
-/// The guests that the program hands in.
-pub fn three_guests(alloc: Global) -> Result<Vec<AnyGuest>, Fail> {
-    let mut guests = Vec::new(alloc);
-    let echo = Score::Echo {
-        frames: 4800,
-        gain: 1,
-        shift: 1,
-    };
-    let taps = Taps::read(&[1, 2, 1]).ok_or("no taps")?;
-    add_guest(alloc, &mut guests, echo)?;
-    add_guest(alloc, &mut guests, Score::Fir { taps, shift: 2 })?;
-    add_guest(alloc, &mut guests, Score::Hold)?;
-    Ok(guests)
 }
 
 /// One guest, which fails in its third call.

@@ -18,8 +18,8 @@ pub const FORMAT: Format = Format {
     bits: 16,
 };
 
-/// The header without its version and its optional lines.
-pub const DEVICE: &str = "\
+// The header without its version and its optional lines.
+const DEVICE: &str = "\
 rate 8000
 period 4
 capture 1
@@ -27,22 +27,15 @@ playback 1 16
 mode serial
 ";
 
-/// The header's optional lines, with a ring that is not drained before the end.
-pub const RING: &str = "\
-ring 2
-drain 0
-recorder 1 16
-";
-
-/// The header's optional lines, with a ring that is drained in each cycle.
-pub const DRAINED_RING: &str = "\
+// The header's optional lines, with a ring that is drained in each cycle.
+const DRAINED_RING: &str = "\
 ring 2
 drain 64
 recorder 1 16
 ";
 
-/// The calls, by which the recorder gets the capture.
-pub const CALLS: &str = "\
+// The calls, by which the recorder gets the capture.
+const CALLS: &str = "\
 do open tape record 0
 do register tape:in in audio
 do activate tape

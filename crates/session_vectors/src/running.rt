@@ -88,32 +88,6 @@ pub fn has_out(rt: &impl Abort, played: &Played, text: &str) {
     assert_eq!(rt; str::from_utf8(played.out.as_bytes()), Ok(text));
 }
 
-/// A script is played to a file of these bytes.
-pub fn sounds<R: Threads + Sync + AllocGlobal + Abort>(
-    rt: &R,
-    script: &[&str],
-    capture: &[u8],
-    playback: &[u8],
-) -> Result<(), Fail> {
-    let played = play(rt, &PLAY, script, capture)?;
-    assert_eq!(rt; played.status, Status::Ok);
-    has_file(rt, &played, "p", playback);
-    Ok(())
-}
-
-/// A script is played with this report.
-pub fn reports<R: Threads + Sync + AllocGlobal + Abort>(
-    rt: &R,
-    script: &[&str],
-    capture: &[u8],
-    report: &str,
-) -> Result<(), Fail> {
-    let played = play(rt, &PLAY, script, capture)?;
-    assert_eq!(rt; played.status, Status::Ok);
-    has_out(rt, &played, report);
-    Ok(())
-}
-
 /// A script is refused with this status and line, and no file is made.
 pub fn refuses<R: Threads + Sync + AllocGlobal + Abort>(
     rt: &R,

@@ -1,0 +1,138 @@
+#!/usr/bin/env bash
+# The worked rows on real files: each folder of tests/rows is played by the program in a folder of its own, and exit code,
+# standard output and every byte of every file behind it are compared. No file may be there that the row does not name, and
+# script and capture keep their bytes. The files of a row, of which NAME.py stands for what it prints:
+#
+#   words      the program's words, a line a run; each run ends as the row says
+#   s, s-1 ..  the scripts, each played as `s`
+#   c.wave     the capture, as `c`
+#   status     the exit code
+#   out        standard output
+#   p, r       the files made: NAME.wave as a WAVE file, NAME.hex by its bytes, NAME.size by their number
+#   fronts     in place of status and out: how many of the script's fronts are played, and the lines of the others by exit code
+#
+# A .wave has rate, channels and bits on its first line, and then the samples in the file's units; 0*20 is a sample twenty
+# times.
+set -u
+# shellcheck source=scripts/program.sh
+. "$(dirname "$0")/program.sh" python3
+
+python3 - "$jackd" <<'PY'
+import fnmatch, os, re, subprocess, sys, tempfile
+
+jackd, top = sys.argv[1], 'tests/rows'
+
+
+def wave_of(text):
+    """A WAVE file of 16 to 32 bits, header and samples."""
+    rate, channels, bits, *samples = text.split()
+    rate, channels, bits = int(rate), int(channels), int(bits)
+    frame, data = channels * bits // 8, b''
+    for word in samples:
+        sample, _, count = word.partition('*')
+        data += int(sample).to_bytes(bits // 8, 'little', signed=True) * int(count or 1)
+    shape = [(16, 4), (1, 2), (channels, 2), (rate, 4), (rate * frame, 4), (frame, 2), (bits, 2)]
+    header = b'WAVEfmt ' + b''.join(number.to_bytes(size, 'little') for number, size in shape)
+    header += b'data' + len(data).to_bytes(4, 'little')
+    return b'RIFF' + (len(header) + len(data)).to_bytes(4, 'little') + header + data
+
+
+def read(path):
+    """What a file of a row stands for."""
+    if path.endswith('.py'):
+        return subprocess.run([sys.executable, path], capture_output=True, check=True).stdout
+    with open(path, 'rb') as it:
+        held = it.read()
+    if path.endswith('.wave'):
+        return wave_of(held.decode())
+    if path.endswith('.hex'):
+        return bytes.fromhex(held.decode())
+    return int(held) if path.endswith('.size') else held
+
+
+def play(words, given):
+    """Exit code, standard output, and the files behind a run over the files given."""
+    with tempfile.TemporaryDirectory() as folder:
+        for name, held in given.items():
+            with open(f'{folder}/{name}', 'wb') as it:
+                it.write(held)
+        ran = subprocess.run([jackd, *words.split()], cwd=folder, capture_output=True, timeout=60)
+        files = {}
+        for name in os.listdir(folder):
+            with open(f'{folder}/{name}', 'rb') as it:
+                files[name] = it.read()
+    return ran.returncode, ran.stdout, files
+
+
+def faults_of_files(files, given, made):
+    for name in sorted({*files, *given, *made}):
+        if name not in files:
+            yield f'no file {name}'
+        elif name in given:
+            if files[name] != given[name]:
+                yield f'{name} has other bytes than before'
+        elif name not in made:
+            yield f'a file {name}, of {len(files[name])} bytes'
+        for wanted in made.get(name, ()) if name in files else ():
+            if isinstance(wanted, int) and len(files[name]) != wanted:
+                yield f'{name} has {len(files[name])} bytes, not {wanted}'
+            elif isinstance(wanted, bytes) and files[name] != wanted:
+                yield f'{name} is {files[name].hex()[:400]}, not {wanted.hex()[:400]}'
+
+
+def faults_of_fronts(row, words, given):
+    """The fronts of a script that are played are counted; each other ends with a line that the row tells, and makes no file."""
+    lines = [line.split(' ', 1) for line in row['fronts'].decode().splitlines()]
+    wanted, lines = int(lines[0][0]), lines[1:]
+    script, played = given['s'], 0
+    for kept in range(len(script) + 1):
+        front = {**given, 's': script[:kept]}
+        status, out, files = play(words, front)
+        if status == 0:
+            played += 1
+            continue
+        if not any(str(status) == code and fnmatch.fnmatchcase(out.decode(), f'{line}\n') for code, line in lines):
+            yield f'the first {kept} bytes: exit code {status}, {out[:200]}'
+        yield from (f'the first {kept} bytes: {fault}' for fault in faults_of_files(files, front, {}))
+    if played != wanted:
+        yield f'{played} fronts are played, not {wanted}'
+
+
+def faults_of_run(row, made, words, given):
+    status, out, files = play(words, given)
+    if status != int(row['status']):
+        yield f'exit code {status}, not {int(row["status"])}'
+    if out != row['out']:
+        yield f'standard output is {out[-400:]}, not {row["out"][-400:]}'
+    yield from faults_of_files(files, given, made)
+
+
+def faults_of_row(folder):
+    row, made, scripts, runs = {}, {}, [], 0
+    for name in sorted(os.listdir(folder)):
+        held, stem = read(f'{folder}/{name}'), name.split('.')[0]
+        if re.fullmatch(r's(-\d+)?', stem):
+            scripts.append(held)
+        elif stem in ('words', 'status', 'out', 'c', 'fronts'):
+            row[stem] = held
+        else:
+            made.setdefault(stem, []).append(held)
+    for script in scripts:
+        given = {'s': script, **({'c': row['c']} if 'c' in row else {})}
+        for words in row['words'].decode().splitlines():
+            runs += 1
+            found = faults_of_fronts(row, words, given) if 'fronts' in row else faults_of_run(row, made, words, given)
+            yield from (f'{words}: {fault}' for fault in found)
+    if not runs:
+        yield 'no script or no words'
+
+
+rows, wrong = sorted(os.listdir(top)), 0
+for row in rows:
+    faults = list(faults_of_row(f'{top}/{row}'))
+    wrong += bool(faults)
+    for fault in faults[:5]:
+        print(f'check-rows: {row}: {fault}')
+print(f'check-rows: {len(rows) - wrong} rows hold' + f', {wrong} do not' * bool(wrong))
+sys.exit(bool(wrong))
+PY

@@ -1,0 +1,8 @@
+print("""jackd 1
+rate 48000
+period 4
+capture 1
+playback 1 16
+mode serial""")
+for _ in range(4097):
+    print('do start')
