@@ -4,9 +4,9 @@
 --     first-named      the name of the next is there
 --     IsOwing before now all left      where a count rises for the stores that are left, it does for all
 --     owing-none, owing-next, owing-end      the same
-use Rattle.std.proofs.Common.{◌≡◌, ℕ, zero, suc, ◌≤◌, List, [], ◌∷◌, slice_get, Option, Some, Ok, Err, true, true≢false, refl, sym, ap, subst, arith}
+use Rattle.std.proofs.Common.{◌≡◌, ℕ, zero, suc, ◌≤◌, List, [], ◌∷◌, slice_get, Option, Some, Ok, Err, true, false, true≢false, refl, sym, ap, subst, arith}
 use Rattle.std.proofs.lemmas.Option.{none-some, same_Some}
-use Rattle.std.specs.Prelude.{OnErr, Result, is_err}
+use Rattle.std.specs.Prelude.{OnErr, OnOk, Result, is_err}
 use Rattle.jack_host.specs.Causes.{Adds}
 use Rattle.jack_host.specs.Files.{IsNamedThere, Replaces, Stands}
 use Rattle.recorder_files.specs.Recorders.{Stored}
@@ -18,6 +18,14 @@ use Rattle.jack_control.proofs.FileLemmas.{has-kept, out-kept, out-named, stands
 pub err_of : {T E P : Type 0} (r : Result T E) → is_err r ≡ true → OnErr r P → P
 err_of (Ok x) e p = absurd (true≢false (sym e))
 err_of (Err x) e p = p
+
+pub ok_of : {T E P : Type 0} (r : Result T E) → is_err r ≡ false → OnOk r P → P
+ok_of (Ok x) e p = p
+ok_of (Err x) e p = absurd (true≢false e)
+
+pub on_ok-map : {T E P Q : Type 0} (r : Result T E) → (P → Q) → OnOk r P → OnOk r Q
+on_ok-map (Ok x) f p = f p
+on_ok-map (Err x) f p = tt
 
 pub on_err-map : {T E P Q : Type 0} (r : Result T E) → (P → Q) → OnErr r P → OnErr r Q
 on_err-map (Ok x) f p = tt

@@ -3,7 +3,7 @@
 --     text-put      what is put behind the first line
 --     calls-put, cycles-put, meters-put, recorders-put      what is put of the desk's and the driver's lists and of the recorders is what the report says
 --     cause-later, cause-cut      what failed behind earlier calls has its cause behind them
-use Rattle.std.proofs.Common.{◌≡◌, ℕ, List, [], ◌∷◌, ◌++◌, ◌<◌, ◌≤◌, codes, length, map, flat_map, All, subst, sym, ◌∙◌, ap, ap₂, append_assoc, append-nil, Option, refl, arith, true≢false}
+use Rattle.std.proofs.Common.{◌≡◌, ℕ, List, [], ◌∷◌, ◌++◌, ◌<◌, codes, length, map, flat_map, All, subst, sym, ◌∙◌, ap, ap₂, append_assoc, append-nil, Option, refl, true≢false}
 use Rattle.std.specs.Prelude.{Result, Ok, Err, IsErr}
 use Rattle.std.proofs.lemmas.List.{length-map}
 use Rattle.std.proofs.lemmas.List.Concat.{flat_map-append}
@@ -116,13 +116,13 @@ recorders-put works recorders overruns one own_recorders own_overruns =
     ap₂ (λ (rs : List Recording) (os : List Overrun). text_of (flat_map recorder_lines (map (recorder_item rs os) (below (length rs))))) own_recorders own_overruns
     ∙ ap (λ (n : ℕ). text_of (flat_map recorder_lines (map (recorder_in (seen works)) (below n)))) as_many
 
-pub cause-later : {T E : Type 0} (r : Result T E) (a b c : ℕ) → a ≤ b → HasCause b c r → HasCause a c r
-cause-later (Ok v) a b c le cause = record { later = omega (arith, le, cause.later); failed = tt }
-cause-later (Err e) a b c le cause = record { later = omega (arith, le, cause.later); failed = omega (arith, le, cause.failed) }
+-- a call behind others that left the count
+pub cause-later : {T E : Type 0} (r : Result T E) (a b c : ℕ) → b ≡ a → HasCause b c r → HasCause a c r
+cause-later r a b c same cause = subst (λ (n : ℕ). HasCause n c r) same cause
 
 -- what failed is handed on
-pub cause-cut : {T E U F : Type 0} (r : Result T E) (handed : Result U F) (a b c : ℕ) (e : E) → a ≤ b → HasCause b c r → r ≡ Err e → IsErr handed → HasCause a c handed
-cause-cut {T} {E} r (Err f) a b c e le cause was is =
-    let failed : HasCause {T = T} {E = E} b c (Err e) = subst (HasCause b c) was cause in
-    record { later = omega (arith, le, failed.later); failed = omega (arith, le, failed.failed) }
-cause-cut r (Ok v) a b c e le cause was is = absurd (true≢false (sym is))
+pub cause-cut : {T E U F : Type 0} (r : Result T E) (handed : Result U F) (a b c : ℕ) (e : E) → b ≡ a → HasCause b c r → r ≡ Err e → IsErr handed → HasCause a c handed
+cause-cut {T} {E} r (Err f) a b c e same cause was is =
+    let failed : HasCause {T = T} {E = E} a c (Err e) = subst (λ (n : ℕ). HasCause {T = T} {E = E} n c (Err e)) same (subst (HasCause b c) was cause) in
+    record { later = failed.later; failed = failed.failed; kept = tt }
+cause-cut r (Ok v) a b c e same cause was is = absurd (true≢false (sym is))

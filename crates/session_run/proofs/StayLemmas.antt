@@ -26,13 +26,14 @@ use Rattle.session_run.proofs.RingLemmas.{AreEach, BrokenAt}
 use Rattle.session_run.proofs.StoreLemmas.{HeldLater, held_same, later-trans, later_refl, parts-later, parts-rose}
 
 pub reading_same : (reading : Reading) → SameReading reading reading
-reading_same reading = record { format = refl; size = refl; later = omega arith }
+reading_same reading = record { format = refl; size = refl; later = omega arith; kept = λ going. (going, refl) }
 
 pub reading-next : (before between after : Reading) → SameReading before between → SameReading between after → SameReading before after
 reading-next before between after first second = record {
   format = second.format ∙ first.format;
   size = second.size ∙ first.size;
   later = omega (arith, first.later, second.later);
+  kept = λ going. let then = second.kept going in let before_it = first.kept then.0 in (before_it.0, then.1 ∙ before_it.1);
 }
 
 pub ends-many : (parts : Parts) → IsSound (session_of parts) → length parts.gear.rings.rings ≡ length parts.recorders

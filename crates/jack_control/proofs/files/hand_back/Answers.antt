@@ -1,13 +1,13 @@
 use Rattle.std.proofs.Common.{◌∙◌, ap, arith, length, refl, sym}
 use Rattle.session_run.specs.Parts.{stores_in}
-use Rattle.jack_control.proofs.HandedLemmas.{err_of, handing-end, handing-named, handing-next, handing-none, on_err-map, owing-end, owing-next, owing-none}
+use Rattle.jack_control.proofs.HandedLemmas.{err_of, handing-end, handing-named, handing-next, handing-none, ok_of, on_err-map, on_ok-map, owing-end, owing-next, owing-none}
 use Rattle.jack_control.proofs.files.hand_back.Goals as goal
 
 pub handing-init : goal.handing-init
 handing-init g c = record {
   handing = handing-none (g.H.Host.files c.args.host.now) (stores_in c.args.session.now);
   owing = owing-none (g.H.Host.write_faults c.args.host.now) (stores_in c.args.session.now);
-  cause = record { later = omega arith; failed = tt };
+  cause = record { later = omega arith; failed = tt; kept = refl };
   report = refl;
   ended = λ ended. ended;
   capture = refl;
@@ -37,6 +37,7 @@ handing-preserved-then-is_err g c = record {
   cause = record {
     later = let before = c.handing.invariant.cause.later in let later = c.done.ensures.adds.later in omega (arith, before, later);
     failed = let before = c.handing.invariant.cause.later in let rose = err_of c.done.result (sym c.is_err.ensures.value ∙ c.if-is_err.true) c.done.ensures.failed in omega (arith, before, rose);
+    kept = tt;
   };
   report = c.in-Some.ensures.report ∙ c.handing.invariant.report;
   ended = λ ended. c.in-Some.ensures.ended (c.handing.invariant.ended ended);
@@ -54,6 +55,7 @@ handing-preserved g c = record {
   cause = record {
     later = let before = c.handing.invariant.cause.later in let later = c.done.ensures.adds.later in omega (arith, before, later);
     failed = on_err-map c.handing.handed (λ rose. let later = c.done.ensures.adds.later in omega (arith, rose, later)) c.handing.invariant.cause.failed;
+    kept = let stays = ok_of c.done.result (sym c.is_err.ensures.value ∙ c.if-is_err.false) c.done.ensures.kept in on_ok-map c.handing.handed (λ same. stays ∙ same) c.handing.invariant.cause.kept;
   };
   report = c.in-Some.ensures.report ∙ c.handing.invariant.report;
   ended = λ ended. c.in-Some.ensures.ended (c.handing.invariant.ended ended);

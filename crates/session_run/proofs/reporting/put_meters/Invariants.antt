@@ -1,4 +1,4 @@
-use Rattle.std.proofs.Common.{◌≤◌, take, flat_map}
+use Rattle.std.proofs.Common.{◌≡◌, take, flat_map}
 use Rattle.jack_host.specs.Bytes.{Gains}
 use Rattle.cycle_laws.specs.Gears.{driver_of}
 use Rattle.session_run.proofs.MeterLemmas.{meter_text}
@@ -7,5 +7,5 @@ use Rattle.session_run.proofs.reporting.put_meters.Given as goal
 abbrev pub invariant-loop-entry : goal.invariant-loop-entry
 invariant-loop-entry g l = record {
   gained : Gains (g.K.Sink.content l.initial.out) (g.K.Sink.content l.out) (flat_map (meter_text (driver_of l.driver)) (take l.entry-index l.history));
-  later : g.K.Sink.faults l.initial.out ≤ g.K.Sink.faults l.out;
+  kept : g.K.Sink.faults l.out ≡ g.K.Sink.faults l.initial.out;
 }

@@ -1,4 +1,4 @@
-use Rattle.std.proofs.Common.{◌≡◌, ℕ, ◌<◌, ◌≤◌, List, length, get_or, sym, subst, arith}
+use Rattle.std.proofs.Common.{◌≡◌, ℕ, ◌<◌, ◌≤◌, ◌∙◌, List, length, get_or, sym, subst, arith}
 use Rattle.jack_host.specs.Bytes.{Gains, Puts}
 use Rattle.session_model.specs.Samples.{below}
 use Rattle.session_laws.proofs.SequentialLemmas.{get_or-below, length-below}
@@ -28,7 +28,7 @@ loop-recorder-preserved g c =
       gained = item_put (recorder_text c.args.recorders.now c.args.overruns.now) (below n) c.loop-recorder.recorder c.loop-recorder.recorder _ _ _ within
           (sym (get_or-below n c.loop-recorder.recorder c.loop-recorder.recorder there)) c.loop-recorder.invariant.gained
           (subst (λ (t : List ℕ). Gains (g.K.Sink.content c.loop-recorder.out) (g.K.Sink.content c.put_recorder.new.out) t) same c.in_ok-put_recorder.ensures.puts);
-      later = omega (arith, c.loop-recorder.invariant.later, c.put_recorder.ensures.cause.later);
+      kept = (rw c.in_ok-put_recorder.was at c.put_recorder.ensures.cause.kept) ∙ c.loop-recorder.invariant.kept;
     }
 
 pub returns-clause-puts : goal.returns-clause-puts

@@ -1,4 +1,4 @@
-use Rattle.std.proofs.Common.{◌≤◌, length, take, flat_map}
+use Rattle.std.proofs.Common.{◌≡◌, length, take, flat_map}
 use Rattle.jack_host.specs.Bytes.{Gains}
 use Rattle.session_model.specs.Samples.{below}
 use Rattle.session_run.proofs.MeterLemmas.{recorder_text}
@@ -7,5 +7,5 @@ use Rattle.session_run.proofs.reporting.put_recorders.Given as goal
 abbrev pub invariant-loop-recorder : goal.invariant-loop-recorder
 invariant-loop-recorder g l = record {
   gained : Gains (g.K.Sink.content l.initial.out) (g.K.Sink.content l.out) (flat_map (recorder_text l.recorders l.overruns) (take l.recorder (below (length l.recorders))));
-  later : g.K.Sink.faults l.initial.out ≤ g.K.Sink.faults l.out;
+  kept : g.K.Sink.faults l.out ≡ g.K.Sink.faults l.initial.out;
 }

@@ -1,4 +1,4 @@
-use Rattle.std.proofs.Common.{refl, arith}
+use Rattle.std.proofs.Common.{◌∙◌, refl}
 use Rattle.session_model.specs.Reports.{Report}
 use Rattle.report_lines.proofs.PutLemmas.{first_cut, first_last}
 use Rattle.run_laws.specs.Told.{report_in}
@@ -41,7 +41,7 @@ returns-in_err-put_recorders-clause-puts g c =
 
 pub returns-in_err-put_recorders-clause-cause : goal.returns-in_err-put_recorders-clause-cause
 returns-in_err-put_recorders-clause-cause g c =
-    cause-cut c.put_recorders.result c.from_residual-in_err-put_recorders.result _ _ _ _ (omega (arith, c.put_title.ensures.cause.later, c.put_calls.ensures.cause.later, c.put_cycles.ensures.cause.later, c.put_meters.ensures.cause.later)) c.put_recorders.ensures.cause c.in_err-put_recorders.was c.from_residual-in_err-put_recorders.ensures.0
+    cause-cut c.put_recorders.result c.from_residual-in_err-put_recorders.result _ _ _ _ ((rw c.in_ok-put_meters.was at c.put_meters.ensures.cause.kept) ∙ (rw c.in_ok-put_cycles.was at c.put_cycles.ensures.cause.kept) ∙ (rw c.in_ok-put_calls.was at c.put_calls.ensures.cause.kept) ∙ (rw c.in_ok-put_title.was at c.put_title.ensures.cause.kept)) c.put_recorders.ensures.cause c.in_err-put_recorders.was c.from_residual-in_err-put_recorders.ensures.0
 
 pub returns-clause-puts : goal.returns-clause-puts
 returns-clause-puts g c =
@@ -55,4 +55,4 @@ returns-clause-puts g c =
 
 pub returns-clause-cause : goal.returns-clause-cause
 returns-clause-cause g c =
-    cause-later c.put_end.result _ _ _ (omega (arith, c.put_title.ensures.cause.later, c.put_calls.ensures.cause.later, c.put_cycles.ensures.cause.later, c.put_meters.ensures.cause.later, c.put_recorders.ensures.cause.later)) c.put_end.ensures.cause
+    cause-later c.put_end.result _ _ _ ((rw c.in_ok-put_recorders.was at c.put_recorders.ensures.cause.kept) ∙ (rw c.in_ok-put_meters.was at c.put_meters.ensures.cause.kept) ∙ (rw c.in_ok-put_cycles.was at c.put_cycles.ensures.cause.kept) ∙ (rw c.in_ok-put_calls.was at c.put_calls.ensures.cause.kept) ∙ (rw c.in_ok-put_title.was at c.put_title.ensures.cause.kept)) c.put_end.ensures.cause
