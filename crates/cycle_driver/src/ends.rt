@@ -117,9 +117,10 @@ impl<S: Source, W: Store, G: Guest> Driver<S, W, G> {
         self.playback.take()
     }
 
-    /// The capture, as far as it was read.
+    /// The capture, as far as it was read. Where no cycle failed, none of its reads did.
     pub fn into_capture(self) -> Wave<S>
-        ensures { result ≡ self.capture.reading }
+        ensures reading { result ≡ self.capture.reading }
+        ensures sound { self.failed ≡ false → result.failed ≡ false }
     {
         let works = self.works;
         works.capture.into_wave()

@@ -35,6 +35,8 @@ pub(crate) fn open_capture<H: Host>(
         Rose (H.read_faults host.old) (H.read_faults host.new) ⊎ ¬ IsThere (H.files host.old) name.now }
 
     ensures later { H.read_faults host.old ≤ H.read_faults host.new }
+    ensures kept { OnOk result (H.read_faults host.new ≡ H.read_faults host.old) }
+    ensures fresh { IfOk result (λ wave. wave.faults ≡ 0) }
     ensures writes { H.write_faults host.new ≡ H.write_faults host.old }
     ensures files { SameFiles (H.files host.old) (H.files host.new) }
     ensures out { OnOk result (H.lent host.new ≡ H.lent host.old + 1) }

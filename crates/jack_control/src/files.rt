@@ -31,6 +31,7 @@ fn make_file<H: Host, G: Guest>(
         ⊎ ((one : MakesOne (H.files host.old) (H.files host.new) name.now session.old session.new) × (1 ≤ one.back.faults) × IfSome one.back.bytes (IsCut (format_next session.old)))) }
     ensures same { KeepsRest session.old session.new }
     ensures later { H.write_faults host.old ≤ H.write_faults host.new }
+    ensures kept { OnOk result (H.write_faults host.new ≡ H.write_faults host.old) }
     ensures reads { H.read_faults host.new ≡ H.read_faults host.old }
     ensures lent { H.lent host.new + length (stores_in session.old) ≡ H.lent host.old + length (stores_in session.new) }
 {
@@ -58,6 +59,7 @@ pub(crate) fn make_files<H: Host, G: Guest>(
     ensures cause { OnErr result (Rose (H.write_faults host.old) (H.write_faults host.new) ⊎ OneFailed (stores_in session.new)) }
     ensures same { KeepsRest session.old session.new }
     ensures later { H.write_faults host.old ≤ H.write_faults host.new }
+    ensures kept { OnOk result (H.write_faults host.new ≡ H.write_faults host.old) }
     ensures reads { H.read_faults host.new ≡ H.read_faults host.old }
     ensures lent { H.lent host.new ≡ H.lent host.old + length (stores_in session.new) }
 {

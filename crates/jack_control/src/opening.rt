@@ -31,6 +31,8 @@ pub(crate) fn open_session<H: Host, G: Guest>(
         Rose (H.read_faults host.old) (H.read_faults host.new) ⊎ LacksInput (H.files host.old) (map G.score guests.items) names.now }
 
     ensures later { H.read_faults host.old ≤ H.read_faults host.new }
+    ensures kept { OnOk result (H.read_faults host.new ≡ H.read_faults host.old) }
+    ensures fresh { IfOk result (λ session. session.gear.capture.reading.faults ≡ 0) }
     ensures writes { H.write_faults host.new ≡ H.write_faults host.old }
     ensures files { SameFiles (H.files host.old) (H.files host.new) }
     ensures out { OnOk result (H.lent host.new ≡ H.lent host.old + 1) }

@@ -8,6 +8,7 @@ ghost use Rattle.jack_host.specs.Files.{SameFiles};
 ghost use Rattle.session_model.specs.Explanations.{Given};
 ghost use Rattle.session_model.specs.Soundness.{Apart};
 ghost use Rattle.run_laws.specs.Sessions.{IsGiven};
+ghost use Rattle.wave_pcm.specs.Readings.{SameReading};
 ghost use Rattle.jack_control.specs.Files.{AreOut, OneFailed};
 ghost use Rattle.jack_control.specs.Inputs.{Files as AllFiles};
 ghost use Rattle.jack_control.specs.Openings.{IsSessionOf};
@@ -59,6 +60,8 @@ fn perform<H: Host, G: Guest + Send, T: Threads + Sync, A: Gate>(
     ensures write { IsErrOf result Status.WriteFault → Rose (H.write_faults host.old) (H.write_faults host.new) ⊎ OneFailed (stores_in session.new) }
     ensures others { TouchesOnly (H.files host.old) (H.files host.new) (made_by names.now) }
     ensures later { H.write_faults host.old ≤ H.write_faults host.new }
+    ensures kept { OnOk result (H.write_faults host.new ≡ H.write_faults host.old) }
+    ensures capture { OnOk result (SameReading session.old.gear.capture.reading session.new.gear.capture.reading) }
     ensures reads { H.read_faults host.new ≡ H.read_faults host.old }
     ensures lent { H.lent host.new ≡ H.lent host.old + length (stores_in session.new) }
 {
@@ -87,6 +90,7 @@ fn report<K: Sink, S: Source, W: Store, G: Guest>(
     ensures cause { OnErr result ((handed ≡ false) ⊎ Rose (K.faults out.old) (K.faults out.new)) }
     ensures status { IfErr result (λ status. status ≡ Status.WriteFault) }
     ensures later { K.faults out.old ≤ K.faults out.new }
+    ensures kept { OnOk result (K.faults out.new ≡ K.faults out.old) }
 {
     if !handed {
         return Err(Status::WriteFault);
@@ -112,6 +116,7 @@ fn conclude<K: Sink, S: Source, W: Store, G: Guest>(
     ensures write { IsErrOf result Status.WriteFault → IsErrOf performed Status.WriteFault ⊎ (handed ≡ false) ⊎ Rose (K.faults out.old) (K.faults out.new) }
     ensures cut { OnErr result (IsOutCut (K.content out.old) (K.content out.new) (K.faults out.old) (K.faults out.new)) }
     ensures later { K.faults out.old ≤ K.faults out.new }
+    ensures kept { OnOk result (K.faults out.new ≡ K.faults out.old) }
 {
     match performed {
         Err(status) => Err(status),
@@ -141,6 +146,9 @@ pub(crate) fn play_session<H: Host, K: Sink, G: Guest + Send, T: Threads + Sync,
     ensures out_cut { IsErrOf result Status.WriteFault → IsOutCut (K.content out.old) (K.content out.new) (K.faults out.old) (K.faults out.new) }
     ensures others { TouchesOnly (H.files host.old) (H.files host.new) (made_by names.now) }
     ensures later { (H.read_faults host.old ≤ H.read_faults host.new) × (H.write_faults host.old ≤ H.write_faults host.new) × (K.faults out.old ≤ K.faults out.new) }
+    ensures reads { OnOk result (session.gear.capture.reading.faults ≡ 0 → H.read_faults host.new ≡ H.read_faults host.old) }
+    ensures writes { OnOk result (H.write_faults host.new ≡ H.write_faults host.old) }
+    ensures puts { OnOk result (K.faults out.new ≡ K.faults out.old) }
     ensures lent { H.lent host.new + 1 ≡ H.lent host.old }
 {
     let performed = perform(threads, gate, names, host, &mut session);

@@ -1,6 +1,6 @@
 //! Reading a whole file, or its first bytes.
 
-ghost use Rattle.std.specs.Prelude.{◌≡◌, ◌^◌, ◌<◌, ◌≤◌, ◌⊎◌, IfOk, IfSome, IsErrOf, take, vec_len};
+ghost use Rattle.std.specs.Prelude.{◌≡◌, ◌^◌, ◌<◌, ◌≤◌, ◌⊎◌, IfOk, IfSome, IsErrOf, OnOk, take, vec_len};
 ghost use Rattle.jack_host.specs.Causes.{Rose};
 ghost use Rattle.jack_host.specs.Files.{IsThere, SameFiles};
 ghost use Rattle.jack_control.specs.Inputs.{IfBytes};
@@ -40,6 +40,7 @@ fn read_all<S: Source>(alloc: Global, source: &mut S, limit: usize) -> Result<Ve
     requires { limit < 2 ^ 62 }
     ensures bytes { IfOk result (λ v. IfSome (S.left source.old) (λ xs. v.items ≡ take limit xs)) }
     ensures later { S.faults source.old ≤ S.faults source.new }
+    ensures kept { OnOk result (S.faults source.new ≡ S.faults source.old) }
     ensures read { IsErrOf result LoadFault.Read → Rose (S.faults source.old) (S.faults source.new) }
 {
     let mut bytes = Vec::new(alloc);
@@ -70,6 +71,7 @@ pub fn load<H: Host>(
         Rose (H.read_faults host.old) (H.read_faults host.new) ⊎ ¬ IsThere (H.files host.old) name.now }
 
     ensures later { H.read_faults host.old ≤ H.read_faults host.new }
+    ensures kept { OnOk result (H.read_faults host.new ≡ H.read_faults host.old) }
     ensures writes { H.write_faults host.new ≡ H.write_faults host.old }
     ensures files { SameFiles (H.files host.old) (H.files host.new) }
     ensures lent { H.lent host.new ≡ H.lent host.old }

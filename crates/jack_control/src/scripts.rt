@@ -1,6 +1,6 @@
 //! The script of a play.
 
-ghost use Rattle.std.specs.Prelude.{◌≡◌, ◌<◌, ◌≤◌, ◌⊎◌, IfErr, IfOk, IsErrOf, IsTrue, length, ◌↔◌};
+ghost use Rattle.std.specs.Prelude.{◌≡◌, ◌<◌, ◌≤◌, ◌⊎◌, IfErr, IfOk, IsErrOf, IsTrue, OnOk, length, ◌↔◌};
 ghost use Rattle.jack_host.specs.Causes.{Rose};
 ghost use Rattle.jack_host.specs.Files.{IsThere, SameFiles};
 ghost use Rattle.jack_types.specs.declared.scripts.ScriptFault.{ScriptFault as FaultValue};
@@ -108,6 +108,7 @@ pub(crate) fn read_script<H: Host>(
         Rose (H.read_faults host.old) (H.read_faults host.new) ⊎ ¬ IsThere (H.files host.old) name.now }
 
     ensures later { H.read_faults host.old ≤ H.read_faults host.new }
+    ensures kept { OnOk result (H.read_faults host.new ≡ H.read_faults host.old) }
     ensures writes { H.write_faults host.new ≡ H.write_faults host.old }
     ensures files { SameFiles (H.files host.old) (H.files host.new) }
     ensures lent { H.lent host.new ≡ H.lent host.old }

@@ -47,6 +47,9 @@ fn play<T: Threads + Sync, H: Host, K: Sink, G: Guest + Send, A: Gate>(
     ensures silent { IfErr result (λ status. status ≢ Status.WriteFault → out.new ≡ out.old) }
     ensures others { TouchesOnly (H.files host.old) (H.files host.new) (made_by names.now) }
     ensures later { (H.read_faults host.old ≤ H.read_faults host.new) × (H.write_faults host.old ≤ H.write_faults host.new) × (K.faults out.old ≤ K.faults out.new) }
+    ensures reads { OnOk result (H.read_faults host.new ≡ H.read_faults host.old) }
+    ensures writes { OnOk result (H.write_faults host.new ≡ H.write_faults host.old) }
+    ensures puts { OnOk result (K.faults out.new ≡ K.faults out.old) }
     ensures lent { H.lent host.new ≡ H.lent host.old }
 {
     let session = open_session(alloc, names, host, guests)?;
@@ -98,6 +101,11 @@ pub fn jackd<T: Threads + Sync, H: Host, K: Sink, G: Guest + Send, A: Gate>(
     ensures others { (play : Play) → IsPlay (map string_bytes words.now) play → TouchesOnly (H.files host.old) (H.files host.new) (made_by play) }
     ensures lent { H.lent host.new ≡ H.lent host.old }
     ensures later { (H.read_faults host.old ≤ H.read_faults host.new) × (H.write_faults host.old ≤ H.write_faults host.new) × (K.faults out.old ≤ K.faults out.new) }
+
+    // Where all was done, nothing of the host or the sink has failed.
+    ensures reads { result ≡ Status.Ok → H.read_faults host.new ≡ H.read_faults host.old }
+    ensures writes { result ≡ Status.Ok → H.write_faults host.new ≡ H.write_faults host.old }
+    ensures puts { result ≡ Status.Ok → K.faults out.new ≡ K.faults out.old }
 
     // A refusal that the told bytes have is the answer, if no read fails and memory is found.
     ensures exact { (play : Play) → IsPlay (map string_bytes words.now) play → (status : StatusValue) → HasRefusal (H.files host.old) (map G.score guests.items) play status →

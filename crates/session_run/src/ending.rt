@@ -86,9 +86,10 @@ impl<S: Source, W: Store, G: Guest> Session<S, W, G> {
         take_recorded(&mut self.works.recorders)
     }
 
-    /// The capture, as far as it was read.
+    /// The capture, as far as it was read. Where no cycle failed, none of its reads did.
     pub fn into_capture(self) -> Wave<S>
-        ensures { result ≡ self.gear.capture.reading }
+        ensures reading { result ≡ self.gear.capture.reading }
+        ensures sound { self.gear.failed ≡ false → result.failed ≡ false }
     {
         let works = self.works;
         works.driver.into_capture()

@@ -34,7 +34,7 @@ loop-recorder-init g c = record {
       c.in_ok-make_file.ensures.made.0 c.in_ok-make_file.ensures.made.1 c.in_ok-make_file.ensures.made.2 c.in_ok-make_file.ensures.same);
   end = c.records-recorder-end.ensures.value;
   within = omega arith;
-  later = c.in_ok-make_file.ensures.later;
+  kept = c.in_ok-make_file.ensures.kept;
   reads = c.in_ok-make_file.ensures.reads;
   lent = let none = ap length c.requires.attaching.2 in let lent = c.in_ok-make_file.ensures.lent in omega (arith, none, lent);
 }
@@ -80,7 +80,7 @@ returns-in_err-make_file-2-clause-others g c =
 pub returns-in_err-make_file-2-clause-cause : goal.returns-in_err-make_file-2-clause-cause
 returns-in_err-make_file-2-clause-cause g c =
     on_err c.from_residual-in_err-make_file-2.result
-    (left-cause (g.H.Host.files c.args.host.now) (g.H.Host.files c.loop-recorder.host) (g.H.Host.files c.make_file-in-loop-recorder.new.host) (take (suc c.loop-recorder.recorder) (made_by c.args.names.now)) c.record.result.now c.args.session.now c.loop-recorder.session c.make_file-in-loop-recorder.new.session (g.H.Host.write_faults c.loop-recorder.host) (g.H.Host.write_faults c.make_file-in-loop-recorder.new.host) c.loop-recorder.invariant.made (g.H.Host.write_faults c.args.host.now) c.loop-recorder.invariant.later c.in_err-make_file-2.ensures.cut)
+    (left-cause (g.H.Host.files c.args.host.now) (g.H.Host.files c.loop-recorder.host) (g.H.Host.files c.make_file-in-loop-recorder.new.host) (take (suc c.loop-recorder.recorder) (made_by c.args.names.now)) c.record.result.now c.args.session.now c.loop-recorder.session c.make_file-in-loop-recorder.new.session (g.H.Host.write_faults c.loop-recorder.host) (g.H.Host.write_faults c.make_file-in-loop-recorder.new.host) c.loop-recorder.invariant.made (g.H.Host.write_faults c.args.host.now) (let kept = c.loop-recorder.invariant.kept in omega (arith, kept)) c.in_err-make_file-2.ensures.cut)
 
 pub returns-in_err-make_file-2-clause-same : goal.returns-in_err-make_file-2-clause-same
 returns-in_err-make_file-2-clause-same g c =
@@ -98,7 +98,7 @@ loop-recorder-preserved g c = record {
       c.in_ok-make_file-2.ensures.made.0 c.in_ok-make_file-2.ensures.made.1 c.in_ok-make_file-2.ensures.made.2 c.in_ok-make_file-2.ensures.same);
   end = c.loop-recorder.invariant.end;
   within = let test = c.loop-recorder-test.true in omega (arith, test);
-  later = let before = c.loop-recorder.invariant.later in let later = c.in_ok-make_file-2.ensures.later in omega (arith, before, later);
+  kept = c.in_ok-make_file-2.ensures.kept ∙ c.loop-recorder.invariant.kept;
   reads = c.in_ok-make_file-2.ensures.reads ∙ c.loop-recorder.invariant.reads;
   lent = let before = c.loop-recorder.invariant.lent in let lent = c.in_ok-make_file-2.ensures.lent in omega (arith, before, lent);
 }

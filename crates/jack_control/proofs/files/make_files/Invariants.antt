@@ -9,7 +9,7 @@ invariant-loop-recorder g l = record {
   made : HaveMade (g.H.Host.files l.fn.host) (g.H.Host.files l.host) (take (suc l.recorder) (made_by l.names)) l.fn.session l.session;
   end : l.recorder-end ≡ length l.names.records;
   within : l.recorder ≤ l.recorder-end;
-  later : g.H.Host.write_faults l.fn.host ≤ g.H.Host.write_faults l.host;
+  kept : g.H.Host.write_faults l.host ≡ g.H.Host.write_faults l.fn.host;
   reads : g.H.Host.read_faults l.host ≡ g.H.Host.read_faults l.fn.host;
   lent : g.H.Host.lent l.host ≡ g.H.Host.lent l.fn.host + length (stores_in l.session);
 }

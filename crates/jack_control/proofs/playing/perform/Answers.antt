@@ -1,7 +1,10 @@
-use Rattle.std.proofs.Common.{◌∙◌, refl}
+use Rattle.std.proofs.Common.{◌∙◌, ap, refl, subst, sym}
+use Rattle.wave_pcm.specs.Readings.{Reading, SameReading}
+use Rattle.cycle_laws.specs.Gears.{Gear}
 use Rattle.session_run.specs.Parts.{stores_in}
 use Rattle.session_run.proofs.StoreLemmas.{later-trans}
 use Rattle.jack_control.specs.Plays.{made_by}
+use Rattle.jack_control.proofs.HandedLemmas.{ok_of}
 use Rattle.jack_control.proofs.ExplainedLemmas.{fronts-begun}
 use Rattle.jack_control.proofs.PlayingLemmas.{explain-whole, fronts-broken, fronts-whole, given-made, made-all, made-behind, out-behind}
 use Rattle.jack_control.proofs.playing.perform.Goals as goal
@@ -49,3 +52,11 @@ pub returns-clause-made : goal.returns-clause-made
 returns-clause-made g c =
     made-behind (g.H.Host.files c.args.host.now) (g.H.Host.files c.make_files.new.host) (made_by c.args.names.now) c.args.names.now.records c.args.session.now c.make_files.new.session (made-all c.make_files.result (g.H.Host.files c.args.host.now) (g.H.Host.files c.make_files.new.host) (made_by c.args.names.now) c.args.names.now.records c.args.session.now c.make_files.new.session c.if-is_err.ensures.value refl c.make_files.ensures.made c.make_files.ensures.others c.requires.recorders c.make_files.ensures.same.as_many)
     c.end.new.self (later-trans (stores_in c.make_files.new.session) (stores_in c.run.new.self) (stores_in c.end.new.self) c.run.ensures.stores c.end.ensures.stores) (c.end.ensures.recorders ∙ c.run.ensures.recorders)
+
+pub returns-clause-capture : goal.returns-clause-capture
+returns-clause-capture g c =
+    subst (λ (r : Reading). SameReading c.args.session.now.gear.capture.reading r) (sym (ap (λ capture. capture.reading) c.end.ensures.capture))
+    (subst (λ (r : Reading). SameReading r c.run.new.self.gear.capture.reading) (ap (λ (gear : Gear). gear.capture.reading) c.make_files.ensures.same.gear) c.run.ensures.capture)
+
+pub returns-clause-kept : goal.returns-clause-kept
+returns-clause-kept g c = ok_of c.make_files.result (sym c.if-is_err.ensures.value) c.make_files.ensures.kept

@@ -1,4 +1,4 @@
-use Rattle.std.proofs.Common.{List, ℕ, ◌∙◌, sym, ap, subst, take}
+use Rattle.std.proofs.Common.{◌≡◌, List, ℕ, ◌∙◌, arith, sym, ap, subst, take}
 use Rattle.jack_host.specs.Bytes.{Gains}
 use Rattle.wave_pcm.specs.Readings.{Reading}
 use Rattle.run_laws.specs.Told.{text_in}
@@ -40,7 +40,7 @@ pub returns-clause-read : goal.returns-clause-read
 returns-clause-read g c is =
     let fault = c.conclude-reported.ensures.read is in (
       rose-handed c.args.session.gear.capture.reading.faults c.perform-performed.new.session.gear.capture.reading.faults (g.H.Host.read_faults c.hand_back-handed.new.host) (g.H.In.Source.faults c.into_source.result) (g.H.Host.read_faults c.back.new.self) (g.H.Host.read_faults c.args.host.now) (c.perform-performed.ensures.read fault.0)
-          (sym (c.into_source.ensures ∙ ap (λ (r : Reading). r.faults) c.into_capture.ensures ∙ ap (λ capture. capture.reading.faults) c.hand_back-handed.ensures.capture)) c.back.ensures.reads
+          (sym (c.into_source.ensures ∙ ap (λ (r : Reading). r.faults) c.into_capture.ensures.reading ∙ ap (λ capture. capture.reading.faults) c.hand_back-handed.ensures.capture)) c.back.ensures.reads
           (c.hand_back-handed.ensures.reads ∙ c.perform-performed.ensures.reads),
       fault.1,
     )
@@ -54,3 +54,26 @@ pub returns-clause-others : goal.returns-clause-others
 returns-clause-others g c =
     others-kept (g.H.Host.files c.args.host.now) (g.H.Host.files c.perform-performed.new.host) (g.H.Host.files c.hand_back-handed.new.host) (g.H.Host.files c.back.new.self) (made_by c.args.names.now) (stores_in c.perform-performed.new.session)
     (apart-front (made_by c.args.names.now) c.args.names.now.disks c.requires.apart.1.1) c.perform-performed.ensures.made c.hand_back-handed.ensures.stand c.back.ensures.files
+
+-- no read of the session failed, and the host took up a count of nothing
+pub returns-clause-reads : goal.returns-clause-reads
+returns-clause-reads g c =
+    ok-behind c.conclude-reported.result
+    (λ put fresh.
+    let same = ok-known c.perform-performed.result _ put.0 c.perform-performed.ensures.capture in
+    let ended = c.hand_back-handed.ensures.ended (ok-known c.perform-performed.result _ put.0 c.perform-performed.ensures.ended) in
+    let back : c.into_capture.result ≡ c.perform-performed.new.session.gear.capture.reading = c.into_capture.ensures.reading ∙ ap (λ capture. capture.reading) c.hand_back-handed.ensures.capture in
+    let kept = same.kept (sym (ap (λ (r : Reading). r.failed) back) ∙ c.into_capture.ensures.sound ended.sound) in
+    let none : g.H.In.Source.faults c.into_source.result ≡ 0 = c.into_source.ensures ∙ ap (λ (r : Reading). r.faults) back ∙ kept.1 ∙ fresh in
+    let before = c.hand_back-handed.ensures.reads ∙ c.perform-performed.ensures.reads in
+    let later = c.back.ensures.reads.later in
+    let no_more = c.back.ensures.no_more in
+    omega (arith, before, later, no_more, none))
+    c.conclude-reported.ensures.put
+
+pub returns-clause-writes : goal.returns-clause-writes
+returns-clause-writes g c =
+    ok-behind c.conclude-reported.result
+    (λ put.
+    c.back.ensures.writes ∙ ok-known c.hand_back-handed.result _ (sym c.is_ok.ensures.value ∙ put.1) c.hand_back-handed.ensures.cause.kept ∙ ok-known c.perform-performed.result _ put.0 c.perform-performed.ensures.kept)
+    c.conclude-reported.ensures.put
