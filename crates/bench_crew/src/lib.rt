@@ -6,7 +6,5 @@ mod ensembles;
 mod linking;
 mod playing;
 mod sources;
-#[cfg(test)]
-mod tests;
 
 pub use ensembles::Ensemble;

@@ -2,16 +2,17 @@ ghost use Rattle.std.specs.Prelude.{◌≡◌, ◌<◌, IfOk, length, true};
 ghost use Rattle.client_benches.specs.Seen.{has_room_at};
 ghost use Rattle.bench_crew.specs.Ensembles.{bench_of};
 
-use crate::Ensemble;
+use bench_crew::Ensemble;
 use client_benches::{ClientBench, Rooms};
-use client_kinds::{Guest, Shape};
+use client_kinds::Shape;
+use guests::HoldGuest;
 use jack_host::FreeGate;
 use jack_types::{Kind, Link, Memory, Moment, TransportState};
 use std::alloc::Global;
 use std::test::Fail;
 use std::thread::Threads;
 
-type Bench = ClientBench<Box<dyn Guest + Send>>;
+type Bench = ClientBench<HoldGuest>;
 
 const MOMENT: Moment = Moment {
     cycle: 1,
@@ -60,7 +61,7 @@ fn times(alloc: Global, factor: i32) -> Result<Bench, Memory> {
 // Plays a cycle over links from node 0 to the two nodes.
 fn play<T: Threads + Sync>(
     threads: &T,
-    ensemble: &mut Ensemble<Box<dyn Guest + Send>>,
+    ensemble: &mut Ensemble<HoldGuest>,
     benches: &mut [Bench],
     low: u32,
     high: u32,

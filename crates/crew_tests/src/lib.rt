@@ -1,0 +1,5 @@
+//! Tests of crews over clients' benches.
+#![tactic(auto)]
+
+#[cfg(test)]
+mod tests;
