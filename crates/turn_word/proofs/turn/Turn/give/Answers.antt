@@ -1,0 +1,27 @@
+use Rattle.std.proofs.Common.{rules, ◌≡◌, ℕ, List, [], ◌∷◌, true, is_some, refl, sym, ap, ◌∙◌, subst, Some}
+use Rattle.std.specs.Prelude.{Option, IfSome}
+use mathlib.Core.Option.{none}
+use Rattle.atomic_table.specs.Table.{Me, Allows, step, rest}
+use Rattle.turn_word.specs.declared.view.Known.{Known}
+use Rattle.turn_word.specs.Rule.{TurnRule}
+use Rattle.turn_word.specs.Steps.{Gave}
+use Rattle.turn_word.specs.Handles.{out_with}
+use Rattle.turn_word.specs.Turns.{Handle}
+use Rattle.turn_word.proofs.Keeps.{gives}
+use Rattle.turn_word.proofs.Places.{from_some}
+use Rattle.turn_word.proofs.turn.Turn.give.Goals as goal
+
+pub store-requires : goal.store-requires
+store-requires g c =
+    let T : Type 0 = g.row.T.Denot in let v : Known T = c.pass.inside.seat.me.0 in let view = sym c.pass.view_is in let n : ℕ = c.self.inside.table.shared.table_id.slots in
+    let z : ℕ = c.self.inside.table.shared.key.passes in
+    let o = from_some v.opened (subst (λ (h : Handle T). is_some h.opened ≡ true) view c.requires.open) in
+    let holds : v.holds ≡ true = subst (λ (h : Handle T). h.holds ≡ true) view c.requires.held in
+    let out : c.pass.inside.seat.me.1 ≡ out_with true = c.pass.invariant ∙ ap out_with holds in
+    let now : c.exchange.new.seat.me ≡ (v, (0, Some c.args.thing) ∷ []) = c.exchange.ensures.3 ∙ ap (λ (l : List (ℕ × Option T)). (v, (0, Some c.args.thing) ∷ rest l)) out in
+    let later = subst (λ (h : Option T). IfSome h (λ opened. g.T.Kept.goes_on opened c.args.thing)) o.1 (subst (λ (h : Handle T). IfSome h.opened (λ opened. g.T.Kept.goes_on opened c.args.thing)) view c.requires.later) in (
+      search rules,
+      search rules,
+      subst (λ (m : Me (Option T) (Known T)). Allows (TurnRule g.T.Kept.goes_on z) n c.exchange.new.seat.id m 0 (λ _. 1) (λ _. Gave (step n 0 1 0 none) m 1)) (sym now)
+          (gives g.T.Kept.goes_on z n c.exchange.new.seat.id v o.0 c.args.thing 1 o.1 later holds refl),
+    )
