@@ -43,7 +43,7 @@ fn try_step(turn: &Turn<TurnDesk>, pass: &mut Pass<TurnDesk>, lane: u8) -> Optio
 }
 
 /// Makes the calls of a lane as the cycles that they ask for begin, until it has none left in this phase, or the work is
-/// over. It made so many before, and the gate is told of the next.
+/// over. It made so many before, and the gate is told of the next, whose index counts from 1.
 fn run_lane<R: Wait, K: Gate>(
     wait: &R,
     turn: &Turn<TurnDesk>,
@@ -58,7 +58,7 @@ fn run_lane<R: Wait, K: Gate>(
     ensures { pass.new ≡ pass.old }
 {
     let backoff = Backoff::new();
-    let mut next = u32::try_from(made).unwrap_or(u32::MAX);
+    let mut next = u32::try_from(made).unwrap_or(u32::MAX).saturating_add(1);
     for _ in wait.forever() {
         if over.load(Ordering::SeqCst) {
             return;

@@ -4,6 +4,6 @@ use Rattle.desk_turn.proofs.lanes.calls_of.Given as goal
 
 abbrev pub invariant-loop-entry : goal.invariant-loop-entry
 invariant-loop-entry l = record {
-  count_is : l.count ≡ made (take l.entry-index l.entry-slice) l.lane;
+  count_is : l.count ≡ made (take l.entry-index l.history) l.lane;
   few : l.count ≤ l.entry-index;
 }
