@@ -13,7 +13,7 @@ use serial_laws::faults::an_end_that_fails_leaves_fronts;
 use wave_pcm::Wave;
 
 impl<S: Source, W: Store, G: Guest> Session<S, W, G> {
-    ghost use Rattle.std.specs.Prelude.{◌≡◌, ◌∷◌, [], Err, IfNone, IfSome, OnErr, OnOk, length};
+    ghost use Rattle.std.specs.Prelude.{◌≡◌, ◌∷◌, [], Err, IfNone, IfSome, OnErr, OnOk, false, length};
     ghost use Rattle.session_model.specs.Explanations.{Given};
     ghost use Rattle.session_model.specs.Scripts.{phases};
     ghost use Rattle.run_laws.specs.Runs.{AtPhase};
