@@ -1,0 +1,8 @@
+//! The refused calls of a report, noted line by line.
+#![tactic(auto)]
+
+mod notes;
+#[cfg(test)]
+mod tests;
+
+pub use notes::{MOST_NOTED, Notes, Refused};

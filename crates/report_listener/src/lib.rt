@@ -1,0 +1,8 @@
+//! A sink that listens to the report that goes through it, and notes its calls.
+#![tactic(auto)]
+
+mod listening;
+#[cfg(test)]
+mod tests;
+
+pub use listening::ListeningSink;

@@ -1,0 +1,243 @@
+//! Words that are no command.
+
+ghost use Rattle.std.specs.Prelude.{IfOk};
+ghost use Rattle.told_reasons.specs.Reasons.{IsReason};
+
+use crate::forms::{OPTIONS, PROGRAM};
+use crate::nearest::nearest;
+use crate::reason::Reason;
+use std::alloc::{AllocError, Global};
+
+// The words of a play before its options.
+const NAMED: [&str; 3] = ["SCRIPT", "CAPTURE", "PLAYBACK"];
+
+// How many files of recorders, or of disks, are named at most.
+const MOST_FILES: usize = 4;
+
+/// Why the words are no command of the program. They are without the program's name; the first has the number 1.
+pub fn of_words(alloc: Global, words: &[String]) -> Result<Reason, AllocError>
+    ensures { IfOk result IsReason }
+{
+    let mut reason = Reason::new(alloc)?;
+    say_words(alloc, &mut reason, words)?;
+    end_by_help(&mut reason)?;
+    Ok(reason)
+}
+
+/// Why a word, counted from 1, is none: it is no UTF-8.
+pub fn of_foreign_word(alloc: Global, number: u64, word: &[u8]) -> Result<Reason, AllocError>
+    ensures { IfOk result IsReason }
+{
+    let mut reason = Reason::new(alloc)?;
+    reason.say("word ")?;
+    reason.number(number)?;
+    reason.say(" is no UTF-8: ")?;
+    reason.show(word)?;
+    end_by_help(&mut reason)?;
+    Ok(reason)
+}
+
+// The number of a word, by its place behind `play`.
+fn number_of(place: usize) -> u64 {
+    (place as u64).saturating_add(2)
+}
+
+// Ends the line, and tells where the help is.
+fn end_by_help(reason: &mut Reason) -> Result<(), AllocError> {
+    reason.end_line()?;
+    reason.say("try 'jackd --help'")?;
+    reason.end_line()
+}
+
+// Names what may be meant by a word.
+fn say_meant(
+    alloc: Global,
+    reason: &mut Reason,
+    word: &[u8],
+    forms: &[&str],
+) -> Result<(), AllocError> {
+    if let Some(name) = nearest(alloc, word, forms)? {
+        reason.say("; is ")?;
+        reason.quote(name)?;
+        reason.say(" meant?")?;
+    }
+    Ok(())
+}
+
+fn say_words(alloc: Global, reason: &mut Reason, words: &[String]) -> Result<(), AllocError> {
+    let [command, rest @ ..] = words else {
+        return reason.say("no command is given");
+    };
+    if command.as_str() != "play" {
+        let kind = if command.as_str().as_bytes().first() == Some(&b'-') {
+            "no option "
+        } else {
+            "no command "
+        };
+        reason.say(kind)?;
+        reason.quote(command.as_bytes())?;
+        return say_meant(alloc, reason, command.as_bytes(), &PROGRAM);
+    }
+    say_play(alloc, reason, rest)
+}
+
+// Why the words behind `play` are no play.
+fn say_play(alloc: Global, reason: &mut Reason, words: &[String]) -> Result<(), AllocError> {
+    for place in 0..NAMED.len() {
+        if place >= words.len() {
+            reason.say("play needs SCRIPT, CAPTURE and PLAYBACK; ")?;
+            reason.say(NAMED[place])?;
+            return reason.say(" is missing");
+        }
+        if say_name(reason, &words[place], place)? {
+            return Ok(());
+        }
+    }
+    if say_pairs(alloc, reason, words)? {
+        return Ok(());
+    }
+    say_same(reason, words)
+}
+
+// Tells why a word is no name of a file, if it is none.
+fn say_name(reason: &mut Reason, word: &String, place: usize) -> Result<bool, AllocError> {
+    match word.as_bytes() {
+        [] => {
+            reason.say("word ")?;
+            reason.number(number_of(place))?;
+            reason.say(" is empty, and names no file")?;
+            Ok(true)
+        }
+        [b'-', ..] => {
+            if is_option(word) {
+                say_early_option(reason, word, place)?;
+                return Ok(true);
+            }
+            reason.say("word ")?;
+            reason.number(number_of(place))?;
+            reason.say(" begins with \"-\"; a file is named ./")?;
+            reason.show(word.as_bytes())?;
+            Ok(true)
+        }
+        _ => Ok(false),
+    }
+}
+
+// Tells of an option where a name is expected.
+fn say_early_option(reason: &mut Reason, word: &String, place: usize) -> Result<(), AllocError> {
+    reason.quote(word.as_bytes())?;
+    if place < NAMED.len() {
+        return reason.say(" comes behind SCRIPT, CAPTURE and PLAYBACK");
+    }
+    reason.say(" stands where a path is needed")
+}
+
+fn is_option(word: &String) -> bool {
+    word.as_str() == "--record" || word.as_str() == "--disk"
+}
+
+// How many options of each kind were met.
+#[derive(Drop)]
+struct Met {
+    records: usize,
+    disks: usize,
+}
+
+// Tells what is wrong of the options and their paths, if something is.
+fn say_pairs(alloc: Global, reason: &mut Reason, words: &[String]) -> Result<bool, AllocError> {
+    let mut met = Met {
+        records: 0,
+        disks: 0,
+    };
+    for place in NAMED.len()..words.len() {
+        let word = &words[place];
+        let is_wrong = if place % 2 == 0 {
+            say_name(reason, word, place)?
+        } else {
+            let is_last = place + 1 == words.len();
+            say_pair(alloc, reason, word, place, is_last, &mut met)?
+        };
+        if is_wrong {
+            return Ok(true);
+        }
+    }
+    Ok(false)
+}
+
+// Tells what is wrong of an option, if something is.
+fn say_pair(
+    alloc: Global,
+    reason: &mut Reason,
+    option: &String,
+    place: usize,
+    is_last: bool,
+    met: &mut Met,
+) -> Result<bool, AllocError> {
+    if !is_option(option) {
+        say_no_option(alloc, reason, option, place)?;
+        return Ok(true);
+    }
+    if is_last {
+        reason.quote(option.as_bytes())?;
+        reason.say(" needs a path")?;
+        return Ok(true);
+    }
+    if option.as_str() == "--disk" {
+        met.disks = met.disks.saturating_add(1);
+    } else if met.disks > 0 {
+        reason.say("\"--record\" stands before \"--disk\"")?;
+        return Ok(true);
+    } else {
+        met.records = met.records.saturating_add(1);
+    }
+    if met.records > MOST_FILES || met.disks > MOST_FILES {
+        reason.quote(option.as_bytes())?;
+        reason.say(" stands more than 4 times")?;
+        return Ok(true);
+    }
+    Ok(false)
+}
+
+// Tells of a word that is no option of a play.
+fn say_no_option(
+    alloc: Global,
+    reason: &mut Reason,
+    word: &String,
+    place: usize,
+) -> Result<(), AllocError> {
+    if word.as_bytes().first() == Some(&b'-') {
+        reason.say("no option ")?;
+        reason.quote(word.as_bytes())?;
+        return say_meant(alloc, reason, word.as_bytes(), &OPTIONS);
+    }
+    reason.say("word ")?;
+    reason.number(number_of(place))?;
+    reason.say(" is one too many: ")?;
+    reason.quote(word.as_bytes())?;
+    say_meant(alloc, reason, word.as_bytes(), &OPTIONS)
+}
+
+// Tells which two words name one file.
+fn say_same(reason: &mut Reason, words: &[String]) -> Result<(), AllocError> {
+    for second in 0..words.len() {
+        for first in 0..second {
+            if is_named_at(words.len(), first)
+                && is_named_at(words.len(), second)
+                && words[first] == words[second]
+            {
+                reason.say("words ")?;
+                reason.number(number_of(first))?;
+                reason.say(" and ")?;
+                reason.number(number_of(second))?;
+                reason.say(" name one file: ")?;
+                return reason.show(words[first].as_bytes());
+            }
+        }
+    }
+    reason.say("these words are no command")
+}
+
+// Whether the word at a place behind `play` is a name, and no option.
+fn is_named_at(count: usize, place: usize) -> bool {
+    place < count && (place < NAMED.len() || place % 2 == 0)
+}

@@ -1,0 +1,151 @@
+//! Failures of files and of standard output.
+
+ghost use Rattle.std.specs.Prelude.{◌≡◌, ◌+◌, ◌≤◌, IfOk, length};
+ghost use Rattle.session_model.specs.WaveFiles.{u16_at as u16_number, u32_at as u32_number};
+ghost use Rattle.told_reasons.specs.Reasons.{IsReason};
+ghost use Rattle.told_reasons.specs.Standings.{frames_in, is_unfinished};
+
+use crate::reason::Reason;
+use std::alloc::{AllocError, Global};
+use std::io;
+
+// How many bytes stand before the samples.
+const HEADER: usize = 44;
+
+// A size that is not set.
+const UNSET: u32 = 0xffff_ffff;
+
+// The file's name. An empty one stands for a name that is too long to be kept.
+fn say_file(reason: &mut Reason, name: &str) -> Result<(), AllocError> {
+    if name.is_empty() {
+        return reason.say("a name of more than 4096 bytes");
+    }
+    reason.show(name.as_bytes())
+}
+
+// The system's reason, without its number.
+fn say_system(alloc: Global, reason: &mut Reason, error: io::Error) -> Result<(), AllocError> {
+    let text = format!(in alloc; "{error}")?;
+    let bytes = text.as_bytes();
+    match text.as_str().find(" (os error ") {
+        Some(end) if end <= bytes.len() => reason.show(&bytes[..end]),
+        _ => reason.show(bytes),
+    }
+}
+
+// The number in two bytes at a place.
+fn u16_at(bytes: &[u8], at: usize) -> u16
+    requires { at + 2 ≤ length bytes.now }
+    ensures { result ≡ u16_number bytes.now at }
+{
+    u16::from_le_bytes([bytes[at], bytes[at + 1]])
+}
+
+// The number in four bytes at a place.
+fn u32_at(bytes: &[u8], at: usize) -> u32
+    requires { at + 4 ≤ length bytes.now }
+    ensures { result ≡ u32_number bytes.now at }
+{
+    u32::from_le_bytes([bytes[at], bytes[at + 1], bytes[at + 2], bytes[at + 3]])
+}
+
+// Whether these are the first bytes of a WAVE file whose sizes are not set.
+fn is_unfinished(front: &[u8]) -> bool
+    ensures { result ≡ is_unfinished front.now }
+{
+    front.len() >= HEADER
+        && &front[..4] == b"RIFF".as_slice()
+        && u32_at(front, 4) == UNSET
+        && u32_at(front, 40) == UNSET
+        && u16_at(front, 32) != 0
+}
+
+/// How many frames stand in a WAVE file that was not written to its end: it has these first bytes, and so many in all. Where
+/// its sizes are set, or it is no such file, there is no answer.
+pub fn standing_in(front: &[u8], bytes: u64) -> Option<u64>
+    ensures { result ≡ frames_in front.now bytes }
+{
+    if !is_unfinished(front) {
+        return None;
+    }
+    Some(bytes.saturating_sub(44) / u64::from(u16_at(front, 32)))
+}
+
+/// Why a file could not be read.
+pub fn of_input(alloc: Global, name: &str, error: io::Error) -> Result<Reason, AllocError>
+    ensures { IfOk result IsReason }
+{
+    let mut reason = Reason::new(alloc)?;
+    say_file(&mut reason, name)?;
+    reason.say(": ")?;
+    say_system(alloc, &mut reason, error)?;
+    reason.end_line()?;
+    Ok(reason)
+}
+
+/// Why a file could not be written to its end, and how much of it stands.
+pub fn of_writing(
+    alloc: Global,
+    name: &str,
+    error: io::Error,
+    standing: Option<u64>,
+) -> Result<Reason, AllocError>
+    ensures { IfOk result IsReason }
+{
+    let mut reason = Reason::new(alloc)?;
+    say_file(&mut reason, name)?;
+    reason.say(": ")?;
+    say_system(alloc, &mut reason, error)?;
+    if let Some(frames) = standing {
+        reason.say("; ")?;
+        reason.counted(frames, "frame stands", "frames stand")?;
+        reason.say(", sizes unset (sox --ignore-length reads it)")?;
+    }
+    reason.end_line()?;
+    Ok(reason)
+}
+
+/// Why a file could not be made, or opened for writing: then none was written.
+pub fn of_making(alloc: Global, name: &str, error: io::Error) -> Result<Reason, AllocError>
+    ensures { IfOk result IsReason }
+{
+    let mut reason = Reason::new(alloc)?;
+    say_file(&mut reason, name)?;
+    reason.say(": ")?;
+    say_system(alloc, &mut reason, error)?;
+    reason.say("; nothing was written")?;
+    reason.end_line()?;
+    Ok(reason)
+}
+
+/// Why a file is not made in place of one that is open: `what` it is, and the name by which it was opened.
+pub fn of_open_output(
+    alloc: Global,
+    name: &str,
+    what: &str,
+    other: &str,
+) -> Result<Reason, AllocError>
+    ensures { IfOk result IsReason }
+{
+    let mut reason = Reason::new(alloc)?;
+    reason.show(name.as_bytes())?;
+    reason.say(": is the ")?;
+    reason.say(what)?;
+    reason.say(" ")?;
+    reason.show(other.as_bytes())?;
+    reason.say("; nothing was written")?;
+    reason.end_line()?;
+    Ok(reason)
+}
+
+/// Why the report could not be put out, where all files were written.
+pub fn of_report(alloc: Global, error: io::Error) -> Result<Reason, AllocError>
+    ensures { IfOk result IsReason }
+{
+    let mut reason = Reason::new(alloc)?;
+    reason.say("standard output: ")?;
+    say_system(alloc, &mut reason, error)?;
+    reason.say("; the report is cut, the files are whole")?;
+    reason.end_line()?;
+    Ok(reason)
+}

@@ -1,0 +1,26 @@
+//! Reasons, in words: what the program tells of a fault on standard error.
+#![tactic(auto)]
+
+mod command_line;
+mod differing;
+mod failures;
+mod forms;
+mod lines;
+mod nearest;
+mod reason;
+mod refusals;
+mod rereading;
+mod scripts;
+#[cfg(test)]
+mod tests;
+mod walking;
+mod waves;
+
+pub use command_line::{of_foreign_word, of_words};
+pub use differing::{of_channels, of_disks, of_guests, of_rate, of_records};
+pub use failures::{of_input, of_making, of_open_output, of_report, of_writing, standing_in};
+pub use reason::Reason;
+pub use refusals::of_refusals;
+pub use rereading::read_again;
+pub use scripts::of_script;
+pub use waves::of_wave;
