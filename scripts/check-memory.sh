@@ -1,6 +1,6 @@
 #!/usr/bin/env bash
-# Want of memory, at each allocation of a play in turn, is answered by exit code 1, with nothing printed and no file made,
-# or makes no difference, as where a vector's growth then asks for less (two at most); and a longer session makes no more
+# Want of memory, at each allocation of a play in turn, is answered by exit code 1, which is told, with no report and no file
+# made, or makes no difference, as where a vector's growth then asks for less (two at most); and a longer session makes no more
 # allocations. The program runs under an allocator that refuses one call.
 set -u
 # shellcheck source=scripts/program.sh
@@ -99,7 +99,7 @@ def play(cycles, refused):
     words = [jackd, 'play', 'script', 'capture', 'playback', '--record', 'record']
     ran = subprocess.run(words, env=where, capture_output=True)
     files = [open(name, 'rb').read() if os.path.exists(name) else None for name in made]
-    return (ran.returncode, ran.stdout, *files), int(open('count').read())
+    return (ran.returncode, ran.stdout, ran.stderr, *files), int(open('count').read())
 
 whole, count = play(8, 0)
 longer, same = play(800, 0)
@@ -112,8 +112,8 @@ harmless = 0
 for refused in range(1, count + 1):
     got, _ = play(8, refused)
     harmless += got == whole
-    if got != whole and got != (1, b'', None, None):
-        faults.append(f'allocation {refused} of {count} refused: it ended with {got[0]}, {got[1][:80]}, files {[it is not None for it in got[2:]]}')
+    if got != whole and got != (1, b'', b'jackd: out of memory; no file was made\n', None, None):
+        faults.append(f'allocation {refused} of {count} refused: it ended with {got[0]}, {got[1][:80]}, {got[2][:80]}, files {[it is not None for it in got[3:]]}')
 if harmless > 2:
     faults.append('more than two allocations make no difference')
 for fault in faults[:10]:

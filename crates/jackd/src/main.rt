@@ -2,11 +2,13 @@
 #![tactic(auto)]
 
 mod handed;
+mod telling;
 mod usage;
 
 use crate::handed::hand_in;
 use jack_control::{Status, jackd};
 use jack_host::{FileHost, FreeGate, WriterSink};
+use report_listener::ListeningSink;
 use std::alloc::Global;
 use std::env::Env;
 use std::process::ExitCode;
@@ -27,10 +29,21 @@ fn words(rt: &(impl Env + AllocGlobal)) -> io::Result<Vec<String>> {
     Ok(words)
 }
 
-// Whether this is the one word.
-fn is_alone(words: &[String], word: &str) -> bool {
+// Whether these words ask for the help.
+fn ask_help(words: &[String]) -> bool {
     match words {
-        [only] => only.as_str() == word,
+        [only] => { only.as_str() == "--help" || only.as_str() == "-h" || only.as_str() == "help" }
+        [play, help] => {
+            play.as_str() == "play" && (help.as_str() == "--help" || help.as_str() == "-h")
+        }
+        _ => false,
+    }
+}
+
+// Whether these words ask for the version.
+fn ask_version(words: &[String]) -> bool {
+    match words {
+        [only] => only.as_str() == "--version" || only.as_str() == "-V",
         _ => false,
     }
 }
@@ -43,27 +56,31 @@ fn code_of(printed: io::Result<()>) -> ExitCode {
     }
 }
 
+// The exit code for want of memory, which is told.
+fn out_of_memory(rt: &impl Eprint) -> ExitCode {
+    let _ = rt.eprint(telling::NO_MEMORY);
+    ExitCode::from(Status::NoMemory.code())
+}
+
 fn main(rt: HostRuntime) -> ExitCode {
     let words = match words(&rt) {
         Ok(words) => words,
-        Err(error) if error.kind() == io::ErrorKind::OutOfMemory => {
-            return ExitCode::from(Status::NoMemory.code());
-        }
+        Err(error) if error.kind() == io::ErrorKind::OutOfMemory => return out_of_memory(&rt),
         Err(_) => Vec::new(rt.alloc()),
     };
-    if is_alone(&words, "--help") {
+    if ask_help(&words) {
         return code_of(usage::print_help(&rt));
     }
-    if is_alone(&words, "--version") {
+    if ask_version(&words) {
         return code_of(usage::print_version(&rt));
     }
     let Ok(guests) = hand_in(rt.alloc()) else {
-        return ExitCode::from(Status::NoMemory.code());
+        return out_of_memory(&rt);
     };
     let Ok(mut host) = FileHost::new(rt.alloc(), &rt, words.len().min(MOST_FILES)) else {
-        return ExitCode::from(Status::NoMemory.code());
+        return out_of_memory(&rt);
     };
-    let mut out = WriterSink::new(io::writer(&rt));
+    let mut out = ListeningSink::new(WriterSink::new(io::writer(&rt)));
     let status = jackd(
         &rt,
         rt.alloc(),
@@ -73,8 +90,6 @@ fn main(rt: HostRuntime) -> ExitCode {
         guests,
         &FreeGate,
     );
-    if status == Status::Words {
-        let _ = usage::print_usage(&rt);
-    }
+    telling::tell(&rt, &words, &host, &out, status);
     ExitCode::from(status.code())
 }

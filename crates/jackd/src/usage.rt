@@ -13,11 +13,14 @@ const USAGE: &str = "jackd play SCRIPT CAPTURE PLAYBACK [--record PATH]..
 const NAMES: &str =
     "SCRIPT is a session's script, CAPTURE the WAVE file that stands for the sound card's input, and
 PLAYBACK the WAVE file that is made, which stands for its output. Each recorder of the script
-makes one PATH, in their order. The report goes to standard output.
+makes one PATH, in their order. The report goes to standard output. What is wrong, and which calls
+of the script were refused, goes to standard error.
 
 Exit codes: 0 played, 1 no memory, 2 other words, 3 a file could not be read, 4 the capture is no
 WAVE file that is read, 5 the script can't be played, 6 a file could not be written, 7 the script
-and what it is played with differ.";
+and what it is played with differ.
+
+The sources have the formats of scripts and reports in docs/FORMATS.md, and sessions in examples/.";
 
 // How the program is called.
 fn program<'a>(alloc: Global) -> Result<Command<'a>, AllocError> {
@@ -55,10 +58,4 @@ pub fn print_help(rt: &(impl Print + AllocGlobal)) -> io::Result<()> {
 pub fn print_version(rt: &(impl Print + AllocGlobal)) -> io::Result<()> {
     let text = program(rt.alloc())?.render_version()?;
     rt.print(text.as_str())
-}
-
-/// Prints how the program is called on standard error.
-pub fn print_usage(rt: &(impl Eprint + AllocGlobal)) -> io::Result<()> {
-    let text = program(rt.alloc())?.render_long_help()?;
-    rt.eprint(text.as_str())
 }

@@ -1,0 +1,349 @@
+#!/usr/bin/env bash
+# Mistakes that users make, over the real program: each has its exit code, its line on standard output, its reason on
+# standard error, and loses no file.
+set -u
+# shellcheck source=scripts/program.sh
+. "$(dirname "$0")/program.sh" python3
+folder=$(mktemp -d)
+trap 'rm -rf "$folder"' EXIT
+python3 - "$jackd" "$folder" <<'PY'
+import hashlib, os, resource, shutil, signal, struct, subprocess, sys
+
+program, folder = os.path.abspath(sys.argv[1]), sys.argv[2]
+faults, tried = [], 0
+
+
+def chunk(name, data):
+    return name + struct.pack('<I', len(data)) + data + b'\0' * (len(data) % 2)
+
+
+def form(tag=1, channels=1, rate=48000, bits=16, align=None, rest=b''):
+    align = channels * (bits // 8) if align is None else align
+    return struct.pack('<HHIIHH', tag, channels, rate, rate * align, align, bits) + rest
+
+
+def wave(content=None, data=bytes(range(256)) * 2, before=b''):
+    body = b'WAVE' + before + chunk(b'fmt ', form() if content is None else content) + chunk(b'data', data)
+    return b'RIFF' + struct.pack('<I', len(body)) + body
+
+
+HEADER = ['jackd 1', 'rate 48000', 'period 64', 'capture 1', 'playback 1 16', 'mode serial']
+JOINED = 'do connect system:capture_1 system:playback_1'
+
+
+def text(*lines, header=HEADER, end='\n'):
+    return ''.join(line + end for line in [*header, *lines]).encode()
+
+
+def report(calls, cycles, rest=()):
+    lines = ['report 1', *calls, *cycles, *rest, 'end']
+    return ''.join(line + '\n' for line in lines).encode()
+
+
+def stopped(cycles, number):
+    return [f'cycle {k} {number} stopped 0 -' for k in range(1, cycles + 1)]
+
+
+# The header is seven words long with its pad; 64 frames of 2 bytes a cycle.
+PLAY = ['play', 's', 'c', 'p']
+GOOD = text(JOINED, 'run 2')
+PLAYED = report(['call 0 1 ok 1'], stopped(2, 1))
+HELP = "try 'jackd --help'\n"
+
+
+def sums(where):
+    found = {}
+    for at, _, names in os.walk(where):
+        for name in names:
+            path = os.path.join(at, name)
+            if os.path.isfile(path):
+                found[os.path.relpath(path, where)] = hashlib.sha256(open(path, 'rb').read()).hexdigest()
+    return found
+
+
+# One mistake: the words, the exit code, standard output and standard error, and the files that it may make or change.
+def case(name, words, code, out, told, files=None, made=(), prepare=None, stdout=None, before=None):
+    global tried
+    tried += 1
+    where = os.path.join(folder, 'case')
+    shutil.rmtree(where, ignore_errors=True)
+    os.mkdir(where)
+    for path, content in {'s': GOOD, 'c': wave(), **(files or {})}.items():
+        if content is not None:
+            open(os.path.join(where, path), 'wb').write(content)
+    if prepare:
+        prepare(where)
+    kept = sums(where)
+    how = {'stdout': subprocess.PIPE if stdout is None else stdout}
+    ran = subprocess.run([program, *words], cwd=where, stdin=subprocess.DEVNULL, stderr=subprocess.PIPE,
+        preexec_fn=before, timeout=100, **how)
+    told = told if isinstance(told, bytes) else told.encode()
+    if ran.returncode != code:
+        faults.append(f'{name}: exit code {ran.returncode}, not {code}')
+    if stdout is None and ran.stdout != out:
+        faults.append(f'{name}: standard output {ran.stdout[:200]!r}, not {out[:200]!r}')
+    if ran.stderr != told:
+        faults.append(f'{name}: standard error\n  {ran.stderr[:900]!r}, not\n  {told[:900]!r}')
+    now = sums(where)
+    for path in sorted({*kept, *now} - {*made}):
+        if kept.get(path) != now.get(path):
+            faults.append(f'{name}: the file {path[:80]!r} changed')
+    return where
+
+
+def words_case(name, words, told):
+    case(name, words, 2, b'fault 2 words\n', told + '\n' + HELP)
+
+
+# 2: the words are no command.
+words_case('no words', [], 'jackd: no command is given')
+words_case('a misspelt command', ['plya', 's', 'c', 'p'], 'jackd: no command "plya"; is "play" meant?')
+words_case('a command in capitals', ['Play', 's', 'c', 'p'], 'jackd: no command "Play"; is "play" meant?')
+words_case('another command', ['convert', 's'], 'jackd: no command "convert"')
+words_case('a misspelt option', ['--halp'], 'jackd: no option "--halp"; is "--help" meant?')
+words_case('play alone', ['play'], 'jackd: play needs SCRIPT, CAPTURE and PLAYBACK; SCRIPT is missing')
+words_case('a name too few', ['play', 's', 'c'], 'jackd: play needs SCRIPT, CAPTURE and PLAYBACK; PLAYBACK is missing')
+words_case('an option without a path', [*PLAY, '--record'], 'jackd: "--record" needs a path')
+words_case('one file twice', ['play', 's', 'c', 'c'], 'jackd: words 3 and 4 name one file: c')
+words_case('one record twice', [*PLAY, '--record', 'r', '--record', 'r'], 'jackd: words 6 and 8 name one file: r')
+words_case('a misspelt record', [*PLAY, '--recrod', 'r'], 'jackd: no option "--recrod"; is "--record" meant?')
+words_case('a word too many', [*PLAY, 'q'], 'jackd: word 5 is one too many: "q"')
+words_case('five recorders', [*PLAY, *sum((['--record', f'r{k}'] for k in range(5)), [])], 'jackd: "--record" stands more than 4 times')
+words_case('an empty name', ['play', 's', 'c', ''], 'jackd: word 4 is empty, and names no file')
+words_case('a name like an option', ['play', '-s', 'c', 'p'], 'jackd: word 2 begins with "-"; a file is named ./-s')
+words_case('an option first', ['play', '--record', 'r', 's', 'c', 'p'], 'jackd: "--record" comes behind SCRIPT, CAPTURE and PLAYBACK')
+words_case('a record behind a disk', [*PLAY, '--disk', 'd', '--record', 'r'], 'jackd: "--record" stands before "--disk"')
+words_case('a word that is no UTF-8', ['play', 's', b'c\xff', 'p'], 'jackd: word 3 is no UTF-8: c\\xff')
+words_case('a word that steers a terminal', ['pl\x1b[2Jay'], 'jackd: no command "pl\\x1b[2Jay"')
+words_case('a very long word', ['x' * 5000], 'jackd: no command "' + 'x' * 64 + '..."')
+
+
+# 3: a file can't be read.
+def read_case(name, words, told, **more):
+    case(name, words, 3, b'fault 3 read\n', told + '\n', **more)
+
+
+read_case('no capture', ['play', 's', 'noc', 'p'], 'jackd: noc: No such file or directory')
+read_case('no script', ['play', 'nos', 'c', 'p'], 'jackd: nos: No such file or directory')
+read_case('a script that is a directory', ['play', '.', 'c', 'p'], 'jackd: .: Is a directory')
+read_case('a capture that is a directory', ['play', 's', '.', 'p'], 'jackd: .: Is a directory')
+read_case('a path through a file', ['play', 's/x', 'c', 'p'], 'jackd: s/x: Not a directory')
+read_case('a name too long', ['play', 'n' * 300, 'c', 'p'], 'jackd: ' + 'n' * 300 + ': File name too long')
+read_case('a path too long', ['play', 'd/' * 3000, 'c', 'p'], 'jackd: a name of more than 4096 bytes: File name too long')
+read_case('a link to itself', ['play', 's', 'l', 'p'], 'jackd: l: Too many levels of symbolic links',
+    prepare=lambda where: os.symlink('l', f'{where}/l'))
+read_case('a name that steers a terminal', ['play', 's\x1b]0;x\x07', 'c', 'p'], 'jackd: s\\x1b]0;x\\x07: No such file or directory')
+if os.geteuid():
+    read_case('a script that may not be read', PLAY, 'jackd: s: Permission denied', prepare=lambda where: os.chmod(f'{where}/s', 0))
+
+
+# 4: the capture is no WAVE file that is read.
+def wave_case(name, content, line, told, file='c'):
+    case(name, ['play', 's', file, 'p'], 4, f'fault 4 wave {line}\n'.encode(), f'jackd: {file}: {told}\n', files={file: content})
+
+
+GUID = bytes.fromhex('000000001000800000aa00389b71')
+CONVERT = 'sox c -e signed-integer -b 24 new.wav'
+wave_case('float samples', wave(form(tag=3, bits=32)), 'BadFormat Tag 3',
+    'float samples (tag 3) are not read: sox float.wav -e signed-integer -b 24 new.wav', 'float.wav')
+wave_case('a FLAC file', b'fLaC' + bytes(60), 'NotRiff', 'no RIFF WAVE file (begins "fLaC")', 'c.flac')
+wave_case('an RF64 file', b'RF64' + wave()[4:], 'NotRiff', 'no RIFF WAVE file (begins "RF64")')
+wave_case('a text', b'hello, this is no sound', 'NotRiff', 'no RIFF WAVE file (begins "hell")')
+wave_case('bytes', bytes(64), 'NotRiff', 'no RIFF WAVE file (begins "\\x00\\x00\\x00\\x00")')
+wave_case('an empty capture', b'', 'Ends 0', 'the file is empty')
+wave_case('a cut capture', wave()[:20], 'Ends 20', 'the file ends after 20 bytes, within its header')
+wave_case('another form', b'RIFF' + bytes(4) + b'AVI ' + bytes(60), 'NotWave', 'a RIFF file, whose form is not WAVE')
+wave_case('no format', b'RIFF' + bytes(4) + b'WAVE' + chunk(b'data', bytes(8)), 'NoFormat', 'no "fmt " chunk stands before the samples')
+wave_case('no samples', b'RIFF' + bytes(4) + b'WAVE' + chunk(b'fmt ', form()), 'NoData', 'the file ends without a "data" chunk')
+wave_case('ADPCM', wave(form(tag=2)), 'BadFormat Tag 2', f'ADPCM samples (tag 2) are not read: {CONVERT}')
+wave_case('an unknown tag', wave(form(tag=999)), 'BadFormat Tag 999', f'samples (tag 999) are not read: {CONVERT}')
+wave_case('17 channels', wave(form(channels=17)), 'BadFormat Channels 17', '17 channels are not read: 1 to 16 are')
+wave_case('no rate', wave(form(rate=0)), 'BadFormat Rate 0', 'its rate is 0 frames a second')
+wave_case('12 bits', wave(form(bits=12)), 'BadFormat Bits 12', f'12 bits a sample are not read: 8, 16, 24 and 32 are: {CONVERT}')
+wave_case('frames of another size', wave(form(align=3)), 'BadFormat Align 3', 'a frame has 3 bytes, which its channels and bits do not give')
+wave_case('a short format', wave(form()[:14]), 'BadFormat Size 14', 'its "fmt " chunk has 14 bytes, at least 16 are needed')
+wave_case('a short extension', wave(form(tag=0xfffe, rest=bytes(2))), 'BadFormat Extended 18', 'its extended "fmt " chunk has 18 bytes, at least 40 are needed')
+wave_case('an extension of few bytes', wave(form(tag=0xfffe, rest=struct.pack('<H', 10) + bytes(22))), 'BadFormat Extra 10',
+    'its "fmt " chunk is extended by 10 bytes, at least 22 are needed')
+wave_case('floats in an extended format', wave(form(tag=0xfffe, bits=32, rest=struct.pack('<HHI', 22, 32, 0) + b'\3\0' + GUID)),
+    'BadFormat Guid 3', f'float samples (subformat 3) are not read: {CONVERT}')
+wave_case('very many chunks', wave(before=chunk(b'junk', b'') * 4096), 'TooManyChunks', '4096 chunks stand before its samples')
+
+
+# 5: the script can't be played.
+def script_case(name, script, line, cause, told, below=None):
+    shown = '' if below is None else f'    {below}\n'
+    place = 'jackd: s: ' if line == 0 else f'jackd: s:{line}: '
+    case(name, PLAY, 5, f'fault 5 script {line} {cause}\n'.encode(), place + told + '\n' + shown, files={'s': script})
+
+
+def body_case(name, line, cause, told, before=(), version=1, below=None):
+    header = [f'jackd {version}', *HEADER[1:]]
+    script_case(name, text(*before, line, 'run 2', header=header), 7 + len(before), cause, told, line if below is None else below)
+
+
+def header_case(name, place, line, cause, told):
+    header = [*HEADER]
+    header[place - 1] = line
+    script_case(name, text(JOINED, 'run 2', header=header), place, cause, told, line)
+
+
+script_case('an empty script', b'', 1, 'Header', '"jackd" is expected here')
+script_case('a script of comments', b'# nothing\n\n', 3, 'Header', '"jackd" is expected here')
+script_case('a byte order mark', b'\xef\xbb\xbf' + GOOD, 1, 'Header', 'begins with a byte order mark', '\ufeffjackd 1')
+script_case('a script in UTF-16', '\ufeffjackd 1\n'.encode('utf-16-le'), 1, 'Header', '"jackd" is expected here',
+    '\\xff\\xfej\\x00a\\x00c\\x00k\\x00d\\x00 \\x001\\x00')
+header_case('a missing rate', 2, 'period 64', 'Header', '"rate" is expected here')
+header_case('a header in capitals', 1, 'JACKD 1', 'Header', '"jackd" is expected here')
+header_case('another version', 1, 'jackd 4', 'Choice', 'version 4 is none; 1, 2 and 3 are')
+header_case('a version that is not played yet', 1, 'jackd 3', 'Choice', 'version 3 is not played yet; 1 and 2 are')
+header_case('a rate too low', 2, 'rate 44', 'Range', '"44" is outside 8000 to 192000')
+header_case('a rate with a unit', 2, 'rate 48kHz', 'Number', '"48kHz" is no number of 1 to 10 digits')
+header_case('no power of two', 3, 'period 100', 'Choice', '100 is no power of two')
+header_case('no channels', 4, 'capture 0', 'Range', '"0" is outside 1 to 8')
+header_case('12 bits written', 5, 'playback 1 12', 'Choice', '12 bits are not 8, 16, 24 or 32')
+header_case('no bits', 5, 'playback 1', 'Words', 'a word is missing: playback CHANNELS BITS')
+header_case('another mode', 6, 'mode parallel', 'Unknown', 'no mode "parallel"; serial, threads or steal is expected')
+header_case('a misspelt mode', 6, 'mode seriel', 'Unknown', 'no mode "seriel"; is "serial" meant?')
+body_case('a misspelt line', 'rum 3', 'Unknown', 'no line "rum"; is "run" meant?')
+body_case('a misspelt command', 'do conect system:capture_1 system:playback_1', 'Unknown', 'no command "conect"; is "connect" meant?')
+body_case('no do', 'connect system:capture_1 system:playback_1', 'Unknown',
+    'no line "connect"; do, run, freewheel, lane, period, ring, drain, fill, recorder, disk or event is expected')
+body_case('a misspelt kind', 'do open a gian 1 1', 'Unknown', 'no kind "gian"; is "gain" meant?')
+body_case('a misspelt way', 'do register a:x inn audio', 'Unknown', 'no word "inn"; is "in" meant?')
+body_case('no such type', 'do register a:x in video', 'Unknown', 'no word "video"; audio or midi is expected')
+body_case('a command that steers a terminal', 'do op\x1ben a pass', 'Unknown', 'no command "op\\x1ben"; is "open" meant?',
+    below='do op\\x1ben a pass')
+body_case('a kind of version 3', 'do open a midiplay 0', 'Unknown', 'kind "midiplay" is of version 3')
+body_case('a period in version 1', 'period 128', 'Unknown', '"period" stands in the body from version 2 on, without disks')
+body_case('a header line behind the body', 'ring 2', 'Unknown', '"ring" is a line of the header, and not in this place or version',
+    before=[JOINED])
+body_case('a word missing', 'do open a', 'Words', 'a word is missing: open CLIENT KIND')
+body_case('a word left over', 'do start now', 'Words', '"now" is left over: start')
+body_case('a comment behind a line', 'run 2 # twice', 'Words', '"#" is left over: run CYCLES')
+body_case('no cycles', 'run 0', 'Range', '"0" is outside 1 to 1000000')
+body_case('very many cycles', 'run 9999999999', 'Range', '"9999999999" is outside 1 to 1000000')
+body_case('more digits than a number has', 'run 99999999999', 'Number', '"99999999999" is no number of 1 to 10 digits')
+body_case('a number below none', 'do locate -1', 'Number', 'a number of 1 to 10 digits is expected, without a sign')
+body_case('a name of other letters', 'do open Gr\u00f6\u00dfe pass', 'Name', 'a name has 1 to 32 of A-Z a-z 0-9 . _ -')
+body_case('a long name', 'do open ' + 'n' * 33 + ' pass', 'Name', 'a name has 1 to 32 of A-Z a-z 0-9 . _ -')
+script_case('a name that is no UTF-8', text('run 2').replace(b'run', b'do open \xff pass\nrun'), 7, 'Name', 'a name has 1 to 32 of A-Z a-z 0-9 . _ -',
+    'do open \\xff pass')
+body_case('a port without a client', 'do connect capture_1 system:playback_1', 'Name',
+    'a port is CLIENT:PORT, of A-Z a-z 0-9 . _ -, the client 1 to 32 of them, 64 in all')
+body_case('a record without a recorder', 'do open t record 0', 'Range', '"0" is the number of none: the header has no such line')
+body_case('a lane without a segment', 'lane 1 at 0 start', 'Lane', 'no "run" or "freewheel" line is open before this call of a lane')
+body_case('a lane that falls behind', 'lane 1 at 2 stop', 'Lane', 'cycle 2 falls behind 3, the call before of lane 1',
+    before=['run 9', 'lane 1 at 3 start'])
+body_case('a cycle behind the segment', 'lane 1 at 11 start', 'Range', '"11" is outside 0 to 10', before=['run 10'])
+body_case('no at', 'lane 1 in 3 start', 'Unknown', 'no word "in"; at is expected', before=['run 10'])
+body_case('very many opens', 'do open z pass', 'TooMany', 'more than 256 calls of open', before=['do open a mix'] * 256)
+script_case('very many samples', text('period 4096', 'run 122071', header=['jackd 2', *HEADER[1:]]), 8, 'TooLong',
+    'more than 2000000000 bytes of samples would be played', 'run 122071')
+script_case('a very long script', GOOD + b'\n' * 1048576, 0, 'TooLong', 'more than 1048576 bytes are no script')
+script_case('a very long line', text('do open ' + 'n' * 500), 7, 'Name', 'a name has 1 to 32 of A-Z a-z 0-9 . _ -',
+    'do open ' + 'n' * 112 + '...')
+case('a script from a pipe', ['play', '/dev/stdin', 'c', 'p'], 5, b'fault 5 script 1 Header\n', 'jackd: /dev/stdin:1: "jackd" is expected here\n')
+case('lines that end by CR LF', PLAY, 0, PLAYED, '', files={'s': text(JOINED, 'run 2', end='\r\n')}, made=['p'])
+script_case('a fault behind CR LF', text('do strat', 'run 2', end='\r\n'), 7, 'Unknown', 'no command "strat"; is "start" meant?', 'do strat')
+
+
+# 6: a file or standard output can't be written.
+def write_case(name, words, told, **more):
+    case(name, words, 6, b'', told + '\n', **more)
+
+
+write_case('no such folder', ['play', 's', 'c', 'nod/p'], 'jackd: nod/p: No such file or directory; nothing was written')
+write_case('a playback that is a directory', ['play', 's', 'c', '.'], 'jackd: .: Is a directory; nothing was written')
+write_case('the capture by another name', ['play', 's', 'c', './c'], 'jackd: ./c: is the capture c; nothing was written')
+write_case('the script by a link', ['play', 's', 'c', 'l'], 'jackd: l: is the script s; nothing was written',
+    prepare=lambda where: os.symlink('s', f'{where}/l'))
+write_case('the playback by another name', [*PLAY, '--record', './p'], 'jackd: ./p: is the playback p; nothing was written',
+    files={'s': text('do start', 'run 2', header=[*HEADER, 'recorder 1 16']), 'p': b'kept'})
+LONG = {'s': text(JOINED, 'run 2000')}
+
+
+def few_bytes():
+    signal.signal(signal.SIGXFSZ, signal.SIG_IGN)
+    resource.setrlimit(resource.RLIMIT_FSIZE, (65536, 65536))
+
+
+# 65,536 bytes hold a header of 44, and (65536 - 44) / 2 frames.
+write_case('a full disk', PLAY, 'jackd: p: File too large; 32746 frames stand, sizes unset (sox --ignore-length reads it)', files=LONG,
+    made=['p'], before=few_bytes)
+if os.geteuid():
+    write_case('a playback that may not be written', PLAY, 'jackd: p: Permission denied; nothing was written', files={'p': b'kept'},
+        prepare=lambda where: os.chmod(f'{where}/p', 0o444))
+CUT = '; the report is cut, the files are whole\n'
+if os.path.exists('/dev/full'):
+    with open('/dev/full', 'wb') as full:
+        where = case('a full standard output', PLAY, 6, None, 'jackd: standard output: No space left on device' + CUT, made=['p'], stdout=full)
+        if len(open(f'{where}/p', 'rb').read()) != 44 + 2 * 128:
+            faults.append('a full standard output: the playback is not whole')
+        case('a fault line that finds no room', ['play', 's'], 2, None,
+            'jackd: play needs SCRIPT, CAPTURE and PLAYBACK; CAPTURE is missing\n' + HELP, stdout=full)
+case('a closed standard output', PLAY, 6, None, 'jackd: standard output: Bad file descriptor' + CUT, made=['p'], stdout=subprocess.DEVNULL,
+    before=lambda: os.close(1))
+case('a fault line without standard output', ['plya'], 2, None, 'jackd: no command "plya"; is "play" meant?\n' + HELP,
+    stdout=subprocess.DEVNULL, before=lambda: os.close(1))
+
+
+# 7: the script and what it is played with differ.
+def differs_case(name, line, told, files=None, words=PLAY):
+    case(name, words, 7, f'fault 7 differs {line}\n'.encode(), f'jackd: {told}\n', files=files)
+
+
+differs_case('another rate', 'Rate 48000 44100', 'the script has rate 48000, r44.wav has 44100: sox r44.wav -r 48000 new.wav',
+    {'r44.wav': wave(form(rate=44100))}, ['play', 's', 'r44.wav', 'p'])
+differs_case('two channels', 'Channels 1 2', 'the script has capture 1, c has 2 channels: sox c -c 1 new.wav', {'c': wave(form(channels=2))})
+differs_case('one channel', 'Channels 2 1', 'the script has capture 2, c d.wav has 1 channel: sox \'c d.wav\' -c 2 new.wav',
+    {'s': text('run 2', header=[*HEADER[:3], 'capture 2', *HEADER[4:]]), 'c d.wav': wave()}, ['play', 's', 'c d.wav', 'p'])
+differs_case('a guest that is not there', 'Guests 4 3', 's:9: guest 3: only 0, 1 and 2 are handed in',
+    {'s': text('do open a guest 1', '# the last one', 'do open b guest 3', 'run 2')})
+differs_case('a recorder without a file', 'Records 1 0', 'the script has 1 recorder, --record was given 0 times',
+    {'s': text('run 2', header=[*HEADER, 'recorder 1 16'])})
+differs_case('a file without a recorder', 'Records 0 2', 'the script has 0 recorders, --record was given 2 times', None,
+    [*PLAY, '--record', 'r', '--record', 'q'])
+differs_case('a disk file', 'Disks 0 1', 'the script has 0 disk files, --disk was given 1 time', {'d': wave()}, [*PLAY, '--disk', 'd'])
+
+# 0: what was refused is told, and nothing else.
+case('nothing wrong', PLAY, 0, PLAYED, '', made=['p'])
+calls = ['call 0 1 ok 1', 'call 0 2 ok 2', 'call 0 3 refused 15 Inactive', 'call 0 4 refused 1 NoClient', 'call 0 5 refused 3 IsOpen',
+    'call 0 6 refused 10 NoSource', 'call 0 7 refused 4 IsSystem']
+case('refused calls', PLAY, 0, report(calls, stopped(2, 2)),
+    'jackd: s:10: connect system:capture_1 tape:in: refused 15 Inactive (tape is not active)\n'
+    'jackd: s:11: activate tap: refused 1 NoClient (no client tap is open)\n'
+    'jackd: s:12: open tape mix: refused 3 IsOpen (tape is open already)\n'
+    'jackd: s:13: connect tape:no tape:in: refused 10 NoSource (there is no port tape:no)\n'
+    'jackd: s:14: close system: refused 4 IsSystem (system is not a client that a call changes)\n'
+    'jackd: 5 of 7 calls were refused\n',
+    files={'s': text('do open tape gain 1 0', 'do register tape:in in audio', '# the client is not active yet',
+        'do connect system:capture_1 tape:in', 'do activate tap', 'do open tape mix', 'do connect tape:no tape:in', 'do close system', 'run 2')},
+    made=['p'])
+many = [f'do close c{k}' for k in range(1, 31)]
+case('very many refused calls', PLAY, 0, report([f'call 0 {k} refused 1 NoClient' for k in range(1, 31)], stopped(2, 0)),
+    ''.join(f'jackd: s:{k + 6}: close c{k}: refused 1 NoClient (no client c{k} is open)\n' for k in range(1, 21))
+    + 'jackd: 30 of 30 calls were refused\n', files={'s': text(*many, 'run 2')}, made=['p'])
+case('one call', PLAY, 0, report(['call 0 1 refused 1 NoClient'], stopped(2, 0)),
+    'jackd: s:7: close a: refused 1 NoClient (no client a is open)\njackd: 1 of 1 call was refused\n', files={'s': text('do close a', 'run 2')},
+    made=['p'])
+case('a refused call of a lane', PLAY, 0, report(['call 0 1 ok 1', 'call 3 1 latency 0 0', 'call 3 2 refused 18 NotConnected'], stopped(4, 1)),
+    'jackd: s:10: disconnect system:capture_1  system:playback_1: refused 18 NotConnected (they are not connected)\n'
+    'jackd: 1 of 3 calls was refused\n',
+    files={'s': text('do open a pass', 'run 4', 'lane 3 at 1 latency capture system:capture_1',
+        'lane 3\tat 1   disconnect system:capture_1  system:playback_1')}, made=['p'])
+
+# The help and the version.
+where = case('the version', ['--version'], 0, b'jackd 0.1.0\n', '')
+case('the version, short', ['-V'], 0, b'jackd 0.1.0\n', '')
+help_text = subprocess.run([program, '--help'], stdout=subprocess.PIPE).stdout
+if b'jackd play SCRIPT CAPTURE PLAYBACK' not in help_text or b'docs/FORMATS.md' not in help_text:
+    faults.append('the help does not name play and the formats')
+for words in [['-h'], ['help'], ['play', '--help'], ['play', '-h']]:
+    case('the help, as ' + ' '.join(words), words, 0, help_text, '')
+
+for fault in faults[:30]:
+    print('check-reasons:', fault)
+print(f'check-reasons: {tried} mistakes' + (f', {len(faults)} faults' if faults else ', each with its reason, and no file lost'))
+sys.exit(bool(faults))
+PY
