@@ -1,0 +1,7 @@
+pub mod CaptureLemmas
+pub mod DrawnLemmas
+pub mod NameLemmas
+pub mod PlayedLemmas
+pub mod ScriptLemmas
+pub mod SerialLemmas
+pub mod ServedLemmas
