@@ -1,3 +1,4 @@
 pub mod LawfulLemmas
 pub mod PairLemmas
 pub mod PlayLemmas
+pub mod RehearsalLemmas

@@ -1,3 +1,4 @@
 pub mod Lawful
 pub mod Pairs
 pub mod Words
+pub mod Rehearsals

@@ -1,4 +1,4 @@
-use crate::play_names;
+use crate::{play_names, rehearsal_number};
 use std::alloc::{AllocError, Global};
 
 fn words_of(alloc: Global, words: &[&str]) -> Result<Vec<String>, AllocError> {
@@ -162,5 +162,43 @@ fn other_words_are_refused(rt: HostRuntime) -> Result<(), AllocError> {
     assert!(rt; !is_play(alloc, &["play", "s", "c", "p", "--record"])?);
     assert!(rt; !is_play(alloc, &["play", "s", "c", "p", "--record", "r", "--disk"])?);
     assert!(rt; !is_play(alloc, &["play", "s", "c", "p", "--records", "r"])?);
+    Ok(())
+}
+
+// The number of a rehearsal of these words.
+fn number_in(alloc: Global, words: &[&str]) -> Result<Option<u32>, AllocError> {
+    let list = words_of(alloc, words)?;
+    Ok(rehearsal_number(&list))
+}
+
+#[test]
+fn a_rehearsal_has_a_number_of_32_bits(rt: HostRuntime) -> Result<(), AllocError> {
+    let alloc = rt.alloc();
+    assert_eq!(rt; number_in(alloc, &["rehearse", "7"])?, Some(7));
+    assert_eq!(rt; number_in(alloc, &["rehearse", "007"])?, Some(7));
+    assert_eq!(rt; number_in(alloc, &["rehearse", "0"])?, Some(0));
+    assert_eq!(rt; number_in(alloc, &["rehearse", "0000000000"])?, Some(0));
+    assert_eq!(rt;
+        number_in(alloc, &["rehearse", "4294967295"])?,
+        Some(u32::MAX)
+    );
+    Ok(())
+}
+
+#[test]
+fn other_words_are_no_rehearsal(rt: HostRuntime) -> Result<(), AllocError> {
+    let alloc = rt.alloc();
+    assert_eq!(rt; number_in(alloc, &[])?, None);
+    assert_eq!(rt; number_in(alloc, &["rehearse"])?, None);
+    assert_eq!(rt; number_in(alloc, &["rehearse", ""])?, None);
+    assert_eq!(rt; number_in(alloc, &["rehearse", "x"])?, None);
+    assert_eq!(rt; number_in(alloc, &["rehearse", "-1"])?, None);
+    assert_eq!(rt; number_in(alloc, &["rehearse", "+7"])?, None);
+    assert_eq!(rt; number_in(alloc, &["rehearse", " 7"])?, None);
+    assert_eq!(rt; number_in(alloc, &["rehearse", "4294967296"])?, None);
+    assert_eq!(rt; number_in(alloc, &["rehearse", "00000000007"])?, None);
+    assert_eq!(rt; number_in(alloc, &["rehearse", "7", "8"])?, None);
+    assert_eq!(rt; number_in(alloc, &["rehearsal", "7"])?, None);
+    assert_eq!(rt; number_in(alloc, &["play", "7"])?, None);
     Ok(())
 }
