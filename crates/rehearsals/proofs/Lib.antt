@@ -1,0 +1,4 @@
+pub mod DrawLemmas
+pub mod EventLemmas
+pub mod LineLemmas
+pub mod SummaryLemmas
