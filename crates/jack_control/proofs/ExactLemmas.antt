@@ -16,9 +16,8 @@ use Rattle.play_words.specs.Words.{Play}
 use Rattle.jack_control.specs.declared.status.Difference.{Difference}
 use Rattle.jack_control.specs.declared.status.Status.{Status}
 use Rattle.jack_control.specs.declared.status.Status.TheVariants.{Ok, NoMemory, Words, ReadFault, BadWave, BadScript, WriteFault, Differs, Wrong}
-use Rattle.jack_control.specs.Answers.{HasInput, HasRefusal, IfCapture, IfScript, IsFirstDifference, LacksInput, PlayStatus}
+use Rattle.jack_control.specs.Answers.{HasInput, HasRefusal, IfCapture, IfInput, IfScript, IsFirstDifference, LacksInput, PlayStatus}
 use Rattle.jack_control.specs.Inputs.{Files, IfBytes, IsBadScript, IsBadWave, IsCapture, IsDifferent, IsPlayed, IsScriptOf, difference_in, unplayable}
-use Rattle.jack_control.specs.Openings.{IfInput}
 use Rattle.jack_control.specs.Plays.{IsExplained}
 use Rattle.jack_control.proofs.OpeningLemmas.{differs}
 

@@ -8,7 +8,8 @@ use Rattle.play_words.specs.Words.{Play}
 use Rattle.run_laws.specs.Sessions.{IsGiven as TellsGiven}
 use Rattle.session_run.specs.Parts.{Parts, session_of}
 use Rattle.jack_control.specs.Inputs.{Files, IfBytes, IsInput}
-use Rattle.jack_control.specs.Openings.{IfInput, IsSessionOf}
+use Rattle.jack_control.specs.Answers.{IfInput}
+use Rattle.jack_control.specs.Openings.{IsSessionOf}
 use Rattle.jack_control.specs.Plays.{TouchesOnly}
 use Rattle.jack_control.proofs.InputLemmas.{if_bytes_map}
 

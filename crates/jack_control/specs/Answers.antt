@@ -2,6 +2,7 @@
 --     IsEarly status      it comes before any file is made
 --     HasLine status      a line of the fault is put out
 --     PlayStatus files scores play status      what the bytes of the script and the capture have where it is answered
+--     IfInput files scores play      where the files are told, they give what a play is given
 --     HasInput, HasRefusal      where the host tells its files: what a play must answer
 --     LacksInput files play      a name that a step opens is not there
 use Rattle.std.specs.Prelude.{◌≡◌, ◌⊎◌, ℕ, List, length, ⊤, Option, Some, None}
@@ -62,6 +63,11 @@ PlayStatus files scores play (BadScript fault) = IfBytes files play.script (λ b
 PlayStatus files scores play WriteFault = ⊤
 PlayStatus files scores play (Differs difference) = IsFirstDifference files scores play difference
 PlayStatus files scores play (Wrong row) = ⊥
+
+-- the files, the guests and the names fit one another
+abbrev pub IfInput : Option Files → List Score → Play → Type 0
+IfInput files scores play =
+    IfBytes files play.script (λ script_bytes. IfBytes files play.capture (λ capture_bytes. (given : Given) × IsInput script_bytes capture_bytes scores play given))
 
 -- the two files are a script that is played and a capture that fits it, and so do guests and names
 abbrev pub HasInput : Option Files → List Score → Play → Type 0

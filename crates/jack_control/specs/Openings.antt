@@ -1,5 +1,4 @@
 -- A session as a play opens it. No public clause cites this module.
---     IfInput files scores play      where the files are told, they give what a play is given
 --     IsSessionOf files scores play parts      its script, its capture and its guests are what the files and the guests give
 --     OpeningStatus files scores play status      what a status says that ended the opening of a session
 use Rattle.std.specs.Prelude.{◌≡◌, List, [], length, ⊤, Option}
@@ -13,11 +12,6 @@ use Rattle.jack_control.specs.declared.status.Status.{Status}
 use Rattle.jack_control.specs.declared.status.Status.TheVariants.{Ok, NoMemory, Words, ReadFault, BadWave, BadScript, WriteFault, Differs, Wrong}
 use Rattle.jack_control.specs.Answers.{PlayStatus}
 use Rattle.jack_control.specs.Inputs.{Files, IfBytes, IsInput}
-
--- the files, the guests and the names fit one another
-abbrev pub IfInput : Option Files → List Score → Play → Type 0
-IfInput files scores play =
-    IfBytes files play.script (λ script_bytes. IfBytes files play.capture (λ capture_bytes. (given : Given) × IsInput script_bytes capture_bytes scores play given))
 
 -- no store is attached, and there are as many recorders as files that are named for them
 pub record IsSessionOf (files : Option Files) (scores : List Score) (play : Play) (parts : Parts) : Type 0 where

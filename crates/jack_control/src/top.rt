@@ -5,9 +5,8 @@ ghost use Rattle.jack_host.specs.Causes.{Rose};
 ghost use Rattle.jack_host.specs.Files.{SameFiles};
 ghost use Rattle.session_model.specs.Soundness.{Apart};
 ghost use Rattle.play_words.specs.Words.{IsPlay, Play, names_of};
-ghost use Rattle.jack_control.specs.Answers.{HasInput, HasLine, HasRefusal, IsEarly, LacksInput, PlayStatus};
+ghost use Rattle.jack_control.specs.Answers.{HasInput, HasLine, HasRefusal, IfInput, IsEarly, LacksInput, PlayStatus};
 ghost use Rattle.jack_control.specs.FaultLines.{PutsFault};
-ghost use Rattle.jack_control.specs.Openings.{IfInput};
 ghost use Rattle.jack_control.specs.Plays.{IsCut, IsExplained, IsOutCut, TouchesOnly, made_by};
 ghost use Rattle.jack_control.specs.declared.status.Status.{Status as StatusValue};
 
@@ -88,6 +87,9 @@ pub fn jackd<T: Threads + Sync, H: Host, K: Sink, G: Guest + Send, A: Gate>(
         Rose (H.read_faults host.old) (H.read_faults host.new) ⊎ LacksInput (H.files host.old) (map G.score guests.items) play }
     ensures write { result ≡ Status.WriteFault →
         Rose (H.write_faults host.old) (H.write_faults host.new) ⊎ Rose (K.faults out.old) (K.faults out.new) }
+
+    // A file or the report is written only where script, capture, guests and names fit one another.
+    ensures input { result ≡ Status.WriteFault → (play : Play) → IsPlay (map string_bytes words.now) play → IfInput (H.files host.old) (map G.score guests.items) play }
 
     // Behind a fault of reading or writing each file that was made has a front of what was to be written.
     ensures cut { (result ≡ Status.ReadFault) ⊎ (result ≡ Status.WriteFault) → (play : Play) → IsPlay (map string_bytes words.now) play → IsCut (H.files host.old) (H.files host.new) (map G.score guests.items) play }

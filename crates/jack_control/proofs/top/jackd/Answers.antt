@@ -1,7 +1,7 @@
 use Rattle.std.proofs.Common.{◌⊎◌, ap, Err, map, subst, sym}
 use Rattle.jack_host.specs.Causes.{Rose}
 use Rattle.play_words.specs.Words.{Play}
-use Rattle.jack_control.specs.Answers.{HasInput, HasRefusal, LacksInput, PlayStatus}
+use Rattle.jack_control.specs.Answers.{HasInput, HasRefusal, IfInput, LacksInput, PlayStatus}
 use Rattle.jack_control.specs.Plays.{IsCut, IsExplained, TouchesOnly, made_by}
 use Rattle.jack_control.proofs.ExactLemmas.{complete-err, exact-err, exact-ok}
 use Rattle.jack_control.proofs.InputLemmas.{rose-later}
@@ -33,6 +33,11 @@ pub returns-in-Err-clause-read : goal.returns-in-Err-clause-read
 returns-in-Err-clause-read g c = λ e play is.
     subst (λ (p : Play). Rose (g.H.Host.read_faults c.args.host.now) (g.H.Host.read_faults c.play.new.host) ⊎ LacksInput (g.H.Host.files c.args.host.now) (map g.G.Guest.score c.args.guests.items) p)
     (c.words_name_one_play.ensures _ c.in-Some.names play c.in-Some.ensures.lawful is) (c.in-Err.ensures.read (ap Err e))
+
+pub returns-in-Err-clause-input : goal.returns-in-Err-clause-input
+returns-in-Err-clause-input g c = λ e play is.
+    subst (λ (p : Play). IfInput (g.H.Host.files c.args.host.now) (map g.G.Guest.score c.args.guests.items) p)
+    (c.words_name_one_play.ensures _ c.in-Some.names play c.in-Some.ensures.lawful is) (c.in-Err.ensures.input (ap Err e))
 
 pub returns-in-Err-clause-cut : goal.returns-in-Err-clause-cut
 returns-in-Err-clause-cut g c = λ when play is.
