@@ -86,7 +86,7 @@ fn given(benches: &[Bench]) -> [(Option<i32>, Option<i32>); 4] {
 }
 
 fn ends(sample: i32) -> (Option<i32>, Option<i32>) {
-    (Some(sample), Some(-sample))
+    (Some(sample), Some(sample.wrapping_neg()))
 }
 
 // Two cycles: the wave goes to nodes 1 and 2, and then, over another plan, to nodes 2 and 3.
