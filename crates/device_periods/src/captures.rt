@@ -1,8 +1,9 @@
 //! The capture, read by periods.
 
-ghost use Rattle.std.specs.Prelude.{◌≡◌, ◌*◌, ◌%◌, ◌≤◌, ◌<◌, false, IfOk, OnErr, is_err, length, replicate};
+ghost use Rattle.std.specs.Prelude.{◌≡◌, ◌+◌, ◌-◌, ◌*◌, ◌%◌, ◌^◌, ◌≤◌, ◌<◌, false, IfOk, IfSome, OnErr, drop, is_err, length, min, replicate};
 ghost use Rattle.jack_host.specs.Causes.{HasCause};
 ghost use Rattle.session_model.specs.Samples.{silence};
+ghost use Rattle.session_model.specs.WaveFiles.{frame_bytes};
 ghost use Rattle.client_kinds.specs.Buffers.{buffers_of, channels_of, with_buffer};
 ghost use Rattle.device_periods.specs.Blocks.{channel_of};
 ghost use Rattle.wave_pcm.specs.Readings.{SameReading};
@@ -73,12 +74,23 @@ fn fill_silence(samples: &mut [i32])
     }
 }
 
-/// Reads the next frames of a file into a whole block, with zeros past the file's end.
-fn read_block<S: Source>(wave: &mut Wave<S>, block: &mut [i32]) -> Result<(), ReadFailed>
+/// Reads the next frames of a file into a whole block, with zeros past the file's end, and says how many
+/// frames were read.
+///
+/// After a failure only `into_source` may be called.
+pub fn read_block<S: Source>(wave: &mut Wave<S>, block: &mut [i32]) -> Result<usize, ReadFailed>
     requires going { wave.old.failed ≡ false }
     requires frames { length block.old % wave.old.format.channels ≡ 0 }
     ensures length { length block.new ≡ length block.old }
     ensures samples { IfOk result (λ _. Fills wave.old.left wave.new.left block.new) }
+    ensures count { IfOk result (λ frames. IfSome wave.old.left (λ left. frames * wave.old.format.channels ≡ min (length block.old) (length left))) }
+
+    // Also where the file tells nothing.
+    ensures bound { IfOk result (λ frames. frames * wave.old.format.channels ≤ length block.old) }
+    ensures silent { IfOk result (λ frames. drop (frames * wave.old.format.channels) block.new ≡ silence (length block.old - frames * wave.old.format.channels)) }
+    ensures given { IfOk result (λ frames. wave.new.given ≡ wave.old.given + frames * frame_bytes wave.old.format) }
+    ensures limit { wave.new.given < 2 ^ 32 }
+
     ensures same { SameReading wave.old wave.new }
     ensures failed { wave.new.failed ≡ is_err result }
     ensures cause { HasCause wave.old.faults wave.new.faults result }
@@ -86,7 +98,7 @@ fn read_block<S: Source>(wave: &mut Wave<S>, block: &mut [i32]) -> Result<(), Re
     let frames = wave.frames_into(block)?;
     let first = frames * usize::from(wave.format().channels);
     fill_silence(&mut block[first..]);
-    Ok(())
+    Ok(frames)
 }
 
 /// Takes the first frames of an interleaved block apart into the first channels of more room.

@@ -7,4 +7,4 @@ mod captures;
 mod tests;
 
 pub use blocks::{lay_channel, lay_two, take_channel};
-pub use captures::Capture;
+pub use captures::{Capture, read_block};

@@ -1,4 +1,4 @@
-use crate::{Capture, lay_channel};
+use crate::{Capture, lay_channel, read_block};
 use jack_host::MemorySource;
 use std::test::Fail;
 use wave_pcm::Wave;
@@ -28,6 +28,36 @@ fn a_capture_by_periods(rt: HostRuntime) -> Result<(), Fail> {
     assert!(rt; capture.read(4).is_ok());
     assert_eq!(rt; capture.channel(0), [4 << 16, 5 << 16, 0, 0].as_slice());
     assert_eq!(rt; capture.channel(1), [14 << 16, 15 << 16, 0, 0].as_slice());
+    Ok(())
+}
+
+#[test]
+fn blocks_of_a_file(rt: HostRuntime) -> Result<(), Fail> {
+    let source = MemorySource::new(rt.alloc(), STEREO.to_vec(rt.alloc())?);
+    let Ok(mut wave) = Wave::open(source) else {
+        return Err(Fail::from("no wave"));
+    };
+    if wave.format().channels != 2 {
+        return Err(Fail::from("not of two channels"));
+    }
+    let mut block = [9; 6];
+    let Ok(frames) = read_block(&mut wave, &mut block) else {
+        return Err(Fail::from("no block"));
+    };
+    assert_eq!(rt; frames, 3);
+    let first = [1, 11, 2, 12, 3, 13].map(|sample: i32| sample << 16);
+    assert_eq!(rt; block.as_slice(), first.as_slice());
+    let Ok(frames) = read_block(&mut wave, &mut block) else {
+        return Err(Fail::from("no block"));
+    };
+    assert_eq!(rt; frames, 2);
+    let second = [4, 14, 5, 15, 0, 0].map(|sample: i32| sample << 16);
+    assert_eq!(rt; block.as_slice(), second.as_slice());
+    let Ok(frames) = read_block(&mut wave, &mut block) else {
+        return Err(Fail::from("no block"));
+    };
+    assert_eq!(rt; frames, 0);
+    assert_eq!(rt; block.as_slice(), [0; 6].as_slice());
     Ok(())
 }
 
