@@ -3,12 +3,13 @@
 --     bench_at rack place      the bench at a place
 --     with_bench rack place bench      the rack with another bench there
 --     wire_total rack, link_total rack      how many rooms its benches have for connections, and for links
---     heard_kept, heard_carried, heard_like, carrying, begun, linked, moved, filled      a bench with one connection, task, room, moment or content more
+--     heard_kept, heard_carried, heard_like, carrying, begun, linked, moved, filled, fed_with      a bench with one connection, task, room, moment, content or block more
 use Rattle.std.specs.Prelude.{ℕ, List, Option, [], ◌∷◌, ◌++◌, ℤ, Some, option_map, slice_index_or, slice_set, sum_by}
 use Rattle.jack_types.specs.declared.kinds.Kind.TheVariants.{Pass}
 use Rattle.jack_types.specs.declared.moments.Moment.{Moment}
 use Rattle.client_benches.specs.Seen.{Seen, moved_to, new_bench, room_count}
 use Rattle.client_benches.specs.Wires.{kept_count, with_samples}
+use Rattle.client_kinds.specs.Buffers.{channels_of}
 use Rattle.client_benches.specs.declared.benches.Turn.{Turn}
 use Rattle.client_benches.specs.declared.wires.Source.TheVariants.{Carried, Kept, Like}
 
@@ -60,3 +61,8 @@ moved moment period bench = record bench { kept = record bench.kept { turn = opt
 -- these samples in the room of a wire, if it has one
 abbrev pub filled : ℕ → List ℤ → Seen → Seen
 filled wire samples bench = record bench { kept = record bench.kept { wires = with_samples bench.kept.wires wire samples } }
+
+-- an interleaved block of so many channels for the next cycle, in the place of the one before
+abbrev pub fed_with : ℕ → List ℤ → Seen → Seen
+fed_with channels samples bench =
+    record bench { kept = record bench.kept { standing = record bench.kept.standing { memory = record bench.kept.standing.memory { fed = channels_of channels bench.kept.standing.period samples } } } }

@@ -6,13 +6,14 @@ use client_kinds::{Guest, Shape};
 use jack_types::Moment;
 
 impl<G: Guest> Rack<G> {
-    ghost use Rattle.std.specs.Prelude.{◌≡◌, ◌<◌, [], IfNone, IfSome, List, None, Some, false, length, slice_set};
+    ghost use Rattle.std.specs.Prelude.{◌≡◌, ◌*◌, ◌<◌, ◌≤◌, [], IfNone, IfSome, List, None, Some, false, length, slice_set};
     ghost use Rattle.std.specs.Option.{ForSome};
     ghost use Rattle.jack_types.specs.declared.kinds.Score.{Score};
     ghost use Rattle.session_model.specs.Kinds.{first};
-    ghost use Rattle.client_kinds.specs.Standings.{HasScore, IsGuest};
+    ghost use Rattle.client_kinds.specs.Standings.{HasScore, IsDisk, IsGuest};
     ghost use Rattle.client_benches.specs.Seen.{MayPlay, cleared, moved_to};
-    ghost use Rattle.bench_rack.specs.Racks.{begun, bench_at, moved, with_bench};
+    ghost use Rattle.client_benches.specs.declared.benches.Turn.{Turn as TurnValue};
+    ghost use Rattle.bench_rack.specs.Racks.{begun, bench_at, fed_with, moved, with_bench};
 
     /// Exchanges the benches at two places.
     pub fn swap(&mut self, first: usize, second: usize)
@@ -48,6 +49,20 @@ impl<G: Guest> Rack<G> {
         ensures { self.new ≡ with_bench self.old place (moved moment.now period (bench_at self.old place)) }
     {
         self.benches[place].set_moment(moment, period);
+    }
+
+    /// Feeds the disk player at a place the interleaved block that its next cycle plays and uses up. That
+    /// cycle is of the greatest period.
+    pub fn feed(&mut self, place: usize, samples: &[i32], channels: u16)
+        requires place { place < length self.old.benches }
+        requires kind { IsDisk (bench_at self.old place).kept.standing.kind }
+        requires least { 1 ≤ channels }
+        requires most { channels ≤ 8 }
+        requires samples { length samples.now ≡ channels * (bench_at self.old place).kept.standing.period }
+        requires turn { (turn : TurnValue) → (bench_at self.old place).kept.turn ≡ Some turn → turn.ports.period ≡ (bench_at self.old place).kept.standing.period }
+        ensures { self.new ≡ with_bench self.old place (fed_with channels samples.now (bench_at self.old place)) }
+    {
+        self.benches[place].feed(samples, channels);
     }
 
     /// Lends a guest to the bench at a place. The guest is reset.
