@@ -1,10 +1,13 @@
 -- A driver before its first cycle.
+--     plan-staged      a new stage over an opening plan of the script
 --     kinds-new      new benches are of the kinds that they were made for
 --     zeros-few      nothing was put
 --     no-memories      nobody has played
+--     made-scores, made-own      the scores are those that the stage has
+--     works-made      the works of what was made
 --     IsGear-new, IsNew-gear      the parts of a new driver
 use Rattle.std.proofs.Common.{◌≡◌, ℕ, zero, suc, ◌*◌, ◌<◌, ◌≤◌, false, List, [], ◌∷◌, length, map, replicate, slice_get, sum_by, take, ◌++◌, All, Option, Some, None, refl, sym, ◌∙◌, ap, subst, arith}
-use Rattle.std.specs.Prelude.{MatchOption, slice_index, slice_index_or}
+use Rattle.std.specs.Prelude.{IfOk, MatchOption, Result, Ok, Err, slice_index, slice_index_or, true}
 use Rattle.std.specs.List.Sorted.{IsPermutation}
 use Rattle.std.proofs.lemmas.List.{length-map}
 use Rattle.std.proofs.lemmas.List.Sorted.{IsPermutation-refl}
@@ -15,23 +18,42 @@ use Rattle.jack_types.specs.declared.files.Format.{Format}
 use Rattle.jack_types.specs.declared.kinds.Kind.{Kind}
 use Rattle.jack_types.specs.declared.kinds.Score.{Score}
 use Rattle.session_model.specs.Commands.{replay}
-use Rattle.session_model.specs.Scripts.{Turn, turns}
-use Rattle.session_model.specs.Transport.{first_row}
+use Rattle.session_model.specs.Scripts.{Script, Turn, turns}
 use Rattle.port_registry.specs.Registered.{open_clients}
-use Rattle.cycle_plan.specs.Plans.{nodes_of, opening_of}
+use Rattle.graph_word.specs.Publications.{Reading}
+use Rattle.cycle_plan.specs.Plans.{Planned, nodes_of, opening_of}
 use Rattle.transport.specs.Standings.{Standing}
 use Rattle.record_ring.specs.Rings.{Getting, IsOpening, Sending, items_of}
 use Rattle.client_benches.specs.Seen.{Seen, new_bench}
 use Rattle.client_seats.specs.Moves.{kinds_of}
 use Rattle.client_seats.specs.Owners.{Owned}
 use Rattle.client_seats.specs.Seatings.{memories, owned_memories}
+use Rattle.device_periods.specs.Captures.{Captured}
 use Rattle.driver_laws.specs.Drivers.{IsOwnRing, Remembered, frames_run, channels_on, greatest_period, turn_of}
 use Rattle.driver_laws.specs.Openings.{IsNew}
 use Rattle.recorder_rings.specs.Sending.{no_ring}
-use Rattle.recorder_rings.specs.Openings.{IsNew as AreNew}
 use Rattle.task_laws.specs.Calls.{guests_needed, open_kinds}
-use Rattle.client_stage.specs.Standing.{StandsOn}
+use Rattle.client_stage.specs.Standing.{OnStage, StandsOn}
 use Rattle.cycle_laws.specs.Gears.{Gear, IsGear, IsServed, driver_of}
+use Rattle.cycle_driver.specs.Makings.{AreNewRings, IsMade, IsNewStage, IsNewTransport, IsOpeningPlan, IsUnread}
+use Rattle.cycle_driver.specs.declared.opening.Made.{Made}
+use Rattle.cycle_driver.specs.declared.works.Works.{Works}
+
+-- a new stage over an opening plan of the script
+pub plan-staged : {E : Type 0} (script : Script) (kinds : List Kind) (scores : List Score) (period : ℕ) (opening : Planned) → kinds ≡ open_kinds script → period ≡ greatest_period script → IsOpeningPlan script opening → (result : Result OnStage E)
+    → IfOk result (λ stage. stage.staged.racked.benches ≡ map (λ kind. new_bench kind period) kinds)
+    → IfOk result (λ stage. stage.staged.owned ≡ record { births = replicate (length kinds) None; scores = scores; pool = map (λ score. Some score) scores; past = [] })
+    → IfOk result (λ stage. (stage.staged.room ≡ period) × (stage.staged.period ≡ 0) × (stage.staged.is_staffed ≡ true)) → IfOk result (λ stage. stage.plan ≡ opening)
+    → IfOk result (λ stage. StandsOn stage.staged stage.plan) → IfOk result (IsNewStage script scores)
+plan-staged script kinds scores period opening kinds_are longest opens (Ok stage) benches owned room plan stands = record {
+  benches = subst (λ ks. stage.staged.racked.benches ≡ map (λ kind. new_bench kind (greatest_period script)) ks) kinds_are (subst (λ n. stage.staged.racked.benches ≡ map (λ kind. new_bench kind n) kinds) longest benches);
+  owned = subst (λ (ks : List Kind). stage.staged.owned ≡ record { births = replicate (length ks) None; scores = scores; pool = map (λ score. Some score) scores; past = [] }) kinds_are owned;
+  room = room.0 ∙ longest;
+  period = room.1;
+  opening = subst (IsOpeningPlan script) (sym plan) opens;
+  stands = stands;
+}
+plan-staged script kinds scores period opening kinds_are longest opens (Err e) benches owned room plan stands = tt
 
 none_below : {n : ℕ} → n < 0 → ⊥
 none_below p = omega arith
@@ -58,17 +80,22 @@ opened-at : (out : Option Getting) (P : Getting → Type 0) → MatchOption out 
 opened-at None P never = absurd never
 opened-at (Some getting) P holds = (getting, holds)
 
-module _ (gear : Gear) (kinds : List Kind) (scores : List Score) (served : IsServed gear.script) (kinds_are : kinds ≡ open_kinds gear.script)
-    (benches : gear.stage.staged.racked.benches ≡ map (λ kind. new_bench kind (greatest_period gear.script)) kinds)
-    (owned : gear.stage.staged.owned ≡ record { births = replicate (length kinds) None; scores = scores; pool = map (λ score. Some score) scores; past = [] }) (guests : guests_needed gear.script ≤ length scores)
-    (room : gear.stage.staged.room ≡ greatest_period gear.script) (period : gear.stage.staged.period ≡ 0) (changes : gear.stage.plan.changes ≡ [])
-    (base : gear.stage.plan.base ≡ record { capture = gear.script.header.capture; playback = gear.script.header.playback }) (stands : StandsOn gear.stage.staged gear.stage.plan)
-    (transport : gear.transport ≡ record { rate = gear.script.header.rate; cycles = 0; frames = 0; row = first_row })
-    (rings : AreNew gear.script.header.recorders gear.script.header.ring (greatest_period gear.script) (length (turns gear.script) * length gear.script.header.recorders) gear.rings)
-    (numbers : gear.numbers ≡ []) (moments : gear.moments ≡ []) (capture_room : gear.capture.room ≡ greatest_period gear.script) (capture_channels : gear.capture.reading.format.channels ≡ gear.script.header.capture)
-    (capture_sound : gear.capture.reading.failed ≡ false) where
+-- the scores are those that the stage has
+module _ {G : Type 0} (script : Script) (scores : List Score) (made : Made G) (is : IsMade script scores made) where
+  pub made-scores : made.stage.staged.owned.scores ≡ scores
+  made-scores = ap (λ (o : Owned). o.scores) is.stage.owned
+
+  pub made-own : IsMade script made.stage.staged.owned.scores made
+  made-own = subst (λ own. IsMade script own made) (sym made-scores) is
+
+-- the works of what was made
+abbrev pub works-made : {S G : Type 0} → Reading × Planned → Captured → Made G → ℕ → Works S G
+works-made reader capture made set = record { reader = reader; stage = made.stage; capture = capture; transport = made.transport; rings = made.rings; numbers = made.numbers; moments = made.moments; set = set }
+
+module _ (gear : Gear) (scores : List Score) (served : IsServed gear.script) (stage : IsNewStage gear.script scores gear.stage) (guests : guests_needed gear.script ≤ length scores)
+    (transport : IsNewTransport gear.script gear.transport) (rings : AreNewRings gear.script gear.rings) (numbers : gear.numbers ≡ []) (moments : gear.moments ≡ []) (capture : IsUnread gear.script gear.capture) where
   kinds-are : kinds_of gear.stage.staged.racked ≡ open_kinds gear.script
-  kinds-are = ap (map (λ (bench : Seen). bench.kept.standing.kind)) benches ∙ kinds-new (greatest_period gear.script) kinds ∙ kinds_are
+  kinds-are = ap (map (λ (bench : Seen). bench.kept.standing.kind)) stage.benches ∙ kinds-new (greatest_period gear.script) (open_kinds gear.script)
 
   as-many : length gear.rings.rings ≡ length gear.script.header.recorders
   as-many = rings.opened.as_many ∙ ap length rings.channels ∙ length-map gear.script.header.recorders (λ (format : Format). format.channels)
@@ -76,13 +103,13 @@ module _ (gear : Gear) (kinds : List Kind) (scores : List Score) (served : IsSer
   pub IsGear-new : IsGear gear
   IsGear-new = record {
     served = served;
-    stands = stands;
-    base = base;
+    stands = stage.stands;
+    base = stage.opening.base;
     kinds = subst (IsPermutation (open_kinds gear.script)) (sym kinds-are) (IsPermutation-refl (open_kinds gear.script));
-    guests = subst (λ n. guests_needed gear.script ≤ n) (sym (ap (λ (o : Owned). length o.scores) owned)) guests;
-    room = room;
-    capture_room = capture_room;
-    capture_channels = capture_channels;
+    guests = subst (λ n. guests_needed gear.script ≤ n) (sym (ap (λ (o : Owned). length o.scores) stage.owned)) guests;
+    room = stage.room;
+    capture_room = capture.room;
+    capture_channels = capture.channels;
     rate = ap (λ (t : Standing). t.rate) transport;
     rings_room = rings.room;
     rings_channels = rings.channels;
@@ -94,9 +121,9 @@ module _ (gear : Gear) (kinds : List Kind) (scores : List Score) (served : IsSer
     in_step = λ sound. record {
       cycles = ap (λ (t : Standing). t.cycles) transport ∙ sym (ap length numbers);
       frames = ap (λ (t : Standing). t.frames) transport ∙ sym (ap (λ (xs : List ℕ). sum_by (λ (turn : Turn). turn.period) (take (length xs) (turns gear.script))) numbers);
-      period = period ∙ sym (ap (λ (xs : List ℕ). (turn_of gear.script (length xs)).period) numbers);
+      period = stage.period ∙ sym (ap (λ (xs : List ℕ). (turn_of gear.script (length xs)).period) numbers);
       moments = ap length moments ∙ sym (ap length numbers);
-      capture = capture_sound;
+      capture = capture.sound;
     };
   }
 
@@ -125,9 +152,9 @@ module _ (gear : Gear) (kinds : List Kind) (scores : List Score) (served : IsSer
   pub IsNew-gear : gear.reading.rows ≡ [] → gear.playback ≡ None → gear.set ≡ gear.script.header.period → gear.failed ≡ false → IsNew gear.script scores (driver_of gear)
   IsNew-gear rows playback set failed = record {
     script_is = refl;
-    scores_are = ap (λ (o : Owned). o.scores) owned;
+    scores_are = ap (λ (o : Owned). o.scores) stage.owned;
     rows = rows;
-    content = changes;
+    content = stage.opening.changes;
     numbers = numbers;
     moments = moments;
     transport = ap (λ (t : Standing). t.row) transport;
@@ -143,6 +170,6 @@ module _ (gear : Gear) (kinds : List Kind) (scores : List Score) (served : IsSer
     playback = playback;
     set = set;
     failed = failed;
-    nodes = ap open_clients stands.stands.nodes ∙ stands.stands.planned.nodes ∙ ap (λ cs. nodes_of (replay (opening_of gear.stage.plan.base) cs)) changes;
-    memories = ap (λ (o : Owned). memories gear.stage.staged.racked o) owned ∙ ap (λ (xs : List Remembered). xs ++ []) (no-memories (length kinds) gear.stage.staged.racked.benches);
+    nodes = ap open_clients stage.stands.stands.nodes ∙ stage.stands.stands.planned.nodes ∙ ap (λ cs. nodes_of (replay (opening_of gear.stage.plan.base) cs)) stage.opening.changes;
+    memories = ap (λ (o : Owned). memories gear.stage.staged.racked o) stage.owned ∙ ap (λ (xs : List Remembered). xs ++ []) (no-memories (length (open_kinds gear.script)) gear.stage.staged.racked.benches);
   }

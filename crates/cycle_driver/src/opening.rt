@@ -1,17 +1,11 @@
 //! How a driver is made.
 
-ghost use Rattle.std.specs.Prelude.{◌≡◌, ◌*◌, ◌≤◌, IfOk, List, None, Some, [], ◌∷◌, false, length, map, replicate};
+ghost use Rattle.std.specs.Prelude.{◌≡◌, ◌<◌, ◌≤◌, IfOk, [], ◌∷◌, length, map};
 ghost use Rattle.std.specs.Vec.{vec_capacity};
-ghost use Rattle.jack_types.specs.declared.kinds.Score.{Score};
-ghost use Rattle.session_model.specs.Scripts.{turns};
-ghost use Rattle.session_model.specs.Transport.{first_row};
-ghost use Rattle.client_benches.specs.Seen.{new_bench};
-ghost use Rattle.client_stage.specs.Standing.{StandsOn};
-ghost use Rattle.driver_laws.specs.Drivers.{greatest_period};
-ghost use Rattle.recorder_rings.specs.Openings.{IsNew as AreNew};
 ghost use Rattle.driver_laws.specs.Openings.{IsNew};
-ghost use Rattle.task_laws.specs.Calls.{guests_needed, open_kinds as the_kinds};
+ghost use Rattle.task_laws.specs.Calls.{guests_needed};
 ghost use Rattle.cycle_laws.specs.Gears.{IsServed, driver_of};
+ghost use Rattle.cycle_driver.specs.Makings.{AreNewRings, IsMade, IsNewMix, IsNewStage, IsNewTransport, IsOpeningPlan, IsRoom, IsUnread};
 
 use crate::driver::Driver;
 use crate::works::Works;
@@ -43,57 +37,65 @@ pub(crate) struct Made<G: Guest> {
     pub moments: Vec<Moment>,
 }
 
-/// No number yet, with room for one of each cycle.
-fn no_numbers(alloc: Global, cycles: u32) -> Result<Vec<u32>, Memory>
-    ensures { IfOk result (λ numbers. (numbers.items ≡ []) × (cycles ≤ vec_capacity numbers)) }
+/// No number yet, with room for one of each cycle of a script.
+fn no_numbers(alloc: Global, script: &Script) -> Result<Vec<u32>, Memory>
+    ensures { IfOk result (λ numbers. IsRoom script.now numbers.items (vec_capacity numbers)) }
 {
-    match Vec::with_capacity(alloc, cycles as usize) {
+    match Vec::with_capacity(alloc, cycles(script) as usize) {
         Ok(numbers) => Ok(numbers),
         Err(_) => Err(Memory),
     }
 }
 
-/// No moment yet, with room for one of each cycle.
-fn no_moments(alloc: Global, cycles: u32) -> Result<Vec<Moment>, Memory>
-    ensures { IfOk result (λ moments. (moments.items ≡ []) × (cycles ≤ vec_capacity moments)) }
+/// No moment yet, with room for one of each cycle of a script.
+fn no_moments(alloc: Global, script: &Script) -> Result<Vec<Moment>, Memory>
+    ensures { IfOk result (λ moments. IsRoom script.now moments.items (vec_capacity moments)) }
 {
-    match Vec::with_capacity(alloc, cycles as usize) {
+    match Vec::with_capacity(alloc, cycles(script) as usize) {
         Ok(moments) => Ok(moments),
         Err(_) => Err(Memory),
     }
 }
 
+/// How many seats the crew of a script has: one for each worker, or the caller's alone.
+fn seats(script: &Script) -> u32
+    ensures { (0 < result) × (result ≤ 16) }
+{
+    match script.header().threads {
+        Some(workers) => u32::from(workers),
+        None => 1,
+    }
+}
+
+/// A plan without changes, of a script's channels.
+fn opening_plan(alloc: Global, script: &Script) -> Result<Plan, Memory>
+    ensures { IfOk result (IsOpeningPlan script.now) }
+{
+    let header = script.header();
+    Plan::new(alloc, header.capture, header.playback)
+}
+
 /// The stage of a script's clients, on which nobody plays yet.
 fn make_stage<G: Guest>(alloc: Global, script: &Script, guests: Vec<G>) -> Result<Stage<G>, Memory>
     requires served { IsServed script.now }
-    ensures benches { IfOk result (λ stage. stage.staged.racked.benches ≡ map (λ kind. new_bench kind (greatest_period script.now)) (the_kinds script.now)) }
-    ensures owners { IfOk result (λ stage. stage.staged.owned ≡ record { births = replicate (length (the_kinds script.now)) None; scores = map G.score guests.items; pool = map (λ score. Some score) (map G.score guests.items); past = [] }) }
-    ensures room { IfOk result (λ stage. (stage.staged.room ≡ greatest_period script.now) × (stage.staged.period ≡ 0)) }
-    ensures plan { IfOk result (λ stage. (stage.plan.changes ≡ []) × (stage.plan.base ≡ record { capture = script.now.header.capture; playback = script.now.header.playback })) }
-    ensures stands { IfOk result (λ stage. StandsOn stage.staged stage.plan) }
+    ensures { IfOk result (IsNewStage script.now (map G.score guests.items)) }
 {
     kinds_are_of_the_script();
-    let header = script.header();
-    let opening = Plan::new(alloc, header.capture, header.playback)?;
+    let opening = opening_plan(alloc, script)?;
     let kinds = open_kinds(alloc, script)?;
-    let seats = match header.threads {
-        Some(workers) => u32::from(workers),
-        None => 1,
-    };
     Stage::new(
         alloc,
         kinds.as_slice(),
         guests,
         greatest_period(script),
-        seats,
+        seats(script),
         &opening,
     )
 }
 
 /// The rings of a script's recorders, with room for an overrun of each in each cycle.
 fn make_rings(alloc: Global, script: &Script) -> Result<RecorderRings, Memory>
-    requires served { IsServed script.now }
-    ensures { IfOk result (AreNew script.now.header.recorders script.now.header.ring (greatest_period script.now) (length (turns script.now) * length script.now.header.recorders)) }
+    ensures { IfOk result (AreNewRings script.now) }
 {
     let header = script.header();
     let recorders = header.recorders.as_slice();
@@ -107,6 +109,20 @@ fn make_rings(alloc: Global, script: &Script) -> Result<RecorderRings, Memory>
     )
 }
 
+/// The room for the playback of a script's channels.
+fn make_mix(alloc: Global, script: &Script) -> Result<Playback, Memory>
+    ensures { IfOk result (IsNewMix script.now) }
+{
+    Playback::new(alloc, script.header().playback, greatest_period(script))
+}
+
+/// A transport of a script's rate, before the first cycle.
+fn make_transport(script: &Script) -> PlanTransport
+    ensures { IsNewTransport script.now result }
+{
+    PlanTransport::new(script.header().rate)
+}
+
 /// Takes all memory of a script's driver but the capture's.
 pub(crate) fn make<G: Guest>(
     alloc: Global,
@@ -114,26 +130,16 @@ pub(crate) fn make<G: Guest>(
     guests: Vec<G>,
 ) -> Result<Made<G>, Memory>
     requires served { IsServed script.now }
-    ensures benches { IfOk result (λ made. made.stage.staged.racked.benches ≡ map (λ kind. new_bench kind (greatest_period script.now)) (the_kinds script.now)) }
-    ensures owners { IfOk result (λ made. made.stage.staged.owned ≡ record { births = replicate (length (the_kinds script.now)) None; scores = map G.score guests.items; pool = map (λ score. Some score) (map G.score guests.items); past = [] }) }
-    ensures room { IfOk result (λ made. (made.stage.staged.room ≡ greatest_period script.now) × (made.stage.staged.period ≡ 0)) }
-    ensures plan { IfOk result (λ made. (made.stage.plan.changes ≡ []) × (made.stage.plan.base ≡ record { capture = script.now.header.capture; playback = script.now.header.playback })) }
-    ensures stands { IfOk result (λ made. StandsOn made.stage.staged made.stage.plan) }
-    ensures transport { IfOk result (λ made. made.transport ≡ record { rate = script.now.header.rate; cycles = 0; frames = 0; row = first_row }) }
-    ensures rings { IfOk result (λ made. AreNew script.now.header.recorders script.now.header.ring (greatest_period script.now) (length (turns script.now) * length script.now.header.recorders) made.rings) }
-    ensures mix { IfOk result (λ made. (made.mix.channels ≡ script.now.header.playback) × (made.mix.room ≡ greatest_period script.now)) }
-    ensures numbers { IfOk result (λ made. (made.numbers.items ≡ []) × (length (turns script.now) ≤ vec_capacity made.numbers)) }
-    ensures moments { IfOk result (λ made. (made.moments.items ≡ []) × (length (turns script.now) ≤ vec_capacity made.moments)) }
+    ensures { IfOk result (IsMade script.now (map G.score guests.items)) }
 {
-    let header = script.header();
     let stage = make_stage(alloc, script, guests)?;
     let rings = make_rings(alloc, script)?;
-    let mix = Playback::new(alloc, header.playback, greatest_period(script))?;
-    let numbers = no_numbers(alloc, cycles(script))?;
-    let moments = no_moments(alloc, cycles(script))?;
+    let mix = make_mix(alloc, script)?;
+    let numbers = no_numbers(alloc, script)?;
+    let moments = no_moments(alloc, script)?;
     Ok(Made {
         stage,
-        transport: PlanTransport::new(header.rate),
+        transport: make_transport(script),
         rings,
         mix,
         numbers,
@@ -157,17 +163,9 @@ fn assemble<S: Source, W: Store, G: Guest>(
 ) -> Driver<S, W, G>
     requires served { IsServed script.now }
     requires rows { reader.0.rows ≡ [] }
-    requires capture { (capture.room ≡ greatest_period script.now) × (capture.reading.format.channels ≡ script.now.header.capture) × (capture.reading.failed ≡ false) }
-    requires benches { made.stage.staged.racked.benches ≡ map (λ kind. new_bench kind (greatest_period script.now)) (the_kinds script.now) }
-    requires owners { (scores : List Score) × (made.stage.staged.owned ≡ record { births = replicate (length (the_kinds script.now)) None; scores = scores; pool = map (λ score. Some score) scores; past = [] }) × (guests_needed script.now ≤ length scores) }
-    requires room { (made.stage.staged.room ≡ greatest_period script.now) × (made.stage.staged.period ≡ 0) }
-    requires plan { (made.stage.plan.changes ≡ []) × (made.stage.plan.base ≡ record { capture = script.now.header.capture; playback = script.now.header.playback }) }
-    requires stands { StandsOn made.stage.staged made.stage.plan }
-    requires transport { made.transport ≡ record { rate = script.now.header.rate; cycles = 0; frames = 0; row = first_row } }
-    requires rings { AreNew script.now.header.recorders script.now.header.ring (greatest_period script.now) (length (turns script.now) * length script.now.header.recorders) made.rings }
-    requires mix { (made.mix.channels ≡ script.now.header.playback) × (made.mix.room ≡ greatest_period script.now) }
-    requires numbers { (made.numbers.items ≡ []) × (length (turns script.now) ≤ vec_capacity made.numbers) }
-    requires moments { (made.moments.items ≡ []) × (length (turns script.now) ≤ vec_capacity made.moments) }
+    requires capture { IsUnread script.now capture }
+    requires made { IsMade script.now made.stage.staged.owned.scores made }
+    requires guests { guests_needed script.now ≤ length made.stage.staged.owned.scores }
     ensures new { IsNew script.now made.stage.staged.owned.scores (driver_of result) }
     ensures capture { result.capture ≡ capture }
     ensures reader { result.reading ≡ reader.0 }

@@ -1,12 +1,15 @@
-use Rattle.std.proofs.Common.{◌≡◌, map, ◌∙◌, subst}
-use Rattle.std.specs.Prelude.{IfOk}
-use Rattle.jack_types.specs.declared.kinds.Kind.{Kind}
-use Rattle.client_benches.specs.Seen.{new_bench}
-use Rattle.client_stage.specs.Standing.{OnStage}
-use Rattle.driver_laws.specs.Drivers.{greatest_period}
+use Rattle.std.proofs.Common.{map, ◌∙◌}
+use Rattle.std.proofs.lemmas.Result.{MatchResult-from_err}
+use Rattle.cycle_driver.proofs.OpeningLemmas.{plan-staged}
 use Rattle.cycle_driver.proofs.opening.make_stage.Goals as goal
 
-pub returns-clause-benches : goal.returns-clause-benches
-returns-clause-benches g c =
-    subst (λ kinds. IfOk c.new-2.result (λ (stage : OnStage). stage.staged.racked.benches ≡ map (λ (kind : Kind). new_bench kind (greatest_period c.args.script.now)) kinds)) (c.as_slice.ensures.value ∙ c.in_ok-kinds.ensures)
-    (subst (λ period. IfOk c.new-2.result (λ (stage : OnStage). stage.staged.racked.benches ≡ map (λ (kind : Kind). new_bench kind period) c.as_slice.result.now)) c.greatest_period.ensures.greatest c.new-2.ensures.benches)
+pub returns-in_err-opening : goal.returns-in_err-opening
+returns-in_err-opening g c = MatchResult-from_err c.from_residual.result _ _ c.from_residual.ensures.0 (λ _. tt)
+
+pub returns-in_err-kinds : goal.returns-in_err-kinds
+returns-in_err-kinds g c = MatchResult-from_err c.from_residual-in_err-kinds.result _ _ c.from_residual-in_err-kinds.ensures.0 (λ _. tt)
+
+pub returns : goal.returns
+returns g c =
+    plan-staged c.args.script.now c.as_slice.result.now (map g.G.Guest.score c.args.guests.items) c.greatest_period.result c.in_ok-opening.opening (c.as_slice.ensures.value ∙ c.in_ok-kinds.ensures) c.greatest_period.ensures.greatest c.in_ok-opening.ensures c.new.result
+    c.new.ensures.benches c.new.ensures.owners c.new.ensures.room c.new.ensures.plan c.new.ensures.stands
