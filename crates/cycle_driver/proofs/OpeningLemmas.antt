@@ -90,7 +90,7 @@ module _ {G : Type 0} (script : Script) (scores : List Score) (made : Made G) (i
 
 -- the works of what was made
 abbrev pub works-made : {S G : Type 0} → Reading × Planned → Captured → Made G → ℕ → Works S G
-works-made reader capture made set = record { reader = reader; stage = made.stage; capture = capture; transport = made.transport; rings = made.rings; numbers = made.numbers; moments = made.moments; set = set }
+works-made reader capture made set = record { reader = reader; stage = made.stage; capture = capture; transport = made.transport; rings = made.outlets.rings; numbers = made.lists.numbers; moments = made.lists.moments; set = set }
 
 module _ (gear : Gear) (scores : List Score) (served : IsServed gear.script) (stage : IsNewStage gear.script scores gear.stage) (guests : guests_needed gear.script ≤ length scores)
     (transport : IsNewTransport gear.script gear.transport) (rings : AreNewRings gear.script gear.rings) (numbers : gear.numbers ≡ []) (moments : gear.moments ≡ []) (capture : IsUnread gear.script gear.capture) where

@@ -3,8 +3,10 @@
 --     IsNewStage script scores stage      the stage of the script's clients, on which nobody plays yet
 --     AreNewRings script rings      the rings of its recorders, into which nothing was put
 --     IsNewMix script mix      the room for its playback
+--     AreNewOutlets script outlets      both
 --     IsNewTransport script transport      a transport before the first cycle
 --     IsRoom script items room      an empty list with room for an item of each cycle
+--     AreNewLists script lists      one for numbers and one for moments
 --     IsMade script scores made      all of a driver's memory but the capture's
 --     IsUnread script capture      a capture of the script's channels
 use Rattle.std.specs.Prelude.{◌≡◌, ℕ, ◌*◌, ◌≤◌, List, [], length, map, replicate, false, Some, None}
@@ -22,7 +24,9 @@ use Rattle.recorder_rings.specs.Sending.{Sent}
 use Rattle.playback_mix.specs.Mixes.{PlaybackRoom}
 use Rattle.task_laws.specs.Calls.{open_kinds}
 use Rattle.client_stage.specs.Standing.{OnStage, StandsOn}
+use Rattle.cycle_driver.specs.declared.opening.Lists.{Lists}
 use Rattle.cycle_driver.specs.declared.opening.Made.{Made}
+use Rattle.cycle_driver.specs.declared.opening.Outlets.{Outlets}
 
 -- of the script's channels
 pub record IsOpeningPlan (script : Script) (plan : Planned) : Type 0 where
@@ -46,6 +50,10 @@ pub record IsNewMix (script : Script) (mix : PlaybackRoom) : Type 0 where
   pub channels : mix.channels ≡ script.header.playback
   pub room : mix.room ≡ greatest_period script
 
+pub record AreNewOutlets (script : Script) (outlets : Outlets) : Type 0 where
+  pub rings : AreNewRings script outlets.rings
+  pub mix : IsNewMix script outlets.mix
+
 abbrev pub IsNewTransport : Script → Standing → Type 0
 IsNewTransport script transport = transport ≡ record { rate = script.header.rate; cycles = 0; frames = 0; row = first_row }
 
@@ -53,13 +61,15 @@ pub record IsRoom {X : Type 0} (script : Script) (items : List X) (room : ℕ) :
   pub none : items ≡ []
   pub enough : length (turns script) ≤ room
 
+pub record AreNewLists (script : Script) (lists : Lists) : Type 0 where
+  pub numbers : IsRoom script lists.numbers.items (vec_capacity lists.numbers)
+  pub moments : IsRoom script lists.moments.items (vec_capacity lists.moments)
+
 pub record IsMade {G : Type 0} (script : Script) (scores : List Score) (made : Made G) : Type 0 where
   pub stage : IsNewStage script scores made.stage
   pub transport : IsNewTransport script made.transport
-  pub rings : AreNewRings script made.rings
-  pub mix : IsNewMix script made.mix
-  pub numbers : IsRoom script made.numbers.items (vec_capacity made.numbers)
-  pub moments : IsRoom script made.moments.items (vec_capacity made.moments)
+  pub outlets : AreNewOutlets script made.outlets
+  pub lists : AreNewLists script made.lists
 
 -- with room for the greatest period; nothing failed yet
 pub record IsUnread (script : Script) (capture : Captured) : Type 0 where

@@ -5,7 +5,7 @@ ghost use Rattle.std.specs.Vec.{vec_capacity};
 ghost use Rattle.driver_laws.specs.Openings.{IsNew};
 ghost use Rattle.task_laws.specs.Calls.{guests_needed};
 ghost use Rattle.cycle_laws.specs.Gears.{IsServed, driver_of};
-ghost use Rattle.cycle_driver.specs.Makings.{AreNewRings, IsMade, IsNewMix, IsNewStage, IsNewTransport, IsOpeningPlan, IsRoom, IsUnread};
+ghost use Rattle.cycle_driver.specs.Makings.{AreNewLists, AreNewOutlets, AreNewRings, IsMade, IsNewMix, IsNewStage, IsNewTransport, IsOpeningPlan, IsRoom, IsUnread};
 
 use crate::driver::Driver;
 use crate::works::Works;
@@ -26,15 +26,27 @@ use std::alloc::Global;
 use task_laws::scripts::kinds_are_of_the_script;
 use wave_pcm::Wave;
 
+/// Where a driver's samples go.
+#[derive(Drop)]
+struct Outlets {
+    rings: RecorderRings,
+    mix: Playback,
+}
+
+/// What a driver keeps of each cycle.
+#[derive(Drop)]
+struct Lists {
+    numbers: Vec<u32>,
+    moments: Vec<Moment>,
+}
+
 /// All of a driver's memory but the capture's.
 #[derive(Drop)]
-pub(crate) struct Made<G: Guest> {
-    pub stage: Stage<G>,
-    pub transport: PlanTransport,
-    pub rings: RecorderRings,
-    pub mix: Playback,
-    pub numbers: Vec<u32>,
-    pub moments: Vec<Moment>,
+struct Made<G: Guest> {
+    stage: Stage<G>,
+    transport: PlanTransport,
+    outlets: Outlets,
+    lists: Lists,
 }
 
 /// No number yet, with room for one of each cycle of a script.
@@ -55,6 +67,15 @@ fn no_moments(alloc: Global, script: &Script) -> Result<Vec<Moment>, Memory>
         Ok(moments) => Ok(moments),
         Err(_) => Err(Memory),
     }
+}
+
+/// The lists of a script's cycles, before the first.
+fn make_lists(alloc: Global, script: &Script) -> Result<Lists, Memory>
+    ensures { IfOk result (AreNewLists script.now) }
+{
+    let numbers = no_numbers(alloc, script)?;
+    let moments = no_moments(alloc, script)?;
+    Ok(Lists { numbers, moments })
 }
 
 /// How many seats the crew of a script has: one for each worker, or the caller's alone.
@@ -116,6 +137,15 @@ fn make_mix(alloc: Global, script: &Script) -> Result<Playback, Memory>
     Playback::new(alloc, script.header().playback, greatest_period(script))
 }
 
+/// The rings and the playback's room of a script.
+fn make_outlets(alloc: Global, script: &Script) -> Result<Outlets, Memory>
+    ensures { IfOk result (AreNewOutlets script.now) }
+{
+    let rings = make_rings(alloc, script)?;
+    let mix = make_mix(alloc, script)?;
+    Ok(Outlets { rings, mix })
+}
+
 /// A transport of a script's rate, before the first cycle.
 fn make_transport(script: &Script) -> PlanTransport
     ensures { IsNewTransport script.now result }
@@ -124,26 +154,18 @@ fn make_transport(script: &Script) -> PlanTransport
 }
 
 /// Takes all memory of a script's driver but the capture's.
-pub(crate) fn make<G: Guest>(
-    alloc: Global,
-    script: &Script,
-    guests: Vec<G>,
-) -> Result<Made<G>, Memory>
+fn make<G: Guest>(alloc: Global, script: &Script, guests: Vec<G>) -> Result<Made<G>, Memory>
     requires served { IsServed script.now }
     ensures { IfOk result (IsMade script.now (map G.score guests.items)) }
 {
     let stage = make_stage(alloc, script, guests)?;
-    let rings = make_rings(alloc, script)?;
-    let mix = make_mix(alloc, script)?;
-    let numbers = no_numbers(alloc, script)?;
-    let moments = no_moments(alloc, script)?;
+    let outlets = make_outlets(alloc, script)?;
+    let lists = make_lists(alloc, script)?;
     Ok(Made {
         stage,
         transport: make_transport(script),
-        rings,
-        mix,
-        numbers,
-        moments,
+        outlets,
+        lists,
     })
 }
 
@@ -169,9 +191,11 @@ fn assemble<S: Source, W: Store, G: Guest>(
     ensures new { IsNew script.now made.stage.staged.owned.scores (driver_of result) }
     ensures capture { result.capture ≡ capture }
     ensures reader { result.reading ≡ reader.0 }
-    ensures rings { result.rings ≡ made.rings }
+    ensures rings { result.rings ≡ made.outlets.rings }
 {
     let header = script.header();
+    let Outlets { rings, mix } = made.outlets;
+    let Lists { numbers, moments } = made.lists;
     Driver {
         script: note(script),
         works: Works {
@@ -179,12 +203,12 @@ fn assemble<S: Source, W: Store, G: Guest>(
             stage: made.stage,
             capture,
             transport: made.transport,
-            rings: made.rings,
-            numbers: made.numbers,
-            moments: made.moments,
+            rings,
+            numbers,
+            moments,
             set: header.period,
         },
-        mix: made.mix,
+        mix,
         format: Format {
             rate: header.rate,
             channels: header.playback,
