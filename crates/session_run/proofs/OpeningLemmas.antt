@@ -1,8 +1,10 @@
 -- A session before its first phase.
 --     IsOpened script scores desk gear made      its parts are new
 --     IsAttaching-opened, no-stores      it is attaching, and has no store yet
-use Rattle.std.proofs.Common.{◌≡◌, ℕ, zero, suc, ◌+◌, ◌*◌, ◌<◌, List, [], ◌∷◌, length, map, take, filter_map, get_or, slice_get, Option, Some, None, IsNone, All, refl, sym, ◌∙◌, ap, subst, arith}
-use Rattle.std.specs.Prelude.{slice_index, slice_index_or}
+--     passed-on      what holds of an error that is passed on
+--     none-is      whether there are no threads
+use Rattle.std.proofs.Common.{◌≡◌, ℕ, zero, suc, ◌+◌, ◌*◌, ◌<◌, List, [], ◌∷◌, length, map, take, filter_map, get_or, slice_get, Bool, true, false, true≢false, Option, Some, None, All, Result, Ok, Err, refl, sym, ◌∙◌, ap, subst, arith}
+use Rattle.std.specs.Prelude.{IfErr, IsErrAnd, is_none, is_some, not, slice_index, slice_index_or}
 use Rattle.std.proofs.lemmas.List.{length-map}
 use Rattle.std.proofs.lemmas.List.Elements.{All-from_get_or, All-head, All-tail}
 use Rattle.std.proofs.lemmas.Option.{get_or_from_slice_get, slice_get-get_or, slice_get_within}
@@ -22,13 +24,22 @@ use Rattle.recorder_files.specs.Recorders.{Recording, Stored, held_in, held_or}
 use Rattle.cycle_laws.specs.Gears.{Gear, IsServed, driver_of}
 use Rattle.run_laws.specs.Sessions.{IsOne}
 use Rattle.serial_laws.specs.Openings.{bare}
-use Rattle.session_run.specs.Parts.{Parts, session_of, stores_in}
+use Rattle.session_threads.specs.Parts.{Parts, session_of, stores_in}
 use Rattle.session_run.specs.Standings.{IsAttaching}
 use Rattle.session_run.proofs.PairLemmas.{IsBare, IsOver, opened-at}
 
+pub passed-on : {T E : Type 0} (r : Result T E) (e : E) (P : E → Type 0) → IsErrAnd r (λ y. y ≡ e) → P e → IfErr r P
+passed-on (Ok t) e P is holds = absurd is
+passed-on (Err y) e P is holds = subst P (sym is) holds
+
+pub none-is : {T : Type 0} (o : Option T) (b : Bool) → is_some o ≡ not b → b ≡ is_none o
+none-is None true is = refl
+none-is None false is = absurd (true≢false (sym is))
+none-is (Some x) true is = absurd (true≢false is)
+none-is (Some x) false is = refl
+
 pub record IsOpened (script : Script) (scores : List Score) (desk : Desk) (gear : Gear) (made : List Recording) : Type 0 where
   pub served : IsServed script
-  pub serial : IsNone script.header.threads
   pub desk_is : IsNewDesk script desk.publishing desk
   pub desk_kept : IsDesk desk
   pub opening : IsPublication (base_of script) desk.publishing gear.reading
@@ -153,7 +164,6 @@ module _ (scores : List Score) (desk : Desk) (gear : Gear) (made : List Recordin
   pub IsAttaching-opened : IsAttaching parts
   IsAttaching-opened = record {
     served = is.served;
-    serial = is.serial;
     new = record {
       one = one;
       opening = is.opening;

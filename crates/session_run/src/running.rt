@@ -1,47 +1,87 @@
 //! How a session is run.
 
-use crate::faults::SessionFault;
-use crate::phases::run_phases;
+use crate::phases::run_serial;
 use crate::session::Session;
 use client_kinds::Guest;
 use jack_host::{Gate, Source, Store};
+use run_laws::serial::all_phases_end;
 use serial_laws::openings::{a_serial_run_is_whole, a_session_stands_before_its_first_phase};
+use session_threads::{SessionFault, run_threads};
+use std::sync::Wait;
 use std::thread::Threads;
+use thread_rings::phases::{a_new_session_is_at_rest, a_run_with_threads_is_whole};
 
-impl<S: Source, W: Store, G: Guest + Send> Session<S, W, G> {
-    ghost use Rattle.std.specs.Prelude.{◌≡◌, IsErrOf, OnErr, OnOk, length};
+impl<S: Source, W: Store + Send, G: Guest + Send> Session<S, W, G> {
+    ghost use Rattle.std.specs.Prelude.{◌≡◌, ℕ, IsErrOf, IsNone, IsSome, OnErr, OnOk, length};
     ghost use Rattle.jack_host.specs.Causes.{Rose};
     ghost use Rattle.session_model.specs.Explanations.{Given};
     ghost use Rattle.wave_pcm.specs.Readings.{SameReading};
     ghost use Rattle.run_laws.specs.Sessions.{IsGiven};
     ghost use Rattle.run_laws.specs.SerialRuns.{SerialKept};
-    ghost use Rattle.run_laws.specs.Told.{Runs};
+    ghost use Rattle.run_laws.specs.Told.{Runs, StandsSoFar};
     ghost use Rattle.serial_laws.specs.Faults.{StandsInSerial};
-    ghost use Rattle.session_run.specs.Parts.{AreLater, OneRose, session_of, stores_in, told_of};
+    ghost use Rattle.session_threads.specs.Parts.{AreLater, OneRose, session_of, stores_in, told_of};
     ghost use Rattle.session_run.specs.Standings.{HasRun, IsReady};
 
-    /// Runs all phases of the script, in order: of each its `do` calls, and then its cycles with the calls of the lanes before
-    /// the first and behind each. It takes no memory. A fault is answered only where a count of faults rose: `Read` that of
-    /// the capture, `Write` that of a store. Behind it each store has a front of its file, and only `take_store` and
-    /// `into_capture` may be called.
-    pub fn run<T: Threads + Sync, K: Gate>(
-        &mut self,
+    /// Runs all phases of the script, in order. In serial mode these are the `do` calls of each, and then its cycles with the
+    /// calls of the lanes before the first and behind each. In threads mode the lanes make their calls, and the recorders fill
+    /// their files, while the cycles run; then it may wait for ever.
+    ///
+    /// It takes no memory. A fault is answered only where a count of faults rose: `Read` that of the capture, `Write` that of
+    /// a store. Behind it each store has a front of its file, and only `take_store` and `into_capture` may be called.
+    pub fn run<T: Threads + Sync, R: Wait + Sync, K: Gate>(
+        self,
         threads: &T,
+        wait: &R,
         gate: &K,
-    ) -> Result<(), SessionFault>
-        requires { IsReady self.old }
-        ensures runs { OnOk result (Runs (session_of self.old) (session_of self.new)) }
-        ensures ran { OnOk result (HasRun self.new) }
-        ensures kept { OnOk result ((given : Given) → IsGiven (session_of self.old) given → SerialKept given (session_of self.new)) }
-        ensures fault { OnErr result ((given : Given) → IsGiven (session_of self.old) given → StandsInSerial given (told_of self.new)) }
-        ensures stores { AreLater (stores_in self.old) (stores_in self.new) }
-        ensures recorders { length self.new.recorders ≡ length self.old.recorders }
-        ensures capture { SameReading self.old.gear.capture.reading self.new.gear.capture.reading }
-        ensures read { IsErrOf result SessionFault.Read → Rose self.old.gear.capture.reading.faults self.new.gear.capture.reading.faults }
-        ensures write { IsErrOf result SessionFault.Write → OneRose (stores_in self.old) (stores_in self.new) }
+    ) -> (Session<S, W, G>, Result<(), SessionFault>)
+        requires { IsReady self }
+        ensures runs { OnOk result.1 (Runs (session_of self) (session_of result.0)) }
+        ensures ran { OnOk result.1 (HasRun result.0) }
+        ensures kept { IsNone self.gear.script.header.threads → OnOk result.1 ((given : Given) → IsGiven (session_of self) given → SerialKept given (session_of result.0)) }
+        ensures fault { IsNone self.gear.script.header.threads → OnErr result.1 ((given : Given) → IsGiven (session_of self) given → StandsInSerial given (told_of result.0)) }
+        ensures so_far { IsSome self.gear.script.header.threads → OnErr result.1 ((kept : ℕ) × ((given : Given) → IsGiven (session_of self) given → StandsSoFar kept (told_of result.0) given)) }
+        ensures script { result.0.gear.script ≡ self.gear.script }
+        ensures stores { AreLater (stores_in self) (stores_in result.0) }
+        ensures recorders { length result.0.recorders ≡ length self.recorders }
+        ensures capture { SameReading self.gear.capture.reading result.0.gear.capture.reading }
+        ensures read { IsErrOf result.1 SessionFault.Read → Rose self.gear.capture.reading.faults result.0.gear.capture.reading.faults }
+        ensures write { IsErrOf result.1 SessionFault.Write → OneRose (stores_in self) (stores_in result.0) }
     {
         a_session_stands_before_its_first_phase();
         a_serial_run_is_whole();
-        run_phases(&mut self.works, threads, gate, &self.segments, self.limits)
+        all_phases_end();
+        a_new_session_is_at_rest();
+        a_run_with_threads_is_whole();
+        let Session {
+            segments,
+            limits,
+            rig,
+            is_serial,
+            playback,
+            attached,
+        } = self;
+        if is_serial {
+            let (rig, ran) = run_serial(rig, threads, gate, &segments, limits);
+            let session = Session {
+                segments,
+                limits,
+                rig,
+                is_serial,
+                playback,
+                attached,
+            };
+            return (session, ran);
+        }
+        let (rig, ran) = run_threads(rig, threads, wait, gate, &segments, limits);
+        let session = Session {
+            segments,
+            limits,
+            rig,
+            is_serial,
+            playback,
+            attached,
+        };
+        (session, ran)
     }
 }

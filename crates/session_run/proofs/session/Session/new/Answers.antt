@@ -1,11 +1,14 @@
-use Rattle.std.proofs.Common.{◌≡◌, [], map, None, refl, sym, subst}
+use Rattle.std.proofs.Common.{◌≡◌, ◌∙◌, [], map, None, refl, sym, ap, subst}
+use Rattle.std.specs.Prelude.{is_none}
+use Rattle.jack_types.specs.declared.scripts.Header.{Header}
 use Rattle.graph_word.specs.Publications.{IsOpening as IsPublication, Reading}
 use Rattle.session_model.specs.Scripts.{Script}
 use Rattle.control_desk.specs.Desks.{base_of}
 use Rattle.cycle_laws.specs.Gears.{Gear}
-use Rattle.session_run.specs.Parts.{stores_in}
+use Rattle.session_threads.specs.Parts.{stores_in}
 use Rattle.session_run.specs.Standings.{IsAttaching}
-use Rattle.session_run.proofs.OpeningLemmas.{IsAttaching-opened, IsOpened, no-stores}
+use Rattle.script_segments.specs.Segments.{segments}
+use Rattle.session_run.proofs.OpeningLemmas.{IsAttaching-opened, IsOpened, no-stores, none-is, passed-on}
 use Rattle.session_run.proofs.session.Session.new.Goals as goal
 
 pub returns-in-Ok-make_recorders-clause-new : goal.returns-in-Ok-make_recorders-clause-new
@@ -16,7 +19,6 @@ returns-in-Ok-make_recorders-clause-new g c =
     let out = c.make_recorders.new.driver.rings.out in
     let opened : IsOpened c.args.script.now _ desk gear made = record {
       served = c.requires.served;
-      serial = c.requires.serial;
       desk_is = c.in-Ok-open_desk.ensures.desk;
       desk_kept = c.in-Ok-open_desk.ensures.kept;
       opening = subst (λ (r : Reading). IsPublication (base_of c.args.script.now) desk.publishing r) (sym c.in_ok-driver.ensures.reader) c.in-Ok-open_desk.ensures.opening;
@@ -33,3 +35,20 @@ returns-in-Ok-make_recorders-clause-new g c =
       refl,
       subst (λ (seen : Gear). stores_in (record { desk = desk; gear = seen; recorders = made; playback = None; attached = 0 }) ≡ []) (sym c.make_recorders.ensures.driver) (no-stores _ desk gear made out own),
     )
+
+pub returns-in_err-driver-clause-back : goal.returns-in_err-driver-clause-back
+returns-in_err-driver-clause-back g c = passed-on c.from_residual.result c.in_err-driver.field-0.0 (λ refused. refused.0 ≡ c.args.capture) c.from_residual.ensures.1 c.in_err-driver.ensures.back
+
+pub invariant_of-result : goal.invariant_of-result
+invariant_of-result g c = (
+  c.in-Ok.ensures ∙ ap segments (sym script_is),
+  ap (λ (h : Header). h.ring) header_is,
+  ap (λ (h : Header). h.drain) header_is,
+  none-is c.header-header.result.threads c.is_none.result c.is_none.ensures ∙ ap (λ (h : Header). is_none h.threads) header_is,
+)
+  where
+    script_is : c.make_recorders.new.driver.script ≡ c.args.script.now
+    script_is = ap (λ (d : Gear). d.script) c.make_recorders.ensures.driver ∙ c.in_ok-driver.ensures.new.script_is
+
+    header_is : c.header-header.result ≡ c.make_recorders.new.driver.script.header
+    header_is = c.header-header.ensures.value ∙ ap (λ (s : Script). s.header) (sym script_is)
