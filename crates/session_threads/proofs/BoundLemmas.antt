@@ -1,0 +1,195 @@
+-- A segment that is bound to the device, told of its session.
+--     going-of, may-serve-all, few-recorders      what its threads may do when it begins
+--     seen-driven      a session whose driver alone went on
+--     bound-whole, bound-read, bound-write, bound-torn      the segment, by how its threads came out
+--     bound-stays, bound-pairs, bound-unwritten, bound-rose      what stays, and what rose
+--     on-both      what follows where both are Ok
+use Rattle.std.proofs.Common.{◌≡◌, ℕ, ◌+◌, ◌<◌, ◌≤◌, ◌⊎◌, inl, inr, Bool, true, false, List, length, map, get_or, slice_get, IfSome, IsOk, IsErrOf, All, Option, Some, None, Result, Ok, Err, OnOk, OnErr, refl, sym, ◌∙◌, ap, subst, arith, true≢false}
+use Rattle.std.proofs.lemmas.List.{length-map}
+use Rattle.std.proofs.lemmas.Option.{same_Some, slice_get-get_or, slice_get_within}
+use Rattle.jack_host.specs.Causes.{Rose}
+use Rattle.session_model.specs.Grammar.{IsScript}
+use Rattle.session_model.specs.Scripts.{Script}
+use Rattle.record_ring.specs.Rings.{IsPair, Sending}
+use Rattle.wave_pcm.specs.Readings.{SameReading}
+use Rattle.wave_write.specs.Tapes.{SameFile, Tape}
+use Rattle.control_desk.specs.Desks.{Desk, GoesOn, IsDesk, IsDone}
+use Rattle.control_desk.specs.Laws.{DoneGoesOn}
+use Rattle.driver_laws.specs.Cycling.{CyclesMany, FailsAtRead}
+use Rattle.driver_laws.specs.Drivers.{Driver, run}
+use Rattle.cycle_laws.specs.Gears.{Gear, driver_of}
+use Rattle.cycle_runs.specs.Runs.{BreaksAtWrite, IsGoing, RunsInto, StaysInRun, with_end}
+use Rattle.recorder_files.specs.Recorders.{Recording, Stored, held_in, held_or, stored_of}
+use Rattle.run_laws.specs.Sessions.{Session}
+use Rattle.run_laws.proofs.PlaceLemmas.{mapped_there, some_at}
+use Rattle.serial_laws.specs.Steps.{IsSound}
+use Rattle.thread_faults.specs.Faults.{AtCapture, AtPlayback, Drove, DroveAll, InRun, ServedSome}
+use Rattle.thread_laws.specs.Segments.{CycledMany, Joined, RingsEnded, Runs, Served, WentOn}
+use Rattle.session_threads.specs.Driving.{HasDriven, with_ends}
+use Rattle.session_threads.specs.Insides.{ArePaired, Stays, parts_with, seen_with}
+use Rattle.session_threads.specs.Parts.{HasOpenFiles, OneRose, Parts, session_of, stores_in}
+use Rattle.session_threads.specs.Phases.{SegmentFails, Segmented}
+use Rattle.session_threads.specs.Serving.{AreServed, HaveFailed, IsUntorn, MayServe, ServedBy}
+use Rattle.session_threads.proofs.ReelLemmas.{all-from_places, may-give, recorders_later}
+use Rattle.session_threads.proofs.ServeLemmas.{files-served, recorders-keep, served-at, serves-all, serves-some}
+use Rattle.session_threads.proofs.StayLemmas.{ends-many}
+use Rattle.session_threads.proofs.StoreLemmas.{HeldLater, held-file, parts-later, parts-rose, playback-rose}
+
+-- ---- when it begins
+
+pub going-of : (session : Session) → IsSound session → IsGoing session.driver
+going-of session sound = record {
+  playback = record { tape = sound.files.playback.tape; attached = sound.files.playback.attached; going = sound.files.playback.going };
+  sound = sound.files.sound;
+  rows = record { cycles = sound.one.rows.cycles; numbers = sound.one.rows.numbers; last = sound.one.rows.last; place = sound.one.rows.place; base = sound.one.rows.base };
+  rings = record {
+    recorders = sound.one.rings.recorders;
+    disks = sound.one.rings.disks;
+    puts = sound.one.rings.puts;
+    gets = sound.one.rings.gets;
+    own = λ recorder ring there. let own = sound.one.rings.own recorder ring there in record { samples = own.samples; most = own.most; items = own.items };
+  };
+  no_end = sound.no_end;
+}
+
+pub may-serve-all : (parts : Parts) → IsSound (session_of parts) → HasOpenFiles parts → All MayServe parts.recorders
+may-serve-all parts sound files = all-from_places MayServe parts.recorders (λ i recording is.
+    let ring = some_at parts.gear.rings.rings i (subst (λ n. i < n) (sym (ends-many parts sound)) (slice_get_within parts.recorders i recording is)) in
+    let it = may-give parts i ring.0 recording sound files ring.1 is in
+    record { tape = it.1.0; there = it.1.1; may = it.1.2 })
+
+pub few-recorders : (parts : Parts) → IsSound (session_of parts) → length parts.recorders < 256
+few-recorders parts sound =
+    let many : length parts.recorders ≡ length parts.gear.script.header.recorders = sym (length-map parts.recorders (λ (r : Recording). r.getting)) ∙ sound.one.recorder_ends in
+    let few = sound.one.lawful.header.few_recorders in
+    omega (arith, many, few)
+
+-- ---- the desk that came back
+
+pub group-behind : DoneGoesOn → (session : Session) (after : Desk) → IsSound session → IsDesk after → GoesOn session.desk after → IsDone session.desk 0 → IsDone after 0
+group-behind law session after sound is goes = law session.desk after (subst IsScript (sym (goes.script ∙ sound.one.desk_script)) sound.one.lawful) is goes
+
+-- ---- what its threads left
+
+pub seen-driven : (desk : Desk) (gear gear_after : Gear) (recordings : List Recording) → gear_after.script ≡ gear.script → seen_with desk gear_after recordings ≡ record (seen_with desk gear recordings) { driver = driver_of gear_after }
+seen-driven desk gear gear_after recordings script = ap (λ (s : Script). record (seen_with desk gear_after recordings) { script = s }) script
+
+module _ (m : ℕ) (desk : Desk) (gear driven : Gear) (recordings recordings_after : List Recording) (desk_after : Desk) (sound : IsSound (seen_with desk gear recordings)) (files : HasOpenFiles (parts_with desk gear recordings))
+    (stays : StaysInRun (driver_of gear) (driver_of driven)) (many : length recordings_after ≡ length recordings) (served : AreServed recordings recordings_after) (goes : GoesOn desk desk_after) (is : IsDesk desk_after) where
+  abbrev ended : Parts
+  ended = parts_with desk (with_ends driven) recordings
+
+  ends : RingsEnded (seen_with desk driven recordings) (session_of ended)
+  ends = record { same = refl }
+
+  went : WentOn (seen_with desk (with_ends driven) recordings_after) (seen_with desk_after (with_ends driven) recordings_after)
+  went = record { goes = goes; desk = is; same = refl }
+
+  open_files : HasOpenFiles ended
+  open_files = record { tapes = files.tapes; no_playback = files.no_playback; no_stores = files.no_stores }
+
+  pub bound-whole : CyclesMany m (driver_of gear) (driver_of driven) → All IsUntorn recordings_after
+      → Segmented m false (seen_with desk gear recordings) (seen_with desk_after (with_ends driven) recordings_after)
+  bound-whole cycles going = record {
+    served = seen_with desk (with_ends driven) recordings_after;
+    joins = Runs (seen_with desk driven recordings) (session_of ended) refl (record { cycles = cycles; same = seen-driven desk gear driven recordings stays.script }) ends (serves-all ended recordings_after open_files many served going);
+    goes = went;
+  }
+
+  fails-with : (kept : ℕ) → Drove m kept (seen_with desk gear recordings) (seen_with desk driven recordings) → SegmentFails m false kept (seen_with desk gear recordings) (seen_with desk_after (with_ends driven) recordings_after)
+  fails-with kept drove = record {
+    served = seen_with desk (with_ends driven) recordings_after;
+    joins = InRun (seen_with desk driven recordings) (session_of ended) refl drove ends (serves-some ended recordings_after open_files many served);
+    goes = went;
+  }
+
+  -- the session when its driver was there
+  abbrev before : Driver → Session
+  before driver = record (seen_with desk gear recordings) { driver = driver }
+
+  pub bound-read : RunsInto FailsAtRead m (driver_of gear) (driver_of driven) → (kept : ℕ) × SegmentFails m false kept (seen_with desk gear recordings) (seen_with desk_after (with_ends driven) recordings_after)
+  bound-read into =
+      (run into.2, fails-with (run into.2) (AtCapture into.0 (before into.2) into.1 refl (record { cycles = into.3; same = refl }) into.4 (seen-driven desk gear driven recordings stays.script)))
+
+  pub bound-write : RunsInto BreaksAtWrite m (driver_of gear) (driver_of driven) → (kept : ℕ) × SegmentFails m false kept (seen_with desk gear recordings) (seen_with desk_after (with_ends driven) recordings_after)
+  bound-write into = (
+    run (driver_of driven),
+    fails-with (run (driver_of driven))
+        (AtPlayback into.0 (before into.2) into.1 refl (record { cycles = into.3; same = refl }) into.4.fails into.4.file (seen-driven desk gear driven recordings stays.script)),
+  )
+
+  pub bound-torn : CyclesMany m (driver_of gear) (driver_of driven) → (kept : ℕ) × SegmentFails m false kept (seen_with desk gear recordings) (seen_with desk_after (with_ends driven) recordings_after)
+  bound-torn cycles = (run (driver_of driven), fails-with (run (driver_of driven)) (DroveAll refl (record { cycles = cycles; same = seen-driven desk gear driven recordings stays.script })))
+
+  -- ---- what stays
+
+  playback_later : HeldLater (held_or None gear.playback) (held_or None driven.playback)
+  playback_later =
+      let tape : Tape = sound.files.playback.tape in
+      let file = stays.playback tape sound.files.playback.attached in
+      held-file None None gear.playback driven.playback tape file.0 sound.files.playback.attached file.1 file.2
+
+  pub bound-stays : SameReading gear.capture.reading driven.capture.reading → Stays (parts_with desk gear recordings) (parts_with desk_after (with_ends driven) recordings_after)
+  bound-stays capture = record {
+    script = stays.script;
+    scores = stays.scores;
+    files = let now = files-served ended recordings_after open_files many served in record { tapes = now.tapes; no_playback = now.no_playback; no_stores = now.no_stores };
+    later = parts-later (parts_with desk gear recordings) (parts_with desk_after (with_ends driven) recordings_after) playback_later many (recorders_later ended (parts_with desk (with_ends driven) recordings_after) (recorders-keep ended recordings_after open_files many served));
+    capture = capture;
+    many = many;
+  }
+
+  pub bound-pairs : ArePaired (with_ends driven) recordings_after
+  bound-pairs = record {
+    as_many = length-map driven.rings.rings with_end ∙ stays.rings.as_many ∙ ends-many (parts_with desk gear recordings) sound ∙ sym many;
+    few = let low = few-recorders (parts_with desk gear recordings) sound in omega (arith, many, low);
+    each = each;
+  }
+    where
+      each : (recorder : ℕ) (ring : Sending) (now : Recording) → slice_get (map with_end driven.rings.rings) recorder ≡ Some ring → slice_get recordings_after recorder ≡ Some now → IsPair ring now.getting
+      each recorder ring now ring_is now_is =
+          let low_after : recorder < length driven.rings.rings = subst (λ n. recorder < n) (length-map driven.rings.rings with_end) (slice_get_within (map with_end driven.rings.rings) recorder ring ring_is) in
+          let low : recorder < length gear.rings.rings = subst (λ n. recorder < n) stays.rings.as_many low_after in
+          let old = some_at gear.rings.rings recorder low in
+          let mid = some_at driven.rings.rings recorder low_after in
+          let ring_same : with_end mid.0 ≡ ring = same_Some (with_end mid.0) ring (sym (mapped_there with_end driven.rings.rings recorder mid.0 mid.1) ∙ ring_is) in
+          let same = stays.rings.each recorder old.0 mid.0 old.1 mid.1 in
+          let was = some_at recordings recorder (subst (λ n. recorder < n) (ends-many (parts_with desk gear recordings) sound) low) in
+          let pair = sound.one.recorder_pairs recorder old.0 was.0.getting old.1 (mapped_there (λ (r : Recording). r.getting) recordings recorder was.0 was.1) in
+          let it = served-at recordings recordings_after recorder was.0 now served was.1 now_is in
+          let ends_same = ends-of was.0 now it it.keeps.tape_after.stopped refl in
+          subst (λ (s : Sending). IsPair s now.getting) ring_same record {
+            one = same.table ∙ pair.one ∙ sym ends_same.0;
+            same_samples = same.samples ∙ pair.same_samples ∙ sym ends_same.1;
+            same_most = same.most ∙ pair.same_most ∙ sym ends_same.2;
+          }
+        where
+          ends-of : (old new : Recording) (it : ServedBy old new) (stopped : Bool) → it.keeps.tape_after.stopped ≡ stopped
+              → (new.getting.table ≡ old.getting.table) × (new.getting.samples ≡ old.getting.samples) × (new.getting.most ≡ old.getting.most)
+          ends-of old new it true stopped = let same = (it.torn stopped).fails.same in (same.table, same.room, same.most)
+          ends-of old new it false going = let same = (it.whole going).serves.writes.same in (same.table, same.room, same.most)
+
+  pub bound-rose : HaveFailed recordings_after → OneRose (stores_in (parts_with desk gear recordings)) (stores_in (parts_with desk_after (with_ends driven) recordings_after))
+  bound-rose failed =
+      let old = some_at recordings failed.place (subst (λ n. failed.place < n) many (slice_get_within recordings_after failed.place failed.recording failed.there)) in
+      let it : ServedBy old.0 failed.recording = served-at recordings recordings_after failed.place old.0 failed.recording served old.1 failed.there in
+      let stopped : it.keeps.tape_after.stopped ≡ true = subst (λ (o : Option Tape). IfSome o (λ (t : Tape). t.stopped ≡ true)) it.keeps.is failed.stopped in
+      parts-rose (parts_with desk gear recordings) (parts_with desk_after (with_ends driven) recordings_after) failed.place old.0 failed.recording (stored_of it.keeps.tape) (stored_of it.keeps.tape_after) playback_later
+      (recorders_later ended (parts_with desk (with_ends driven) recordings_after) (recorders-keep ended recordings_after open_files many served)) old.1 failed.there
+      (ap (held_or old.0.store) it.keeps.was) (ap (held_or failed.recording.store) it.keeps.is) (it.torn stopped).rose
+
+  pub bound-unwritten : ((tape tape_after : Tape) → gear.playback ≡ Some tape → driven.playback ≡ Some tape_after → Rose tape.faults tape_after.faults)
+      → OneRose (stores_in (parts_with desk gear recordings)) (stores_in (parts_with desk_after (with_ends driven) recordings_after))
+  bound-unwritten cause =
+      let tape : Tape = sound.files.playback.tape in
+      let file = stays.playback tape sound.files.playback.attached in
+      playback-rose (parts_with desk gear recordings) (parts_with desk_after (with_ends driven) recordings_after) (stored_of tape) (stored_of file.0) playback_later
+      (recorders_later ended (parts_with desk (with_ends driven) recordings_after) (recorders-keep ended recordings_after open_files many served))
+      (ap (held_or None) sound.files.playback.attached) (ap (held_or None) file.1) (cause tape file.0 sound.files.playback.attached file.1)
+
+-- ---- outcomes
+
+pub on-both : {T E A B P Q R : Type 0} (r : Result T E) (q : Result A B) → OnOk r (IsOk q) → OnOk r (OnOk q P) → OnOk q Q → (P → Q → R) → OnOk r R
+on-both (Ok x) (Ok y) ok p more f = f p more
+on-both (Ok x) (Err e) ok p more f = absurd (true≢false (sym ok))
+on-both (Err e) q ok p more f = tt

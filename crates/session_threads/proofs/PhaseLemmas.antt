@@ -1,0 +1,174 @@
+-- A phase in threads mode, from its front to the meeting behind it.
+--     opens-sound      the parts behind its front
+--     next-of      its cycles come next
+--     may-begin      it may be begun
+--     rests      a phase without cycles
+--     phase-whole, phase-fails      all of it
+--     ran-on, ran-at      one phase more was run
+--     stands-failed      what the stores hold behind one that failed
+--     read-between, write-between, stays-over      a cause of its fault, and what stays, from its front to its end
+use Rattle.std.proofs.Common.{◌≡◌, ℕ, zero, suc, ◌+◌, ◌<◌, ◌≤◌, Bool, [], length, slice_get, Some, IsSome, refl, sym, ◌∙◌, ap, subst, arith}
+use Rattle.std.proofs.Math.Seq.{take-length}
+use Rattle.std.proofs.lemmas.Option.{slice_get_within}
+use Rattle.jack_host.specs.Causes.{Rose}
+use Rattle.session_model.specs.Explanations.{Given}
+use Rattle.session_model.specs.Scripts.{Phase, Script, phases, turns}
+use Rattle.control_desk.specs.Desks.{MayBegin, cycles_before}
+use Rattle.driver_laws.specs.Drivers.{Driver, run, turn_of}
+use Rattle.cycle_runs.specs.Runs.{AreNext}
+use Rattle.run_laws.specs.Runs.{AtPhase, RanPhases}
+use Rattle.run_laws.specs.Sessions.{Session}
+use Rattle.run_laws.specs.Told.{StandsSoFar}
+use Rattle.script_segments.specs.declared.lines.Segment.{Segment}
+use Rattle.serial_laws.specs.Faults.{told}
+use Rattle.serial_laws.specs.Steps.{IsSound}
+use Rattle.serial_laws.proofs.MeetLemmas.{IsSound-met}
+use Rattle.thread_faults.specs.Faults.{StandsUnfinished, ThreadFault}
+use Rattle.thread_laws.specs.Segments.{Rests, ThreadSegment}
+use Rattle.thread_rings.proofs.PartLemmas.{IsSound-grouped, IsSound-paced}
+use Rattle.session_threads.specs.Insides.{Stays, held, parts_of}
+use Rattle.session_threads.specs.Parts.{HasOpenFiles, OneRose, Parts, session_of, told_of}
+use Rattle.session_threads.specs.Phases.{Opens, SegmentFails, Segmented, Settles, Stops}
+use Rattle.session_threads.proofs.SegmentLemmas.{CycleIs, CycleThere, IsOfPhase}
+use Rattle.session_threads.specs.declared.works.Works.{Works}
+use Rattle.session_threads.proofs.StayLemmas.{stays-begun, stays-trans}
+use Rattle.session_threads.proofs.StoreLemmas.{rose-before, rose-behind}
+use Rattle.session_threads.proofs.TellLemmas.{told-agrees}
+
+pub opens-sound : (done : ℕ) (session after : Session) → IsSound session → Opens done session after → IsSound after
+opens-sound done session after sound opens = IsSound-paced opens.met after (IsSound-met opens.grouped opens.met (IsSound-grouped done session opens.grouped sound opens.groups) opens.meets) opens.paces
+
+-- the last cycle of a phase is there
+last-there : CycleThere → (script : Script) (done many : ℕ) (phase : Phase) → slice_get (phases script) done ≡ Some phase → many ≡ phase.cycles → 0 < many → cycles_before script done + many ≤ length (turns script)
+last-there there script done zero phase is same some = absurd (omega (arith, some))
+last-there there script done (suc n) phase is same some = let low : n < phase.cycles = omega (arith, same) in let last = there script done n phase is low in omega (arith, last)
+
+pub next-of : CycleThere → CycleIs → (driver : Driver) (done : ℕ) (segment : Segment) → IsOfPhase driver.script done segment → run driver ≡ cycles_before driver.script done → driver.set ≡ segment.period → 0 < segment.cycles
+    → AreNext segment.cycles segment.is_freewheel driver
+next-of there is driver done segment of count set some = record {
+  left = let last = last-there there driver.script done segment.cycles of.phase of.there (ap (λ (s : Segment). s.cycles) of.is) some in omega (arith, count, last);
+  kinds = λ t low. (λ i. (turn_of driver.script (place t i)).is_freewheel) ∙ ap (λ turn. turn.is_freewheel) (is driver.script done t of.phase of.there (within t low)) ∙ sym (ap (λ (s : Segment). s.is_freewheel) of.is);
+  periods = λ t low. (λ i. (turn_of driver.script (place t i)).period) ∙ ap (λ turn. turn.period) (is driver.script done t of.phase of.there (within t low)) ∙ sym (ap (λ (s : Segment). s.period) of.is) ∙ sym set;
+}
+  where
+    place : (t : ℕ) → run driver + t + 1 ≡ cycles_before driver.script done + t + 1
+    place t = ap (λ n. n + t + 1) count
+
+    within : (t : ℕ) → t < segment.cycles → t < of.phase.cycles
+    within t low = subst (λ (s : Segment). t < s.cycles) of.is low
+
+pub may-begin : (session : Session) (done base : ℕ) (phase : Phase) → IsSound session → RanPhases session done → slice_get (phases session.script) done ≡ Some phase → base ≡ cycles_before session.script done → MayBegin session.desk done base
+may-begin session done base phase sound ran there base_is = record {
+  next = sym ran.phase;
+  there = subst (λ (s : Script). done < length (phases s)) (sym sound.one.desk_script) (within there);
+  used = ran.used;
+  base_is = base_is ∙ ap (λ (s : Script). cycles_before s done) (sym sound.one.desk_script);
+}
+  where
+    within : slice_get (phases session.script) done ≡ Some phase → done < length (phases session.script)
+    within is = slice_get_within (phases session.script) done phase is
+
+pub rests : (freewheel : Bool) (session : Session) → IsSound session → Segmented 0 freewheel session session
+rests freewheel session sound = record {
+  served = session;
+  joins = Rests refl refl;
+  goes = record { goes = record { script = refl; phase = refl; table = refl; more = sym (take-length session.desk.history) }; desk = sound.one.desk; same = refl };
+}
+
+pub phase-whole : (done many : ℕ) (freewheel : Bool) (session begun gone after : Session) → Opens done session begun → Segmented many freewheel begun gone → Settles gone after → ThreadSegment done many freewheel session after
+phase-whole done many freewheel session begun gone after opens segment settles = record {
+  grouped = opens.grouped;
+  met = opens.met;
+  paced = begun;
+  served = segment.served;
+  gone = gone;
+  heard = settles.heard;
+  filled = settles.filled;
+  renewed = settles.renewed;
+  groups = opens.groups;
+  meets = opens.meets;
+  paces = opens.paces;
+  joins = segment.joins;
+  goes = segment.goes;
+  hears = settles.hears;
+  fills = settles.fills;
+  renews = settles.renews;
+  meets_again = settles.meets;
+}
+
+pub phase-fails : (done many kept : ℕ) (freewheel : Bool) (session begun gone after : Session) → Opens done session begun → SegmentFails many freewheel kept begun gone → Stops gone after → ThreadFault done many freewheel kept session after
+phase-fails done many kept freewheel session begun gone after opens segment stops = record {
+  grouped = opens.grouped;
+  met = opens.met;
+  paced = begun;
+  served = segment.served;
+  gone = gone;
+  renewed = stops.renewed;
+  groups = opens.groups;
+  meets = opens.meets;
+  paces = opens.paces;
+  joins = segment.joins;
+  goes = segment.goes;
+  renews = stops.renews;
+  meets_again = stops.meets;
+}
+
+-- ---- one phase more
+
+abbrev pub PhaseBehind : Type 0
+PhaseBehind =
+    (session after : Session) (done : ℕ) (phase : Phase) → IsSound session → slice_get (phases session.script) done ≡ Some phase → RanPhases session done → ThreadSegment done phase.cycles phase.is_freewheel session after
+    → IsSound after × RanPhases after (suc done)
+
+abbrev pub PhaseAt : Type 0
+PhaseAt =
+    (given : Given) (session after : Session) (done : ℕ) (phase : Phase) → IsSome session.script.header.threads → IsSound session → slice_get (phases session.script) done ≡ Some phase → AtPhase session given done
+    → ThreadSegment done phase.cycles phase.is_freewheel session after → AtPhase after given (suc done)
+
+abbrev pub FailsWithFronts : Type 0
+FailsWithFronts =
+    (given : Given) (session after : Session) (done many kept : ℕ) (freewheel : Bool) → AtPhase session given done → IsSome session.script.header.threads → session.putting ≡ []
+    → ThreadFault done many freewheel kept session after → StandsUnfinished kept (told after) given
+
+abbrev pub UnfinishedFronts : Type 0
+UnfinishedFronts = (kept : ℕ) (session : Session) (given : Given) → StandsUnfinished kept session given → StandsSoFar kept session given
+
+-- a segment is its phase's
+as-phase : (session after : Session) (done : ℕ) (segment : Segment) (of : IsOfPhase session.script done segment) → ThreadSegment done segment.cycles segment.is_freewheel session after → ThreadSegment done of.phase.cycles of.phase.is_freewheel session after
+as-phase session after done segment of ran = subst (λ (s : Segment). ThreadSegment done s.cycles s.is_freewheel session after) of.is ran
+
+pub ran-on : PhaseBehind → (session after : Session) (done : ℕ) (segment : Segment) → IsOfPhase session.script done segment → IsSound session → RanPhases session done → ThreadSegment done segment.cycles segment.is_freewheel session after
+    → IsSound after × RanPhases after (done + 1)
+ran-on law session after done segment of sound ran segmented =
+    let next : suc done ≡ done + 1 = omega arith in
+    let behind = law session after done of.phase sound of.there ran (as-phase session after done segment of segmented) in
+    (behind.0, subst (λ n. RanPhases after n) next behind.1)
+
+pub ran-at : PhaseAt → (given : Given) (session after : Session) (done : ℕ) (segment : Segment) → IsOfPhase session.script done segment → IsSome session.script.header.threads → IsSound session → AtPhase session given done
+    → ThreadSegment done segment.cycles segment.is_freewheel session after → AtPhase after given (done + 1)
+ran-at law given session after done segment of threads sound at segmented =
+    let next : suc done ≡ done + 1 = omega arith in
+    subst (λ n. AtPhase after given n) next (law given session after done of.phase threads sound of.there at (as-phase session after done segment of segmented))
+
+pub stands-failed : FailsWithFronts → UnfinishedFronts → (given : Given) (session : Session) (parts : Parts) (done many kept : ℕ) (freewheel : Bool) → AtPhase session given done → IsSome session.script.header.threads → session.putting ≡ []
+    → ThreadFault done many freewheel kept session (session_of parts) → HasOpenFiles parts → StandsSoFar kept (told_of parts) given
+stands-failed law unfinished given session parts done many kept freewheel at threads no_disks fault files =
+    subst (λ (s : Session). StandsSoFar kept s given) (told-agrees parts files) (unfinished kept (told (session_of parts)) given (law given session (session_of parts) done many kept freewheel at threads no_disks fault))
+
+-- ---- causes
+
+pub rose-between : (first before now last : ℕ) → first ≤ before → Rose before now → now ≤ last → Rose first last
+rose-between first before now last low rose high = omega (arith, low, rose, high)
+
+module _ {S W G : Type 0} where
+  pub read-between : (first before now last : Works S W G) → Stays (parts_of first) (parts_of before) → Rose before.driver.capture.reading.faults now.driver.capture.reading.faults → Stays (parts_of now) (parts_of last)
+      → Rose first.driver.capture.reading.faults last.driver.capture.reading.faults
+  read-between first before now last earlier rose later = rose-between _ _ _ _ earlier.capture.later rose later.capture.later
+
+  pub write-between : (first before now last : Works S W G) → Stays (parts_of first) (parts_of before) → OneRose (held before) (held now) → Stays (parts_of now) (parts_of last) → OneRose (held first) (held last)
+  write-between first before now last earlier rose later = rose-behind (held first) (held before) (held last) earlier.later (rose-before (held before) (held now) (held last) rose later.later)
+
+  -- from the front of a phase to its end
+  pub stays-over : (first begun gone last : Works S W G) (period : ℕ) → begun.driver ≡ record first.driver { reading = begun.driver.reading; set = period } → begun.recorders ≡ first.recorders → HasOpenFiles (parts_of first)
+      → Stays (parts_of begun) (parts_of gone) → Stays (parts_of gone) (parts_of last) → Stays (parts_of first) (parts_of last)
+  stays-over first begun gone last period driver recorders files between later = stays-trans first begun last (stays-begun first begun period driver recorders files) (stays-trans begun gone last between later)

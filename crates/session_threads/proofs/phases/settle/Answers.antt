@@ -1,0 +1,36 @@
+use Rattle.std.proofs.Common.{◌<◌, List, length, slice_get, sym, ◌∙◌, ap, subst, vec_items}
+use Rattle.cycle_laws.specs.Gears.{Gear}
+use Rattle.recorder_files.specs.Recorders.{Recording}
+use Rattle.session_threads.specs.Insides.{seen, seen_with}
+use Rattle.session_threads.proofs.StayLemmas.{stays-met, stays-trans}
+use Rattle.session_threads.proofs.phases.settle.Goals as goal
+
+pub renew_rings-requires : goal.renew_rings-requires
+renew_rings-requires g c =
+    let items = ap vec_items c.finish_lanes.ensures.recorders in
+    record {
+      pairs = record {
+        as_many = ap (λ (gear : Gear). length gear.rings.rings) c.finish_lanes.ensures.driver ∙ c.requires.pairs.as_many ∙ sym (ap length items);
+        few = subst (λ (l : List Recording). length l < 256) (sym items) c.requires.pairs.few;
+        each = λ i ring recording ring_is is.
+            c.requires.pairs.each i ring recording (sym (ap (λ (gear : Gear). slice_get gear.rings.rings i) c.finish_lanes.ensures.driver) ∙ ring_is) (sym (ap (λ (l : List Recording). slice_get l i) items) ∙ is);
+      };
+    }
+
+pub returns-clause-settled : goal.returns-clause-settled
+returns-clause-settled g c = record {
+  heard = c.finish_lanes.ensures.filled.0;
+  filled = seen {S = g.row.S.Denot} {W = g.row.W.Denot} {G = g.row.G.Denot} c.finish_lanes.new.works;
+  renewed = seen_with c.finish_lanes.new.works.desk c.renew_rings.new.driver c.renew_rings.new.recorders.items;
+  hears = c.finish_lanes.ensures.filled.1;
+  fills = c.finish_lanes.ensures.filled.2;
+  renews = c.renew_rings.ensures.renewed c.finish_lanes.new.works.desk;
+  meets = c.meet.ensures.met;
+}
+
+pub returns-clause-stays : goal.returns-clause-stays
+returns-clause-stays g c =
+    let first = stays-met {S = g.row.S.Denot} {W = g.row.W.Denot} {G = g.row.G.Denot} c.args.works.now c.finish_lanes.new.works c.finish_lanes.ensures.driver c.finish_lanes.ensures.recorders c.requires.files in
+    let second = c.renew_rings.ensures.stays c.finish_lanes.new.works.desk first.files in
+    stays-trans {S = g.row.S.Denot} {W = g.row.W.Denot} {G = g.row.G.Denot} c.args.works.now c.finish_lanes.new.works c.meet.new.works first
+    (stays-trans {S = g.row.S.Denot} {W = g.row.W.Denot} {G = g.row.G.Denot} c.finish_lanes.new.works (record { desk = c.finish_lanes.new.works.desk; driver = c.renew_rings.new.driver; recorders = c.renew_rings.new.recorders }) c.meet.new.works second (stays-met {S = g.row.S.Denot} {W = g.row.W.Denot} {G = g.row.G.Denot} (record { desk = c.finish_lanes.new.works.desk; driver = c.renew_rings.new.driver; recorders = c.renew_rings.new.recorders }) c.meet.new.works c.meet.ensures.driver c.meet.ensures.recorders second.files))

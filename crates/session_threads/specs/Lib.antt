@@ -1,0 +1,9 @@
+pub mod Parts
+pub mod Insides
+pub mod Giving
+pub mod Turnings
+pub mod Phases
+pub mod Serving
+pub mod Driving
+pub mod Wheels
+pub mod Running

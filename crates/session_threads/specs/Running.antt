@@ -1,0 +1,34 @@
+-- What a session's run in threads mode needs, and what it leaves.
+--     MayRunThreads parts segments ring drain      it stands before its first phase
+--     HasRunThreads before after ran      all phases were run, or one failed
+use Rattle.std.specs.Prelude.{◌≡◌, ℕ, IsErrOf, IsSome, List, OnErr, OnOk, Result, length}
+use Rattle.jack_host.specs.Causes.{Rose}
+use Rattle.session_model.specs.Explanations.{Given}
+use Rattle.session_model.specs.Scripts.{phases}
+use Rattle.run_laws.specs.Runs.{AtPhase, RanPhases}
+use Rattle.run_laws.specs.Told.{StandsSoFar}
+use Rattle.script_segments.specs.Segments.{segments as the_segments}
+use Rattle.script_segments.specs.declared.lines.Segment.{Segment}
+use Rattle.serial_laws.specs.Steps.{IsSound}
+use Rattle.session_threads.specs.Insides.{Stays}
+use Rattle.session_threads.specs.Parts.{HasOpenFiles, OneRose, Parts, session_of, stores_in, told_of}
+use Rattle.session_threads.specs.declared.faults.SessionFault.{SessionFault}
+use Rattle.session_threads.specs.declared.faults.SessionFault.TheVariants.{Read, Write}
+
+pub record MayRunThreads (parts : Parts) (segments : List Segment) (ring drain : ℕ) : Type 0 where
+  pub segments_are : segments ≡ the_segments parts.gear.script
+  pub threads : IsSome parts.gear.script.header.threads
+  pub sound : IsSound (session_of parts)
+  pub ran : RanPhases (session_of parts) 0
+  pub files : HasOpenFiles parts
+  pub ring_is : ring ≡ parts.gear.script.header.ring
+  pub drain_is : drain ≡ parts.gear.script.header.drain
+
+pub record HasRunThreads (before after : Parts) (outcome : Result (Unit {0}) SessionFault) : Type 0 where
+  pub sound : OnOk outcome (IsSound (session_of after))
+  pub ran : OnOk outcome (RanPhases (session_of after) (length (phases after.gear.script)))
+  pub at_end : OnOk outcome ((given : Given) → AtPhase (session_of before) given 0 → AtPhase (session_of after) given (length (phases after.gear.script)))
+  pub stands : OnErr outcome ((kept : ℕ) × ((given : Given) → AtPhase (session_of before) given 0 → StandsSoFar kept (told_of after) given))
+  pub stays : Stays before after
+  pub read : IsErrOf outcome Read → Rose before.gear.capture.reading.faults after.gear.capture.reading.faults
+  pub write : IsErrOf outcome Write → OneRose (stores_in before) (stores_in after)

@@ -1,0 +1,34 @@
+-- What the driver's thread of a freewheel segment did. No public clause cites this module.
+--     HaveWheeled cycles gear recordings gear_after recordings_after ran      its cycles, however they came out, with the rings emptied around each
+use Rattle.std.specs.Prelude.{◌≡◌, ℕ, ◌<◌, IsErrOf, List, OnErr, OnOk, Result}
+use Rattle.jack_host.specs.Causes.{Rose}
+use Rattle.control_desk.specs.Desks.{Desk}
+use Rattle.cycle_laws.specs.Gears.{Gear}
+use Rattle.recorder_files.specs.Recorders.{Recording}
+use Rattle.run_laws.specs.Sessions.{Session}
+use Rattle.serial_laws.specs.Steps.{IsSound}
+use Rattle.thread_faults.specs.Faults.{WheelFailed}
+use Rattle.thread_laws.specs.Segments.{WheeledMany}
+use Rattle.session_threads.specs.Insides.{ArePaired, Stays, parts_with, seen_with}
+use Rattle.session_threads.specs.Parts.{OneRose, stores_in}
+use Rattle.session_threads.specs.declared.faults.SessionFault.{SessionFault}
+use Rattle.session_threads.specs.declared.faults.SessionFault.TheVariants.{Read, Write}
+
+-- some were whole, and the next one failed
+pub record WheelBroke (cycles : ℕ) (session after : Session) : Type 0 where
+  pub kept : ℕ
+  pub whole : ℕ
+  pub wheeled : Session
+  pub fewer : whole < cycles
+  pub wheels : WheeledMany whole session wheeled
+  pub fails : WheelFailed kept wheeled after
+
+-- beside any desk
+pub record HaveWheeled (cycles : ℕ) (gear : Gear) (recordings : List Recording) (gear_after : Gear) (recordings_after : List Recording) (ran : Result (Unit {0}) SessionFault) : Type 0 where
+  pub wheeled : (desk : Desk) → IsSound (seen_with desk gear recordings) → OnOk ran (WheeledMany cycles (seen_with desk gear recordings) (seen_with desk gear_after recordings_after))
+  pub failed : (desk : Desk) → IsSound (seen_with desk gear recordings) → OnErr ran (WheelBroke cycles (seen_with desk gear recordings) (seen_with desk gear_after recordings_after))
+  pub stays : (desk : Desk) → Stays (parts_with desk gear recordings) (parts_with desk gear_after recordings_after)
+  pub table : gear_after.reading.table ≡ gear.reading.table
+  pub pairs : ArePaired gear recordings → ArePaired gear_after recordings_after
+  pub read : IsErrOf ran Read → Rose gear.capture.reading.faults gear_after.capture.reading.faults
+  pub write : (desk : Desk) → IsErrOf ran Write → OneRose (stores_in (parts_with desk gear recordings)) (stores_in (parts_with desk gear_after recordings_after))

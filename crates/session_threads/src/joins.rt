@@ -1,0 +1,276 @@
+//! The threads of a segment.
+
+ghost use Rattle.std.specs.Prelude.{◌≡◌, ◌<◌, All, IsErrOf, OnErr, OnOk, false, length, true};
+ghost use Rattle.cycle_laws.specs.Gears.{Gear, driver_of};
+ghost use Rattle.cycle_runs.specs.Runs.{AreNext, IsGoing};
+ghost use Rattle.desk_turn.specs.Lanes.{IsOpen};
+ghost use Rattle.session_threads.specs.Driving.{HasDriven, with_ends};
+ghost use Rattle.control_desk.specs.Desks.{Desk as DeskValue};
+ghost use Rattle.jack_host.specs.Causes.{Rose};
+ghost use Rattle.serial_laws.specs.Steps.{IsSound};
+ghost use Rattle.session_threads.specs.Insides.{AreAble, ArePaired, Stays, parts_with, seen_with};
+ghost use Rattle.session_threads.specs.Parts.{OneRose, stores_in};
+ghost use Rattle.session_threads.specs.declared.faults.SessionFault.{SessionFault as Fault};
+ghost use Rattle.thread_laws.specs.Segments.{WheeledMany};
+ghost use Rattle.session_threads.specs.Serving.{AreServed, MayServe};
+ghost use Rattle.session_threads.specs.Wheels.{HaveWheeled, WheelBroke};
+
+use crate::cycles::{Limits, cycle};
+use crate::faults::SessionFault;
+use crate::serving::serve_all;
+use crate::works::Deck;
+use client_kinds::Guest;
+use cycle_driver::{CycleFault, Driver};
+use cycle_runs::{end_rings, run_cycles};
+use desk_turn::{TurnDesk, run_lanes};
+use jack_host::{Gate, Source, Store};
+use recorder_files::Recorder;
+use serial_laws::parts::{a_cycle_leaves_the_parts, blocks_leave_the_parts};
+use std::sync::Wait;
+use std::sync::atomic::{AtomicBool, Ordering};
+use std::thread;
+use std::thread::Threads;
+use turn_word::{Pass, Turn};
+
+/// The cycles of a `run` segment in this thread, and lanes and recorders beside them. Each side gives back what it had.
+///
+/// Where no thread can be made the first of the two runs last, so it is the one that waits.
+pub(crate) fn run_beside<
+    S: Source,
+    W: Store + Send,
+    G: Guest + Send,
+    T: Threads + Sync,
+    R: Wait + Sync,
+    K: Gate,
+>(
+    threads: &T,
+    wait: &R,
+    gate: &K,
+    turn: &Turn<TurnDesk>,
+    passes: Vec<Pass<TurnDesk>>,
+    made: [usize; 4],
+    recorders: Vec<Recorder<W>>,
+    driver: Driver<S, W, G>,
+    cycles: u32,
+    over: &AtomicBool,
+) -> (
+    (Vec<Pass<TurnDesk>>, Vec<Recorder<W>>),
+    (Driver<S, W, G>, Result<(), CycleFault>),
+)
+    requires four { length passes.items ≡ 4 }
+    requires open { All (IsOpen turn.now.table) passes.items }
+    requires may { All MayServe recorders.items }
+    requires few { length recorders.items < 256 }
+    requires many { length driver.rings.rings ≡ length recorders.items }
+    requires next { AreNext cycles false (driver_of driver) }
+    requires going { IsGoing (driver_of driver) }
+    ensures passes { result.0.0.items ≡ passes.items }
+    ensures many { length result.0.1.items ≡ length recorders.items }
+    ensures served { AreServed recorders.items result.0.1.items }
+    ensures driven { (driven : Gear) × HasDriven cycles driver driven result.1.1 × (result.1.0 ≡ with_ends driven) }
+{
+    let many = recorders.len() as u8;
+    thread::join(
+        threads,
+        move || -> (Vec<Pass<TurnDesk>>, Vec<Recorder<W>>)
+            requires { (length passes.items ≡ 4) × All (IsOpen turn.now.table) passes.items × (length recorders.items < 256) × All MayServe recorders.items }
+            ensures { (result.0.items ≡ passes.items) × (length result.1.items ≡ length recorders.items) × AreServed recorders.items result.1.items }
+        { wait_beside(threads, wait, gate, turn, passes, made, recorders, over) },
+        move || -> (Driver<S, W, G>, Result<(), CycleFault>)
+            requires { AreNext cycles false (driver_of driver) × IsGoing (driver_of driver) × (length driver.rings.rings ≡ many) }
+            ensures { (driven : Gear) × HasDriven cycles driver driven result.1 × (result.0 ≡ with_ends driven) }
+        { drive(threads, gate, driver, cycles, many, over) },
+    )
+}
+
+/// Those that wait for the driver, with what they own.
+fn wait_beside<W: Store + Send, T: Threads + Sync, R: Wait + Sync, K: Gate>(
+    threads: &T,
+    wait: &R,
+    gate: &K,
+    turn: &Turn<TurnDesk>,
+    passes: Vec<Pass<TurnDesk>>,
+    made: [usize; 4],
+    recorders: Vec<Recorder<W>>,
+    over: &AtomicBool,
+) -> (Vec<Pass<TurnDesk>>, Vec<Recorder<W>>)
+    requires four { length passes.items ≡ 4 }
+    requires open { All (IsOpen turn.now.table) passes.items }
+    requires few { length recorders.items < 256 }
+    requires may { All MayServe recorders.items }
+    ensures passes { result.0.items ≡ passes.items }
+    ensures many { length result.1.items ≡ length recorders.items }
+    ensures served { AreServed recorders.items result.1.items }
+{
+    thread::join(
+        threads,
+        move || -> Vec<Pass<TurnDesk>>
+            requires { (length passes.items ≡ 4) × All (IsOpen turn.now.table) passes.items }
+            ensures { result.items ≡ passes.items }
+        { wait_alone(threads, wait, gate, turn, passes, made, over) },
+        move || -> Vec<Recorder<W>>
+            requires { (length recorders.items < 256) × All MayServe recorders.items }
+            ensures { (length result.items ≡ length recorders.items) × AreServed recorders.items result.items }
+        { serve_alone(threads, wait, gate, recorders) },
+    )
+}
+
+/// The recorders, with what they own.
+fn serve_alone<W: Store + Send, T: Threads + Sync, R: Wait + Sync, K: Gate>(
+    threads: &T,
+    wait: &R,
+    gate: &K,
+    mut recorders: Vec<Recorder<W>>,
+) -> Vec<Recorder<W>>
+    requires few { length recorders.items < 256 }
+    requires may { All MayServe recorders.items }
+    ensures many { length result.items ≡ length recorders.items }
+    ensures served { AreServed recorders.items result.items }
+{
+    serve_all(threads, wait, gate, &mut recorders);
+    recorders
+}
+
+/// The driver's cycles. Behind them, however they came out, the rings end, so that the recorders come to an end; where one
+/// failed, the lanes are told that the work is over.
+fn drive<S: Source, W: Store, G: Guest + Send, T: Threads + Sync, K: Gate>(
+    threads: &T,
+    gate: &K,
+    mut driver: Driver<S, W, G>,
+    cycles: u32,
+    recorders: u8,
+    over: &AtomicBool,
+) -> (Driver<S, W, G>, Result<(), CycleFault>)
+    requires many { length driver.rings.rings ≡ recorders }
+    requires next { AreNext cycles false (driver_of driver) }
+    requires going { IsGoing (driver_of driver) }
+    ensures { (driven : Gear) × HasDriven cycles driver driven result.1 × (result.0 ≡ with_ends driven) }
+{
+    let ran = run_cycles(&mut driver, threads, gate, cycles, false);
+    end_rings(&mut driver, recorders);
+    if ran.is_err() {
+        over.store(true, Ordering::SeqCst);
+    }
+    (driver, ran)
+}
+
+/// The cycles of a freewheel segment in this thread, with the rings emptied around each, and the lanes beside them.
+pub(crate) fn wheel_beside<
+    S: Source,
+    W: Store + Send,
+    G: Guest + Send,
+    T: Threads + Sync,
+    R: Wait + Sync,
+    K: Gate,
+>(
+    threads: &T,
+    wait: &R,
+    gate: &K,
+    turn: &Turn<TurnDesk>,
+    passes: Vec<Pass<TurnDesk>>,
+    made: [usize; 4],
+    deck: Deck<S, W, G>,
+    cycles: u32,
+    limits: Limits,
+    over: &AtomicBool,
+) -> (
+    Vec<Pass<TurnDesk>>,
+    (Deck<S, W, G>, Result<(), SessionFault>),
+)
+    requires four { length passes.items ≡ 4 }
+    requires open { All (IsOpen turn.now.table) passes.items }
+    requires able { AreAble deck.driver deck.recorders.items }
+    requires next { AreNext cycles true (driver_of deck.driver) }
+    requires ring { limits.ring ≡ deck.driver.script.header.ring }
+    requires drain { limits.drain ≡ deck.driver.script.header.drain }
+    ensures passes { result.0.items ≡ passes.items }
+    ensures wheeled { HaveWheeled cycles deck.driver deck.recorders.items result.1.0.driver result.1.0.recorders.items result.1.1 }
+{
+    thread::join(
+        threads,
+        move || -> Vec<Pass<TurnDesk>>
+            requires { (length passes.items ≡ 4) × All (IsOpen turn.now.table) passes.items }
+            ensures { result.items ≡ passes.items }
+        { wait_alone(threads, wait, gate, turn, passes, made, over) },
+        move || -> (Deck<S, W, G>, Result<(), SessionFault>)
+            requires { AreAble deck.driver deck.recorders.items × AreNext cycles true (driver_of deck.driver) × (limits.ring ≡ deck.driver.script.header.ring) × (limits.drain ≡ deck.driver.script.header.drain) }
+            ensures { HaveWheeled cycles deck.driver deck.recorders.items result.0.driver result.0.recorders.items result.1 }
+        { wheel(threads, gate, deck, cycles, limits, over) },
+    )
+}
+
+/// The lanes, with what they own.
+fn wait_alone<T: Threads + Sync, R: Wait + Sync, K: Gate>(
+    threads: &T,
+    wait: &R,
+    gate: &K,
+    turn: &Turn<TurnDesk>,
+    mut passes: Vec<Pass<TurnDesk>>,
+    made: [usize; 4],
+    over: &AtomicBool,
+) -> Vec<Pass<TurnDesk>>
+    requires four { length passes.items ≡ 4 }
+    requires open { All (IsOpen turn.now.table) passes.items }
+    ensures { result.items ≡ passes.items }
+{
+    run_lanes(threads, wait, gate, turn, &mut passes, made, over);
+    passes
+}
+
+/// The cycles of a freewheel segment; where one failed, the lanes are told that the work is over.
+fn wheel<S: Source, W: Store, G: Guest + Send, T: Threads + Sync, K: Gate>(
+    threads: &T,
+    gate: &K,
+    mut deck: Deck<S, W, G>,
+    cycles: u32,
+    limits: Limits,
+    over: &AtomicBool,
+) -> (Deck<S, W, G>, Result<(), SessionFault>)
+    requires able { AreAble deck.driver deck.recorders.items }
+    requires next { AreNext cycles true (driver_of deck.driver) }
+    requires ring { limits.ring ≡ deck.driver.script.header.ring }
+    requires drain { limits.drain ≡ deck.driver.script.header.drain }
+    ensures { HaveWheeled cycles deck.driver deck.recorders.items result.0.driver result.0.recorders.items result.1 }
+{
+    let ran = wheel_cycles(
+        &mut deck.driver,
+        &mut deck.recorders,
+        threads,
+        gate,
+        cycles,
+        limits,
+    );
+    if ran.is_err() {
+        over.store(true, Ordering::SeqCst);
+    }
+    (deck, ran)
+}
+
+/// Freewheel cycles, one after another, until one fails.
+fn wheel_cycles<S: Source, W: Store, G: Guest + Send, T: Threads + Sync, K: Gate>(
+    driver: &mut Driver<S, W, G>,
+    recorders: &mut Vec<Recorder<W>>,
+    threads: &T,
+    gate: &K,
+    cycles: u32,
+    limits: Limits,
+) -> Result<(), SessionFault>
+    requires able { AreAble driver.old recorders.old.items }
+    requires next { AreNext cycles true (driver_of driver.old) }
+    requires ring { limits.ring ≡ driver.old.script.header.ring }
+    requires drain { limits.drain ≡ driver.old.script.header.drain }
+    ensures wheeled { (desk : DeskValue) → IsSound (seen_with desk driver.old recorders.old.items) → OnOk result (WheeledMany cycles (seen_with desk driver.old recorders.old.items) (seen_with desk driver.new recorders.new.items)) }
+    ensures failed { (desk : DeskValue) → IsSound (seen_with desk driver.old recorders.old.items) → OnErr result (WheelBroke cycles (seen_with desk driver.old recorders.old.items) (seen_with desk driver.new recorders.new.items)) }
+    ensures stays { (desk : DeskValue) → Stays (parts_with desk driver.old recorders.old.items) (parts_with desk driver.new recorders.new.items) }
+    ensures table { driver.new.reading.table ≡ driver.old.reading.table }
+    ensures pairs { ArePaired driver.old recorders.old.items → ArePaired driver.new recorders.new.items }
+    ensures read { IsErrOf result SessionFault.Read → Rose driver.old.capture.reading.faults driver.new.capture.reading.faults }
+    ensures write { (desk : DeskValue) → IsErrOf result SessionFault.Write → OneRose (stores_in (parts_with desk driver.old recorders.old.items)) (stores_in (parts_with desk driver.new recorders.new.items)) }
+{
+    blocks_leave_the_parts();
+    a_cycle_leaves_the_parts();
+    for _ in 0..cycles {
+        cycle(driver, recorders, threads, gate, true, limits)?;
+    }
+    Ok(())
+}

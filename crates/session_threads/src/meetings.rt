@@ -1,0 +1,72 @@
+//! How desk and driver learn how far the other has come, and how a phase begins.
+
+ghost use Rattle.std.specs.Prelude.{◌≡◌, ◌≤◌, suc};
+ghost use Rattle.control_desk.specs.Desks.{IsDesk, IsDone, MayBegin};
+ghost use Rattle.serial_laws.specs.Steps.{Met, Rounded};
+ghost use Rattle.session_threads.specs.Insides.{seen};
+ghost use Rattle.session_threads.specs.Phases.{Opens};
+ghost use Rattle.run_laws.specs.Sessions.{Session as SessionValue};
+
+use crate::works::Works;
+use client_kinds::Guest;
+use control_desk::Desk;
+use jack_host::{Source, Store};
+use serial_lanes::laws::desk_that_meets;
+use serial_lanes::{begin_group, round};
+
+/// Tells desk and driver how far the other has come.
+pub fn meet<S: Source, W: Store, G: Guest>(works: &mut Works<S, W, G>)
+    requires { works.old.desk.publishing.table ≡ works.old.driver.reading.table }
+    ensures met { Met (seen works.old) (seen works.new) }
+    ensures desk { works.new.desk ≡ record works.old.desk { publishing = works.new.desk.publishing } }
+    ensures driver { works.new.driver ≡ record works.old.driver { reading = works.new.driver.reading } }
+    ensures recorders { works.new.recorders ≡ works.old.recorders }
+{
+    works.desk.meet(works.driver.reader());
+}
+
+/// Begins a phase behind so many others, before which so many cycles lie: its `do` calls are made, desk and driver meet, and
+/// the period of its cycles is set, in frames.
+pub(crate) fn begin<S: Source, W: Store, G: Guest>(
+    works: &mut Works<S, W, G>,
+    phase: u32,
+    base: u32,
+    period: u32,
+)
+    requires may { MayBegin works.old.desk phase base }
+    requires table { works.old.desk.publishing.table ≡ works.old.driver.reading.table }
+    ensures opens { Opens phase (seen works.old) (seen works.new) }
+    ensures phase { works.new.desk.phase ≡ suc phase }
+    ensures group { IsDone works.new.desk 0 }
+    ensures driver { works.new.driver ≡ record works.old.driver { reading = works.new.driver.reading; set = period } }
+    ensures recorders { works.new.recorders ≡ works.old.recorders }
+{
+    desk_that_meets();
+    begin_group(&mut works.desk, phase, base);
+    note_desk(&works.desk);
+    meet(works);
+    works.driver.period(period);
+}
+
+/// Lets desk and driver meet, and the lanes go until each waits or has no call left.
+pub(crate) fn finish_lanes<S: Source, W: Store, G: Guest>(works: &mut Works<S, W, G>)
+    requires table { works.old.desk.publishing.table ≡ works.old.driver.reading.table }
+    requires begun { 1 ≤ works.old.desk.phase }
+    requires group { IsDone works.old.desk 0 }
+    ensures filled { (heard : SessionValue) × Met (seen works.old) heard × Rounded heard (seen works.new) }
+    ensures table { works.new.desk.publishing.table ≡ works.new.driver.reading.table }
+    ensures driver { works.new.driver ≡ record works.old.driver { reading = works.new.driver.reading } }
+    ensures recorders { works.new.recorders ≡ works.old.recorders }
+{
+    desk_that_meets();
+    meet(works);
+    round(&mut works.desk);
+    note_desk(&works.desk);
+}
+
+// What a desk's type keeps.
+fn note_desk(desk: &Desk)
+    ensures { IsDesk desk.now }
+{
+    let _ = desk.history();
+}

@@ -1,0 +1,191 @@
+//! The phases of a session in threads mode.
+
+ghost use Rattle.std.specs.Prelude.{◌≡◌, ◌≤◌, ℕ, IsErrOf, IsSome, IsTrue, OnErr, OnOk, Some, false, length, slice_get, suc};
+ghost use Rattle.jack_host.specs.Causes.{Rose};
+ghost use Rattle.session_model.specs.Explanations.{Given};
+ghost use Rattle.session_model.specs.Scripts.{phases as the_phases};
+ghost use Rattle.control_desk.specs.Desks.{IsDone, cycles_before};
+ghost use Rattle.run_laws.specs.Runs.{AtPhase, RanPhases};
+ghost use Rattle.run_laws.specs.Told.{StandsSoFar};
+ghost use Rattle.script_segments.specs.Segments.{segments as the_segments};
+ghost use Rattle.serial_laws.specs.Steps.{IsSound};
+ghost use Rattle.thread_faults.specs.Faults.{ThreadFault};
+ghost use Rattle.thread_laws.specs.Segments.{ThreadSegment};
+ghost use Rattle.session_threads.specs.Insides.{ArePaired, Stays, held, parts_of, seen};
+ghost use Rattle.session_threads.specs.Parts.{HasOpenFiles, OneRose, told_of};
+ghost use Rattle.session_threads.specs.Phases.{Settles, Stops};
+ghost use Rattle.session_threads.specs.Running.{HasRunThreads, MayRunThreads};
+ghost use Rattle.session_threads.specs.declared.faults.SessionFault.{SessionFault as Fault};
+
+use crate::cycles::Limits;
+use crate::faults::SessionFault;
+use crate::meetings::{begin, finish_lanes, meet};
+use crate::rings::renew_rings;
+use crate::segments::run_segment;
+use crate::works::{Rig, Works};
+use client_kinds::Guest;
+use jack_host::{Gate, Source, Store};
+use script_segments::Segment;
+use script_segments::laws::segments_are_the_phases;
+use serial_laws::numbers::cycles_of_a_phase;
+use std::sync::Wait;
+use std::thread::Threads;
+use thread_faults::faults::{a_phase_that_fails_leaves_fronts, unfinished_files_have_fronts};
+use thread_rings::phases::a_phase_is_behind;
+
+/// Runs a phase: its `do` calls, and its segment. Behind the segment the rings' ends meet, and desk and driver do; where
+/// nothing failed the lanes go on before until none has a call left.
+fn run_phase<
+    S: Source,
+    W: Store + Send,
+    G: Guest + Send,
+    T: Threads + Sync,
+    R: Wait + Sync,
+    K: Gate,
+>(
+    mut rig: Rig<S, W, G>,
+    threads: &T,
+    wait: &R,
+    gate: &K,
+    phase: u32,
+    base: u32,
+    segment: Segment,
+    limits: Limits,
+) -> (Rig<S, W, G>, Result<(), SessionFault>)
+    requires there { slice_get (the_segments rig.works.driver.script) phase ≡ Some segment }
+    requires base { base ≡ cycles_before rig.works.driver.script phase }
+    requires sound { IsSound (seen rig.works) }
+    requires ran { RanPhases (seen rig.works) phase }
+    requires files { HasOpenFiles (parts_of rig.works) }
+    requires ring { limits.ring ≡ rig.works.driver.script.header.ring }
+    requires drain { limits.drain ≡ rig.works.driver.script.header.drain }
+    ensures whole { OnOk result.1 (ThreadSegment phase segment.cycles segment.is_freewheel (seen rig.works) (seen result.0.works)) }
+    ensures fault { OnErr result.1 ((kept : ℕ) × ThreadFault phase segment.cycles segment.is_freewheel kept (seen rig.works) (seen result.0.works)) }
+    ensures stays { Stays (parts_of rig.works) (parts_of result.0.works) }
+    ensures read { IsErrOf result.1 SessionFault.Read → Rose rig.works.driver.capture.reading.faults result.0.works.driver.capture.reading.faults }
+    ensures write { IsErrOf result.1 SessionFault.Write → OneRose (held rig.works) (held result.0.works) }
+{
+    segments_are_the_phases();
+    cycles_of_a_phase();
+    begin(&mut rig.works, phase, base, segment.period);
+    let (mut rig, ran) = run_segment(rig, threads, wait, gate, segment, limits);
+    match ran {
+        Ok(()) => {
+            settle(&mut rig.works);
+            (rig, Ok(()))
+        }
+        Err(fault) => {
+            stop(&mut rig.works);
+            (rig, Err(fault))
+        }
+    }
+}
+
+/// Lets all meet behind a segment, and the lanes go on until none has a call left.
+fn settle<S: Source, W: Store, G: Guest>(works: &mut Works<S, W, G>)
+    requires table { works.old.desk.publishing.table ≡ works.old.driver.reading.table }
+    requires begun { 1 ≤ works.old.desk.phase }
+    requires group { IsDone works.old.desk 0 }
+    requires pairs { ArePaired works.old.driver works.old.recorders.items }
+    requires files { HasOpenFiles (parts_of works.old) }
+    ensures settled { Settles (seen works.old) (seen works.new) }
+    ensures stays { Stays (parts_of works.old) (parts_of works.new) }
+{
+    finish_lanes(works);
+    renew_rings(&mut works.driver, &mut works.recorders);
+    meet(works);
+}
+
+/// Lets all meet behind a segment that failed.
+fn stop<S: Source, W: Store, G: Guest>(works: &mut Works<S, W, G>)
+    requires table { works.old.desk.publishing.table ≡ works.old.driver.reading.table }
+    requires pairs { ArePaired works.old.driver works.old.recorders.items }
+    requires files { HasOpenFiles (parts_of works.old) }
+    ensures stopped { Stops (seen works.old) (seen works.new) }
+    ensures stays { Stays (parts_of works.old) (parts_of works.new) }
+{
+    renew_rings(&mut works.driver, &mut works.recorders);
+    meet(works);
+}
+
+/// Runs all phases, one after another, until one fails.
+fn run_phases<
+    S: Source,
+    W: Store + Send,
+    G: Guest + Send,
+    T: Threads + Sync,
+    R: Wait + Sync,
+    K: Gate,
+>(
+    mut rig: Rig<S, W, G>,
+    threads: &T,
+    wait: &R,
+    gate: &K,
+    segments: &[Segment],
+    limits: Limits,
+) -> (Rig<S, W, G>, Result<(), SessionFault>)
+    requires segments { segments.now ≡ the_segments rig.works.driver.script }
+    requires threads { IsSome rig.works.driver.script.header.threads }
+    requires sound { IsSound (seen rig.works) }
+    requires ran { RanPhases (seen rig.works) 0 }
+    requires files { HasOpenFiles (parts_of rig.works) }
+    requires ring { limits.ring ≡ rig.works.driver.script.header.ring }
+    requires drain { limits.drain ≡ rig.works.driver.script.header.drain }
+    ensures sound { OnOk result.1 (IsSound (seen result.0.works)) }
+    ensures ran { OnOk result.1 (RanPhases (seen result.0.works) (length (the_phases result.0.works.driver.script))) }
+    ensures at { OnOk result.1 ((given : Given) → AtPhase (seen rig.works) given 0 → AtPhase (seen result.0.works) given (length (the_phases result.0.works.driver.script))) }
+    ensures fault { OnErr result.1 ((kept : ℕ) × ((given : Given) → AtPhase (seen rig.works) given 0 → StandsSoFar kept (told_of (parts_of result.0.works)) given)) }
+    ensures stays { Stays (parts_of rig.works) (parts_of result.0.works) }
+    ensures read { IsErrOf result.1 SessionFault.Read → Rose rig.works.driver.capture.reading.faults result.0.works.driver.capture.reading.faults }
+    ensures write { IsErrOf result.1 SessionFault.Write → OneRose (held rig.works) (held result.0.works) }
+{
+    segments_are_the_phases();
+    a_phase_is_behind();
+    a_phase_that_fails_leaves_fronts();
+    unfinished_files_have_fronts();
+    let mut base = 0;
+    for phase in 0..segments.len() {
+        let segment = segments[phase];
+        let (next, ran) = run_phase(
+            rig,
+            threads,
+            wait,
+            gate,
+            phase as u32,
+            base,
+            segment,
+            limits,
+        );
+        rig = next;
+        match ran {
+            Ok(()) => base += segment.cycles,
+            Err(fault) => return (rig, Err(fault)),
+        }
+    }
+    (rig, Ok(()))
+}
+
+/// Runs all phases of a session in threads mode: the lanes make their calls beside the cycles, and in a segment that is bound
+/// to the device each recorder's file is filled beside them.
+///
+/// It may wait for ever. It takes no memory.
+pub fn run_threads<
+    S: Source,
+    W: Store + Send,
+    G: Guest + Send,
+    T: Threads + Sync,
+    R: Wait + Sync,
+    K: Gate,
+>(
+    rig: Rig<S, W, G>,
+    threads: &T,
+    wait: &R,
+    gate: &K,
+    segments: &[Segment],
+    limits: Limits,
+) -> (Rig<S, W, G>, Result<(), SessionFault>)
+    requires { MayRunThreads (parts_of rig.works) segments.now limits.ring limits.drain }
+    ensures { HasRunThreads (parts_of rig.works) (parts_of result.0.works) result.1 }
+{
+    run_phases(rig, threads, wait, gate, segments, limits)
+}

@@ -1,0 +1,45 @@
+//! How the ends of the recorders' rings learn how far the other has come.
+
+ghost use Rattle.std.specs.Prelude.{◌≡◌, ◌<◌, length, slice_set};
+ghost use Rattle.control_desk.specs.Desks.{Desk as DeskValue};
+ghost use Rattle.record_ring.specs.Rings.{IsPair, Renews};
+ghost use Rattle.recorder_rings.specs.Sending.{ring_at};
+ghost use Rattle.session_threads.specs.Insides.{ArePaired, Stays, parts_with, seen_with};
+ghost use Rattle.session_threads.specs.Parts.{HasOpenFiles};
+ghost use Rattle.thread_laws.specs.Segments.{Renewed};
+
+use client_kinds::Guest;
+use cycle_driver::Driver;
+use jack_host::{Source, Store};
+use recorder_files::Recorder;
+
+/// Takes the end mark of each recorder's ring away, and tells both ends how far the other has come. It may be called behind a
+/// failure too.
+pub(crate) fn renew_rings<S: Source, W: Store, G: Guest>(
+    driver: &mut Driver<S, W, G>,
+    recorders: &mut Vec<Recorder<W>>,
+)
+    requires pairs { ArePaired driver.old recorders.old.items }
+    ensures renewed { (desk : DeskValue) → Renewed (seen_with desk driver.old recorders.old.items) (seen_with desk driver.new recorders.new.items) }
+    ensures stays { (desk : DeskValue) → HasOpenFiles (parts_with desk driver.old recorders.old.items) → Stays (parts_with desk driver.old recorders.old.items) (parts_with desk driver.new recorders.new.items) }
+    ensures driver { driver.new ≡ record driver.old { rings = record driver.old.rings { rings = driver.new.rings.rings } } }
+{
+    for recorder in 0..recorders.len() {
+        renew_one(driver, &mut recorders[recorder], recorder as u8);
+    }
+}
+
+// That of one recorder.
+fn renew_one<S: Source, W: Store, G: Guest>(
+    driver: &mut Driver<S, W, G>,
+    recorder: &mut Recorder<W>,
+    place: u8,
+)
+    requires there { place < length driver.old.rings.rings }
+    requires pair { IsPair (ring_at driver.old.rings place) recorder.old.getting }
+    ensures renews { Renews (ring_at driver.old.rings place) recorder.old.getting (ring_at driver.new.rings place) recorder.new.getting }
+    ensures recorder { recorder.new ≡ record recorder.old { getting = recorder.new.getting } }
+    ensures driver { driver.new ≡ record driver.old { rings = record driver.old.rings { rings = slice_set driver.old.rings.rings place (ring_at driver.new.rings place) } } }
+{
+    recorder.renew(driver.producer(place));
+}

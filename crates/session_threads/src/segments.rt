@@ -1,0 +1,206 @@
+//! A segment of a session in threads mode: the desk lies in the turn meanwhile.
+
+ghost use Rattle.std.specs.Prelude.{◌≡◌, ◌<◌, ◌≤◌, ◌⊎◌, ℕ, All, IsErrOf, IsOk, OnErr, OnOk, false, true};
+ghost use Rattle.jack_host.specs.Causes.{Rose};
+ghost use Rattle.control_desk.specs.Desks.{IsDone};
+ghost use Rattle.cycle_driver.specs.declared.faults.CycleFault.{CycleFault as DriverFault};
+ghost use Rattle.cycle_laws.specs.Gears.{driver_of};
+ghost use Rattle.cycle_runs.specs.Runs.{AreNext};
+ghost use Rattle.serial_laws.specs.Steps.{IsSound};
+ghost use Rattle.session_threads.specs.Insides.{ArePaired, Stays, held, parts_of, seen};
+ghost use Rattle.session_threads.specs.Parts.{HasOpenFiles, OneRose};
+ghost use Rattle.session_threads.specs.Phases.{SegmentFails, Segmented};
+ghost use Rattle.session_threads.specs.Serving.{HaveFailed, IsUntorn};
+ghost use Rattle.session_threads.specs.declared.faults.SessionFault.{SessionFault as Fault};
+
+use crate::cycles::Limits;
+use crate::faults::SessionFault;
+use crate::joins::{run_beside, wheel_beside};
+use crate::lanes::Lanes;
+use crate::serving::has_failed;
+use crate::works::{Deck, Rig, Works};
+use client_kinds::Guest;
+use control_desk::laws::goes_on;
+use cycle_driver::CycleFault;
+use desk_turn::calls_made;
+use jack_host::{Gate, Source, Store};
+use recorder_files::Recorder;
+use script_segments::Segment;
+use std::sync::Wait;
+use std::sync::atomic::AtomicBool;
+use std::thread::Threads;
+
+/// Runs the cycles of a segment with the lanes beside them, and with the recorders where it is bound to the device. Where there
+/// are no cycles, nothing is begun.
+pub(crate) fn run_segment<
+    S: Source,
+    W: Store + Send,
+    G: Guest + Send,
+    T: Threads + Sync,
+    R: Wait + Sync,
+    K: Gate,
+>(
+    rig: Rig<S, W, G>,
+    threads: &T,
+    wait: &R,
+    gate: &K,
+    segment: Segment,
+    limits: Limits,
+) -> (Rig<S, W, G>, Result<(), SessionFault>)
+    requires sound { IsSound (seen rig.works) }
+    requires files { HasOpenFiles (parts_of rig.works) }
+    requires begun { (1 ≤ rig.works.desk.phase) × IsDone rig.works.desk 0 }
+    requires next { 0 < segment.cycles → AreNext segment.cycles segment.is_freewheel (driver_of rig.works.driver) }
+    requires ring { limits.ring ≡ rig.works.driver.script.header.ring }
+    requires drain { limits.drain ≡ rig.works.driver.script.header.drain }
+    ensures whole { OnOk result.1 (Segmented segment.cycles segment.is_freewheel (seen rig.works) (seen result.0.works)) }
+    ensures fails { OnErr result.1 ((kept : ℕ) × SegmentFails segment.cycles segment.is_freewheel kept (seen rig.works) (seen result.0.works)) }
+    ensures stays { Stays (parts_of rig.works) (parts_of result.0.works) }
+    ensures table { result.0.works.desk.publishing.table ≡ result.0.works.driver.reading.table }
+    ensures phase { result.0.works.desk.phase ≡ rig.works.desk.phase }
+    ensures group { OnOk result.1 (IsDone result.0.works.desk 0) }
+    ensures pairs { ArePaired result.0.works.driver result.0.works.recorders.items }
+    ensures read { IsErrOf result.1 SessionFault.Read → Rose rig.works.driver.capture.reading.faults result.0.works.driver.capture.reading.faults }
+    ensures write { IsErrOf result.1 SessionFault.Write → OneRose (held rig.works) (held result.0.works) }
+{
+    if segment.cycles == 0 {
+        return (rig, Ok(()));
+    }
+    let free = segment.is_freewheel;
+    if free {
+        run_free(rig, threads, wait, gate, segment.cycles, limits)
+    } else {
+        run_bound(rig, threads, wait, gate, segment.cycles)
+    }
+}
+
+/// A segment that is bound to the device. The driver's fault is answered, else that of a recorder.
+fn run_bound<
+    S: Source,
+    W: Store + Send,
+    G: Guest + Send,
+    T: Threads + Sync,
+    R: Wait + Sync,
+    K: Gate,
+>(
+    rig: Rig<S, W, G>,
+    threads: &T,
+    wait: &R,
+    gate: &K,
+    cycles: u32,
+) -> (Rig<S, W, G>, Result<(), SessionFault>)
+    requires sound { IsSound (seen rig.works) }
+    requires files { HasOpenFiles (parts_of rig.works) }
+    requires begun { (1 ≤ rig.works.desk.phase) × IsDone rig.works.desk 0 }
+    requires next { AreNext cycles false (driver_of rig.works.driver) }
+    ensures whole { OnOk result.1 (Segmented cycles false (seen rig.works) (seen result.0.works)) }
+    ensures fails { OnErr result.1 ((kept : ℕ) × SegmentFails cycles false kept (seen rig.works) (seen result.0.works)) }
+    ensures stays { Stays (parts_of rig.works) (parts_of result.0.works) }
+    ensures table { result.0.works.desk.publishing.table ≡ result.0.works.driver.reading.table }
+    ensures phase { result.0.works.desk.phase ≡ rig.works.desk.phase }
+    ensures group { OnOk result.1 (IsDone result.0.works.desk 0) }
+    ensures pairs { ArePaired result.0.works.driver result.0.works.recorders.items }
+    ensures read { IsErrOf result.1 SessionFault.Read → Rose rig.works.driver.capture.reading.faults result.0.works.driver.capture.reading.faults }
+    ensures write { IsErrOf result.1 SessionFault.Write → OneRose (held rig.works) (held result.0.works) }
+{
+    let Rig { works, lanes } = rig;
+    let Works {
+        desk,
+        driver,
+        recorders,
+    } = works;
+    goes_on();
+    let made = calls_made(desk.history());
+    let (turn, passes) = lanes.open(desk);
+    let over = AtomicBool::new(false);
+    let ((passes, recorders), (driver, ran)) = run_beside(
+        threads, wait, gate, &turn, passes, made, recorders, driver, cycles, &over,
+    );
+    let (lanes, desk) = Lanes::shut(turn, passes);
+    let outcome = outcome_of(ran, &recorders);
+    let works = Works {
+        desk,
+        driver,
+        recorders,
+    };
+    (Rig { works, lanes }, outcome)
+}
+
+// The first fault of a segment: the driver's, else that of a recorder's file.
+fn outcome_of<W: Store>(
+    ran: Result<(), CycleFault>,
+    recorders: &[Recorder<W>],
+) -> Result<(), SessionFault>
+    ensures ok { OnOk result (OnOk ran (All IsUntorn recorders.now)) }
+    ensures whole { OnOk result (IsOk ran) }
+    ensures read { IsErrOf result SessionFault.Read → IsErrOf ran CycleFault.Read }
+    ensures write { IsErrOf result SessionFault.Write → IsErrOf ran CycleFault.Write ⊎ (IsOk ran × HaveFailed recorders.now) }
+{
+    match ran {
+        Err(CycleFault::Read) => Err(SessionFault::Read),
+        Err(CycleFault::Write) => Err(SessionFault::Write),
+        Ok(()) => {
+            if has_failed(recorders) {
+                Err(SessionFault::Write)
+            } else {
+                Ok(())
+            }
+        }
+    }
+}
+
+/// A segment that is not bound to the device.
+fn run_free<
+    S: Source,
+    W: Store + Send,
+    G: Guest + Send,
+    T: Threads + Sync,
+    R: Wait + Sync,
+    K: Gate,
+>(
+    rig: Rig<S, W, G>,
+    threads: &T,
+    wait: &R,
+    gate: &K,
+    cycles: u32,
+    limits: Limits,
+) -> (Rig<S, W, G>, Result<(), SessionFault>)
+    requires sound { IsSound (seen rig.works) }
+    requires files { HasOpenFiles (parts_of rig.works) }
+    requires begun { (1 ≤ rig.works.desk.phase) × IsDone rig.works.desk 0 }
+    requires next { AreNext cycles true (driver_of rig.works.driver) }
+    requires ring { limits.ring ≡ rig.works.driver.script.header.ring }
+    requires drain { limits.drain ≡ rig.works.driver.script.header.drain }
+    ensures whole { OnOk result.1 (Segmented cycles true (seen rig.works) (seen result.0.works)) }
+    ensures fails { OnErr result.1 ((kept : ℕ) × SegmentFails cycles true kept (seen rig.works) (seen result.0.works)) }
+    ensures stays { Stays (parts_of rig.works) (parts_of result.0.works) }
+    ensures table { result.0.works.desk.publishing.table ≡ result.0.works.driver.reading.table }
+    ensures phase { result.0.works.desk.phase ≡ rig.works.desk.phase }
+    ensures group { OnOk result.1 (IsDone result.0.works.desk 0) }
+    ensures pairs { ArePaired result.0.works.driver result.0.works.recorders.items }
+    ensures read { IsErrOf result.1 SessionFault.Read → Rose rig.works.driver.capture.reading.faults result.0.works.driver.capture.reading.faults }
+    ensures write { IsErrOf result.1 SessionFault.Write → OneRose (held rig.works) (held result.0.works) }
+{
+    let Rig { works, lanes } = rig;
+    let Works {
+        desk,
+        driver,
+        recorders,
+    } = works;
+    goes_on();
+    let made = calls_made(desk.history());
+    let (turn, passes) = lanes.open(desk);
+    let over = AtomicBool::new(false);
+    let deck = Deck { driver, recorders };
+    let (passes, (deck, ran)) = wheel_beside(
+        threads, wait, gate, &turn, passes, made, deck, cycles, limits, &over,
+    );
+    let (lanes, desk) = Lanes::shut(turn, passes);
+    let Deck { driver, recorders } = deck;
+    let works = Works {
+        desk,
+        driver,
+        recorders,
+    };
+    (Rig { works, lanes }, ran)
+}
