@@ -22,7 +22,7 @@ use Rattle.cycle_laws.specs.Gears.{Gear}
 use Rattle.cycle_driver.specs.Openings.{playback_format}
 use Rattle.recorder_files.specs.Recorders.{Recording, Stored, held_in, held_or, stored_of}
 use Rattle.session_run.specs.Attaching.{Refuses, Starts, StartsNext}
-use Rattle.session_run.specs.Parts.{Parts, bytes_of, session_of, stores_in}
+use Rattle.session_threads.specs.Parts.{Parts, bytes_of, session_of, stores_in}
 use Rattle.session_run.specs.Standings.{HasFile, IsAttaching, format_at}
 
 -- ---- the driver with its file, or without it

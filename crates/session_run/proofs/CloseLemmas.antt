@@ -18,11 +18,10 @@ use Rattle.run_laws.proofs.PlaceLemmas.{some_at}
 use Rattle.serial_laws.specs.Endings.{Broken, IsBroken, IsFinished, Unfinished}
 use Rattle.serial_laws.specs.Steps.{IsSound}
 use Rattle.session_run.specs.Closings.{Closed, ClosesAll, CloseFails, Failed, Tried}
-use Rattle.session_run.specs.Giving.{reel_of}
-use Rattle.session_run.specs.Parts.{IsLater, Parts, session_of}
-use Rattle.session_run.specs.Standings.{HasOpenFiles}
-use Rattle.session_run.proofs.ReelLemmas.{may-give}
-use Rattle.session_run.proofs.RingLemmas.{AreEach, IsLeft, each-none, each-set}
+use Rattle.session_threads.specs.Giving.{reel_of}
+use Rattle.session_threads.specs.Parts.{HasOpenFiles, IsLater, Parts, session_of}
+use Rattle.session_threads.proofs.ReelLemmas.{may-give}
+use Rattle.session_threads.proofs.RingLemmas.{AreEach, IsLeft, each-none, each-set}
 use Rattle.session_run.proofs.ToldLemmas.{both-err, on-ok}
 
 pub failed-giving : (capacity : ℕ) (ring ring_after : Sending) (recording after : Recording) (tape tape_after : Tape) → recording.tape ≡ Some tape → after.tape ≡ Some tape_after

@@ -29,12 +29,12 @@ use Rattle.serial_laws.specs.Endings.{EndFails, EndTried, EndsAll, EndsOne, Fini
 use Rattle.serial_laws.specs.Steps.{IsReel, IsSound}
 use Rattle.session_run.specs.Closings.{CloseFails, Closed, ClosesAll, Failed, PlaybackCloses, Tried}
 use Rattle.session_run.specs.Endings.{StopsInOrder}
-use Rattle.session_run.specs.Giving.{reel_of}
-use Rattle.session_run.specs.Parts.{AreLater, IsLater, OneRose, Parts, bytes_of, session_of, stores_in, told_of}
-use Rattle.session_run.specs.Standings.{HasEnded, HasOpenFiles, HasRun}
+use Rattle.session_threads.specs.Giving.{reel_of}
+use Rattle.session_threads.specs.Parts.{AreLater, HasOpenFiles, IsLater, OneRose, Parts, bytes_of, session_of, stores_in, told_of}
+use Rattle.session_run.specs.Standings.{HasEnded, HasRun}
 use Rattle.session_run.proofs.CloseLemmas.{as-many-rings}
-use Rattle.session_run.proofs.ReelLemmas.{recording-of}
-use Rattle.session_run.proofs.StoreLemmas.{HeldLater, RecordersLater, held_same, parts-later, parts-rose, playback-rose}
+use Rattle.session_threads.proofs.ReelLemmas.{recording-of}
+use Rattle.session_threads.proofs.StoreLemmas.{HeldLater, RecordersLater, held_same, parts-later, parts-rose, playback-rose}
 
 -- the driver behind its end: other rings, and another playback
 abbrev pub geared : Gear → List Sending → Option Tape → Gear

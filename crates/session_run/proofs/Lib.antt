@@ -1,8 +1,3 @@
-pub mod StoreLemmas
-pub mod RingLemmas
-pub mod ReelLemmas
-pub mod StayLemmas
-pub mod StepLemmas
 pub mod PairLemmas
 pub mod OpeningLemmas
 pub mod AttachLemmas
@@ -13,8 +8,5 @@ pub mod TakeLemmas
 pub mod KindLemmas
 pub mod MeterLemmas
 pub mod ReportLemmas
-pub mod TurningLemmas
-pub mod TellLemmas
-pub mod SegmentLemmas
 pub mod PhaseLemmas
 pub mod RunningLemmas

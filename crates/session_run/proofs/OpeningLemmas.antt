@@ -22,7 +22,7 @@ use Rattle.recorder_files.specs.Recorders.{Recording, Stored, held_in, held_or}
 use Rattle.cycle_laws.specs.Gears.{Gear, IsServed, driver_of}
 use Rattle.run_laws.specs.Sessions.{IsOne}
 use Rattle.serial_laws.specs.Openings.{bare}
-use Rattle.session_run.specs.Parts.{Parts, session_of, stores_in}
+use Rattle.session_threads.specs.Parts.{Parts, session_of, stores_in}
 use Rattle.session_run.specs.Standings.{IsAttaching}
 use Rattle.session_run.proofs.PairLemmas.{IsBare, IsOver, opened-at}
 

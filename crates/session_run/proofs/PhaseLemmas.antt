@@ -28,14 +28,13 @@ use Rattle.run_laws.specs.SerialRuns.{RingSerial, SerialAt, SerialBehind, Serial
 use Rattle.run_laws.specs.Sessions.{Session}
 use Rattle.serial_laws.specs.Faults.{StandsInSerial, TurnFails, told}
 use Rattle.serial_laws.specs.Steps.{AreExact, Begun, IsSound, KeepsOwn, Turned}
-use Rattle.session_run.specs.Insides.{Stays, parts_of, seen}
-use Rattle.session_run.specs.Parts.{session_of, told_of}
-use Rattle.session_run.specs.Standings.{HasOpenFiles}
-use Rattle.session_run.specs.declared.works.Works.{Works}
-use Rattle.session_run.proofs.StayLemmas.{reading_same, stays-met, stays-trans}
-use Rattle.session_run.proofs.StoreLemmas.{HeldLater, held_same}
-use Rattle.session_run.proofs.TellLemmas.{told-agrees}
-use Rattle.session_run.proofs.TurningLemmas.{IsNext, stays-cycled, with_driver}
+use Rattle.session_threads.specs.Insides.{Stays, parts_of, seen}
+use Rattle.session_threads.specs.Parts.{HasOpenFiles, session_of, told_of}
+use Rattle.session_threads.specs.declared.works.Works.{Works}
+use Rattle.session_threads.proofs.StayLemmas.{reading_same, stays-met, stays-trans}
+use Rattle.session_threads.proofs.StoreLemmas.{HeldLater, held_same}
+use Rattle.session_threads.proofs.TellLemmas.{told-agrees}
+use Rattle.session_threads.proofs.TurningLemmas.{IsNext, stays-cycled, with_driver}
 
 -- ---- the period that is set
 

@@ -26,8 +26,8 @@ use Rattle.task_laws.specs.Calls.{IsOldKind, open_kinds}
 use Rattle.report_lines.specs.Outputs.{cycles_of, text_of}
 use Rattle.report_lines.proofs.PutLemmas.{first_last}
 use Rattle.recorder_files.specs.Recorders.{Recording}
-use Rattle.session_run.specs.Insides.{seen}
-use Rattle.session_run.specs.declared.works.Works.{Works}
+use Rattle.session_threads.specs.Insides.{seen}
+use Rattle.session_threads.specs.declared.works.Works.{Works}
 use Rattle.session_run.proofs.KindLemmas.{no-events}
 use Rattle.session_run.proofs.MeterLemmas.{cycles-below, recorder_item}
 

@@ -29,11 +29,11 @@ use Rattle.run_laws.proofs.PlaceLemmas.{mapped_there, some_at}
 use Rattle.serial_laws.specs.Faults.{StandsInSerial}
 use Rattle.serial_laws.specs.Openings.{AreFresh, bare}
 use Rattle.serial_laws.specs.Steps.{IsSound}
-use Rattle.session_run.specs.Insides.{Stays, parts_of, seen}
-use Rattle.session_run.specs.Parts.{Parts, bytes_of, session_of, told_of}
-use Rattle.session_run.specs.Standings.{HasOpenFiles, IsBegun, IsReady}
-use Rattle.session_run.specs.declared.works.Works.{Works}
-use Rattle.session_run.proofs.ReelLemmas.{all-there, picked_from}
+use Rattle.session_threads.specs.Insides.{Stays, parts_of, seen}
+use Rattle.session_threads.specs.Parts.{HasOpenFiles, Parts, bytes_of, session_of, told_of}
+use Rattle.session_run.specs.Standings.{IsBegun, IsReady}
+use Rattle.session_threads.specs.declared.works.Works.{Works}
+use Rattle.session_threads.proofs.ReelLemmas.{all-there, picked_from}
 
 pub on-ok_all : {T E : Type 0} (r : Result T E) {P Q R K : Type 0} → (P → Q → R → K) → OnOk r P → OnOk r Q → OnOk r R → OnOk r K
 on-ok_all (Ok x) f p q k = f p q k

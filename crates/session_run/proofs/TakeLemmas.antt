@@ -31,7 +31,7 @@ use Rattle.recorder_files.specs.Recorders.{Recording, Stored, held_in, held_or, 
 use Rattle.run_laws.specs.Runs.{RanPhases}
 use Rattle.run_laws.specs.Sessions.{IsOne, Session}
 use Rattle.run_laws.specs.Told.{events_from, meters_from, report_in, text_in}
-use Rattle.session_run.specs.Parts.{Parts, session_of, stores_in}
+use Rattle.session_threads.specs.Parts.{Parts, session_of, stores_in}
 use Rattle.session_run.specs.Standings.{HasEnded}
 use Rattle.session_run.specs.Takings.{stores_of}
 use Rattle.session_run.proofs.EndLemmas.{has-ended}

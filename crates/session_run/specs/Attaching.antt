@@ -7,7 +7,7 @@ use Rattle.jack_types.specs.declared.files.Format.{Format}
 use Rattle.jack_host.specs.Causes.{Rose}
 use Rattle.wave_write.specs.Tapes.{IsCut, Tape}
 use Rattle.recorder_files.specs.Recorders.{Stored}
-use Rattle.session_run.specs.Parts.{Parts, stores_in}
+use Rattle.session_threads.specs.Parts.{Parts, stores_in}
 use Rattle.session_run.specs.Standings.{IsAttaching, IsBegun, format_next}
 
 pub record Starts (format : Format) (given : Stored) (tape : Tape) : Type 0 where

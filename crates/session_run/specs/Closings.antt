@@ -11,8 +11,8 @@ use Rattle.wave_write.specs.Tapes.{Tape}
 use Rattle.recorder_files.specs.Recorders.{Recording, Stored, held_in, stored_of}
 use Rattle.serial_laws.specs.Endings.{EndTried, IsBroken, IsFinished}
 use Rattle.session_run.specs.Endings.{FinishesOne}
-use Rattle.session_run.specs.Giving.{reel_of}
-use Rattle.session_run.specs.Parts.{IsLater, Parts}
+use Rattle.session_threads.specs.Giving.{reel_of}
+use Rattle.session_threads.specs.Parts.{IsLater, Parts}
 
 pub record Closed (capacity : ℕ) (ring : Sending) (recording : Recording) (ring_after : Sending) (after : Recording) : Type 0 where
   pub finishes : FinishesOne capacity ring recording ring_after after

@@ -6,7 +6,7 @@ use Rattle.record_ring.specs.Rings.{Sending}
 use Rattle.wave_write.specs.Tapes.{Tape}
 use Rattle.recorder_files.specs.Recorders.{Recording, Stored}
 use Rattle.serial_laws.specs.Endings.{EndsOne}
-use Rattle.session_run.specs.Parts.{Parts}
+use Rattle.session_threads.specs.Parts.{Parts}
 
 pub record FinishesOne (capacity : ℕ) (ring : Sending) (recording : Recording) (ring_after : Sending) (after : Recording) : Type 0 where
   -- the file that it had in the making

@@ -1,9 +1,5 @@
-pub mod Parts
 pub mod Standings
 pub mod Attaching
-pub mod Insides
-pub mod Giving
 pub mod Endings
 pub mod Closings
-pub mod Turnings
 pub mod Takings

@@ -17,7 +17,7 @@ use Rattle.run_laws.specs.Sessions.{Session}
 use Rattle.run_laws.specs.Told.{IsNew}
 use Rattle.serial_laws.specs.Openings.{AreFresh, bare}
 use Rattle.serial_laws.specs.Steps.{IsSound}
-use Rattle.session_run.specs.Parts.{Parts, session_of}
+use Rattle.session_threads.specs.Parts.{HasOpenFiles, Parts, session_of}
 
 -- a file of this format without samples
 pub record IsBegun (format : Format) (tape : Tape) : Type 0 where
@@ -33,7 +33,6 @@ pub record HasFile (place attached : ℕ) (format : Format) (file : Option Tape)
 -- the playback is at place 0, and recorder i at place i + 1
 pub record IsAttaching (parts : Parts) : Type 0 where
   pub served : IsServed parts.gear.script
-  pub serial : IsNone parts.gear.script.header.threads
   pub new : IsNew (bare (session_of parts))
   pub fresh : AreFresh (session_of parts)
   pub formats : map (λ (r : Recording). r.format) parts.recorders ≡ parts.gear.script.header.recorders
@@ -54,16 +53,11 @@ format_next parts = format_at parts.attached parts
 abbrev pub IsReady : Parts → Type 0
 IsReady parts = IsAttaching parts × (parts.attached ≡ suc (length parts.recorders))
 
--- no recorder lacks its file in the making, and no store came back
-pub record HasOpenFiles (parts : Parts) : Type 0 where
-  pub tapes : (i : ℕ) (r : Recording) → slice_get parts.recorders i ≡ Some r → (tape : Tape) × (r.tape ≡ Some tape)
-  pub no_playback : parts.playback ≡ None
-  pub no_stores : All (λ (r : Recording). r.store ≡ None) parts.recorders
-
 pub record HasRun (parts : Parts) : Type 0 where
   pub served : IsServed parts.gear.script
   pub sound : IsSound (session_of parts)
-  pub behind : SerialBehind (session_of parts) (length (phases parts.gear.script))
+  pub ran : RanPhases (session_of parts) (length (phases parts.gear.script))
+  pub serial : IsNone parts.gear.script.header.threads → SerialBehind (session_of parts) (length (phases parts.gear.script))
   pub files : HasOpenFiles parts
 
 pub record HasEnded (parts : Parts) : Type 0 where

@@ -6,12 +6,12 @@ ghost use Rattle.record_ring.specs.Rings.{IsPair};
 ghost use Rattle.serial_laws.specs.Steps.{IsSound};
 ghost use Rattle.recorder_files.specs.Recorders.{Recording, Stored};
 ghost use Rattle.session_run.specs.Closings.{CloseFails, Closed, ClosesAll, Failed, PlaybackCloses};
-ghost use Rattle.session_run.specs.Insides.{parts_of, seen};
+ghost use Rattle.session_threads.specs.Insides.{parts_of, seen};
 ghost use Rattle.session_run.specs.Takings.{stores_of};
-ghost use Rattle.session_run.specs.Standings.{HasOpenFiles};
+ghost use Rattle.session_threads.specs.Parts.{HasOpenFiles};
 ghost use Rattle.wave_write.specs.Tapes.{Tape};
 
-use crate::works::Works;
+use session_threads::Works;
 use client_kinds::Guest;
 use cycle_driver::Driver;
 use jack_host::{Source, Store, WriteFailed};

@@ -1,29 +1,30 @@
 //! How a session ends, and how its stores and its capture come out.
 
 use crate::closing::{close_playback, close_recorders, take_recorded};
-use crate::faults::SessionFault;
+use session_threads::{Rig, SessionFault};
 use crate::session::Session;
 use client_kinds::Guest;
 use control_desk::Desk;
 use cycle_driver::Driver;
 use jack_host::{Source, Store};
-use run_laws::serial::all_phases_end;
 use serial_laws::endings::an_end_is_whole;
 use serial_laws::faults::an_end_that_fails_leaves_fronts;
 use wave_pcm::Wave;
 
 impl<S: Source, W: Store, G: Guest> Session<S, W, G> {
-    ghost use Rattle.std.specs.Prelude.{◌≡◌, ◌∷◌, [], Err, IfNone, IfSome, OnErr, OnOk, false, length};
+    ghost use Rattle.std.specs.Prelude.{◌≡◌, ◌∷◌, [], Err, IfNone, IfSome, IsNone, IsSome, OnErr, OnOk, false, length};
     ghost use Rattle.session_model.specs.Explanations.{Given};
     ghost use Rattle.session_model.specs.Scripts.{phases};
+    ghost use Rattle.cycle_laws.specs.Gears.{driver_of};
+    ghost use Rattle.driver_laws.specs.Drivers.{run};
     ghost use Rattle.run_laws.specs.Runs.{AtPhase};
     ghost use Rattle.run_laws.specs.SerialRuns.{SerialKept};
-    ghost use Rattle.run_laws.specs.Told.{Ends, text_in};
+    ghost use Rattle.run_laws.specs.Told.{Ends, StandsSoFar, text_in};
     ghost use Rattle.serial_laws.specs.Faults.{StandsInSerial};
     ghost use Rattle.session_run.specs.Endings.{StopsInOrder};
-    ghost use Rattle.session_run.specs.Parts.{AreLater, OneRose, session_of, stores_in, told_of};
+    ghost use Rattle.session_threads.specs.Parts.{AreLater, OneRose, session_of, stores_in, told_of};
     ghost use Rattle.session_run.specs.Standings.{HasEnded, HasRun};
-    ghost use Rattle.session_run.specs.declared.faults.SessionFault.TheVariants.{Write};
+    ghost use Rattle.session_threads.specs.declared.faults.SessionFault.TheVariants.{Write};
 
     /// Empties the rings and finishes the files: the recorders' in order, and then the playback's. Behind a fault, which is
     /// always `Write`, each store has a front of its file, and only `take_store` and `into_capture` may be called.
@@ -32,7 +33,8 @@ impl<S: Source, W: Store, G: Guest> Session<S, W, G> {
         ensures ends { OnOk result ((given : Given) → AtPhase (session_of self.old) given (length (phases self.old.gear.script)) → Ends given (session_of self.old) (session_of self.new)) }
         ensures ended { OnOk result (HasEnded self.new) }
         ensures told { OnOk result (told_of self.new ≡ session_of self.new) }
-        ensures fault { OnErr result ((given : Given) → SerialKept given (session_of self.old) → StandsInSerial given (told_of self.new)) }
+        ensures fault { IsNone self.old.gear.script.header.threads → OnErr result ((given : Given) → SerialKept given (session_of self.old) → StandsInSerial given (told_of self.new)) }
+        ensures so_far { IsSome self.old.gear.script.header.threads → OnErr result ((given : Given) → AtPhase (session_of self.old) given (length (phases self.old.gear.script)) → StandsSoFar (run (driver_of self.old.gear)) (told_of self.new) given) }
         ensures stores { AreLater (stores_in self.old) (stores_in self.new) }
         ensures write { OnErr result (result ≡ Err Write) }
         ensures cause { OnErr result (OneRose (stores_in self.old) (stores_in self.new)) }
@@ -43,11 +45,11 @@ impl<S: Source, W: Store, G: Guest> Session<S, W, G> {
     {
         an_end_is_whole();
         an_end_that_fails_leaves_fronts();
-        all_phases_end();
-        if close_recorders(&mut self.works, self.limits.ring).is_err() {
+        thread_faults::faults::an_end_that_fails_leaves_fronts();
+        if close_recorders(&mut self.rig.works, self.limits.ring).is_err() {
             return Err(SessionFault::Write);
         }
-        if close_playback(&mut self.works.driver, &mut self.playback).is_err() {
+        if close_playback(&mut self.rig.works.driver, &mut self.playback).is_err() {
             return Err(SessionFault::Write);
         }
         Ok(())
@@ -57,14 +59,14 @@ impl<S: Source, W: Store, G: Guest> Session<S, W, G> {
     pub fn desk(&self) -> &Desk
         ensures { result.now ≡ self.now.desk }
     {
-        &self.works.desk
+        &self.rig.works.desk
     }
 
     /// The driver, whose numbers, moments, overruns and peaks the report prints.
     pub fn driver(&self) -> &Driver<S, W, G>
         ensures { result.now ≡ self.now.gear }
     {
-        &self.works.driver
+        &self.rig.works.driver
     }
 
     /// Takes the next store out, in the order of attaching, None exactly behind the last.
@@ -75,7 +77,7 @@ impl<S: Source, W: Store, G: Guest> Session<S, W, G> {
         ensures ended { HasEnded self.old → HasEnded self.new }
         ensures capture { self.new.gear.capture ≡ self.old.gear.capture }
     {
-        let file = self.works.driver.close();
+        let file = self.rig.works.driver.close();
         let store = self.playback.take();
         if let Some(file) = file {
             return Some(file.stop());
@@ -83,7 +85,7 @@ impl<S: Source, W: Store, G: Guest> Session<S, W, G> {
         if let Some(store) = store {
             return Some(store);
         }
-        take_recorded(&mut self.works.recorders)
+        take_recorded(&mut self.rig.works.recorders)
     }
 
     /// The capture, as far as it was read. Where no cycle failed, none of its reads did.
@@ -91,7 +93,7 @@ impl<S: Source, W: Store, G: Guest> Session<S, W, G> {
         ensures reading { result ≡ self.gear.capture.reading }
         ensures sound { self.gear.failed ≡ false → result.failed ≡ false }
     {
-        let works = self.works;
+        let Rig { works, .. } = self.rig;
         works.driver.into_capture()
     }
 }

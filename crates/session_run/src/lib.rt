@@ -1,9 +1,8 @@
-//! A session in serial mode: its phases, its files and its report.
+//! A session: its phases in serial mode or with threads, its files and its report.
 #![tactic(auto)]
 
 mod closing;
 mod ending;
-mod faults;
 mod opening;
 mod phases;
 mod reporting;
@@ -11,7 +10,6 @@ mod running;
 mod session;
 mod steps;
 mod turning;
-mod works;
 
-pub use faults::SessionFault;
 pub use session::Session;
+pub use session_threads::SessionFault;

@@ -11,10 +11,7 @@ ghost use Rattle.recorder_rings.specs.Sending.{ring_at};
 ghost use Rattle.cycle_laws.specs.Gears.{IsServed};
 ghost use Rattle.recorder_files.specs.Recorders.{Recording};
 
-use crate::faults::SessionFault;
 use crate::session::Session;
-use crate::turning::Limits;
-use crate::works::Works;
 use client_kinds::Guest;
 use control_desk::Desk;
 use cycle_driver::Driver;
@@ -26,6 +23,7 @@ use recorder_files::Recorder;
 use script_needs::greatest_period;
 use script_segments::segments;
 use session_script::Script;
+use session_threads::{Lanes, Limits, Rig, SessionFault, Works};
 use std::alloc::Global;
 use wave_pcm::Wave;
 
@@ -93,20 +91,20 @@ fn make_recorders<S: Source, W: Store, G: Guest>(
 }
 
 impl<S: Source, W: Store, G: Guest> Session<S, W, G> {
-    ghost use Rattle.std.specs.Prelude.{◌≡◌, ◌≤◌, ◌++◌, ◌∷◌, [], Err, IfErr, IfOk, IfSome, IsFalse, IsNone, IsTrue, None, OnErr, OnOk, Some, false, is_some, length, map, slice_get, slice_set, suc};
+    ghost use Rattle.std.specs.Prelude.{◌≡◌, ◌≤◌, ◌++◌, ◌∷◌, [], Err, IfErr, IfOk, IfSome, IsFalse, IsTrue, None, OnErr, OnOk, Some, false, is_some, length, map, slice_get, slice_set, suc};
     ghost use Rattle.std.specs.Option.{ForSome};
     ghost use Rattle.jack_host.specs.Causes.{Rose};
     ghost use Rattle.cycle_laws.specs.Gears.{IsServed};
     ghost use Rattle.task_laws.specs.Calls.{guests_needed};
     ghost use Rattle.recorder_files.specs.Recorders.{Recording, Stored};
     ghost use Rattle.wave_write.specs.Tapes.{IsCut, Tape};
-    ghost use Rattle.session_run.specs.Parts.{stores_in};
+    ghost use Rattle.session_threads.specs.Parts.{stores_in};
     ghost use Rattle.session_model.specs.WaveFiles.{IsFormat};
     ghost use Rattle.cycle_driver.specs.Openings.{playback_format};
     ghost use Rattle.session_run.specs.Attaching.{Refuses, Starts, StartsNext};
     ghost use Rattle.session_run.specs.Standings.{IsAttaching, format_next};
 
-    /// A session of a script in serial mode, with these guests, over a capture of the script's channels of which nothing was
+    /// A session of a script, with these guests, over a capture of the script's channels of which nothing was
     /// read. All memory is taken here; where it lacks, the capture comes back.
     pub fn new(
         alloc: Global,
@@ -115,7 +113,6 @@ impl<S: Source, W: Store, G: Guest> Session<S, W, G> {
         guests: Vec<G>,
     ) -> Result<Session<S, W, G>, (Wave<S>, Memory)>
         requires served { IsServed script.now }
-        requires serial { IsNone script.now.header.threads }
         requires capture { (capture.format.channels ≡ script.now.header.capture) × (capture.failed ≡ false) }
         requires guests { guests_needed script.now ≤ length guests.items }
         ensures new { IfOk result (λ session. IsAttaching session × (session.attached ≡ 0) × (stores_in session ≡ [])) }
@@ -134,6 +131,10 @@ impl<S: Source, W: Store, G: Guest> Session<S, W, G> {
             Ok(made) => made,
             Err(memory) => return Err((capture, memory)),
         };
+        let lanes = match Lanes::new(alloc) {
+            Ok(made) => made,
+            Err(memory) => return Err((capture, memory)),
+        };
         let mut driver = Driver::new(alloc, script, reader, capture, guests)?;
         match make_recorders(alloc, script, &mut driver) {
             Ok(recorders) => Ok(Session {
@@ -142,11 +143,15 @@ impl<S: Source, W: Store, G: Guest> Session<S, W, G> {
                     ring: header.ring,
                     drain: header.drain,
                 },
-                works: Works {
-                    desk,
-                    driver,
-                    recorders,
+                rig: Rig {
+                    works: Works {
+                        desk,
+                        driver,
+                        recorders,
+                    },
+                    lanes,
                 },
+                is_serial: header.threads.is_none(),
                 playback: None,
                 attached: 0,
             }),
@@ -196,7 +201,7 @@ impl<S: Source, W: Store, G: Guest> Session<S, W, G> {
         ensures kept { IsFalse result → (back : Stored) × Refuses (playback_format self.old.gear.script) (record { name = W.name store; bytes = W.content store; faults = W.faults store }) back
             × (self.new ≡ record self.old { playback = Some back }) }
     {
-        match self.works.driver.attach(store) {
+        match self.rig.works.driver.attach(store) {
             Ok(()) => true,
             Err((store, _)) => {
                 self.playback = Some(store);
@@ -214,6 +219,6 @@ impl<S: Source, W: Store, G: Guest> Session<S, W, G> {
         ensures kept { IsFalse result → (r : Recording) → slice_get self.old.recorders recorder ≡ Some r → (back : Stored) × Refuses r.format (record { name = W.name store; bytes = W.content store; faults = W.faults store }) back
             × (self.new ≡ record self.old { recorders = slice_set self.old.recorders recorder (record r { store = Some back }) }) }
     {
-        self.works.recorders[recorder].attach(store).is_ok()
+        self.rig.works.recorders[recorder].attach(store).is_ok()
     }
 }

@@ -1,4 +1,4 @@
-//! The phases of a session's run.
+//! The phases of a session's run in serial mode.
 
 ghost use Rattle.std.specs.Prelude.{◌≡◌, ◌<◌, ◌≤◌, IsErrOf, OnErr, OnOk, Some, length, slice_get, suc};
 ghost use Rattle.jack_host.specs.Causes.{Rose};
@@ -9,14 +9,11 @@ ghost use Rattle.run_laws.specs.SerialRuns.{SerialBehind, SerialKept};
 ghost use Rattle.script_segments.specs.Segments.{segments as the_segments};
 ghost use Rattle.serial_laws.specs.Faults.{StandsInSerial};
 ghost use Rattle.serial_laws.specs.Steps.{IsSound};
-ghost use Rattle.session_run.specs.Insides.{Stays, held, parts_of, seen};
-ghost use Rattle.session_run.specs.Parts.{OneRose, told_of};
-ghost use Rattle.session_run.specs.Standings.{HasOpenFiles};
+ghost use Rattle.session_threads.specs.Insides.{Stays, held, parts_of, seen};
+ghost use Rattle.session_threads.specs.Parts.{HasOpenFiles, OneRose, told_of};
 
-use crate::faults::SessionFault;
 use crate::steps::begin;
-use crate::turning::{Limits, turn};
-use crate::works::Works;
+use crate::turning::turn;
 use client_kinds::Guest;
 use jack_host::{Gate, Source, Store};
 use run_laws::serial::a_phase_ends;
@@ -26,6 +23,7 @@ use serial_laws::cycles::{a_cycle_goes_on, a_phase_begins};
 use serial_laws::faults::a_turn_that_fails_leaves_fronts;
 use serial_laws::numbers::cycles_of_a_phase;
 use serial_laws::parts::{a_turn_leaves_the_parts, desks_leave_the_parts};
+use session_threads::{Limits, SessionFault, Works};
 use std::thread::Threads;
 
 /// Runs a phase: its `do` calls, and the cycles of its segment with the lanes' rounds around them.
@@ -49,7 +47,7 @@ pub(crate) fn run_phase<S: Source, W: Store, G: Guest + Send, T: Threads + Sync,
     ensures behind { OnOk result (SerialBehind (seen works.new) (suc phase)) }
     ensures kept { OnOk result ((given : Given) → SerialKept given (seen works.old) → SerialKept given (seen works.new)) }
     ensures fault { OnErr result ((given : Given) → SerialKept given (seen works.old) → StandsInSerial given (told_of (parts_of works.new))) }
-    ensures stays { Stays works.old works.new }
+    ensures stays { Stays (parts_of works.old) (parts_of works.new) }
     ensures read { IsErrOf result SessionFault.Read → Rose works.old.driver.capture.reading.faults works.new.driver.capture.reading.faults }
     ensures write { IsErrOf result SessionFault.Write → OneRose (held works.old) (held works.new) }
 {
@@ -87,7 +85,7 @@ pub(crate) fn run_phases<S: Source, W: Store, G: Guest + Send, T: Threads + Sync
     ensures behind { OnOk result (SerialBehind (seen works.new) (length (the_phases works.new.driver.script))) }
     ensures kept { OnOk result ((given : Given) → SerialKept given (seen works.old) → SerialKept given (seen works.new)) }
     ensures fault { OnErr result ((given : Given) → SerialKept given (seen works.old) → StandsInSerial given (told_of (parts_of works.new))) }
-    ensures stays { Stays works.old works.new }
+    ensures stays { Stays (parts_of works.old) (parts_of works.new) }
     ensures read { IsErrOf result SessionFault.Read → Rose works.old.driver.capture.reading.faults works.new.driver.capture.reading.faults }
     ensures write { IsErrOf result SessionFault.Write → OneRose (held works.old) (held works.new) }
 {

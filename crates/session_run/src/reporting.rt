@@ -11,11 +11,11 @@ ghost use Rattle.report_lines.specs.Outputs.{overruns_on, text_of};
 ghost use Rattle.cycle_laws.specs.Gears.{IsServed, driver_of};
 ghost use Rattle.run_laws.specs.Sessions.{IsOne};
 ghost use Rattle.run_laws.specs.Told.{meters_from, text_in};
-ghost use Rattle.session_run.specs.Insides.{seen};
+ghost use Rattle.session_threads.specs.Insides.{seen};
 ghost use Rattle.recorder_files.specs.Recorders.{Recording};
 
 use crate::session::Session;
-use crate::works::Works;
+use session_threads::Works;
 use client_kinds::Guest;
 use control_desk::laws::accepted_of_legal;
 use cycle_driver::Driver;
@@ -104,7 +104,7 @@ impl<S: Source, W: Store, G: Guest> Session<S, W, G> {
     ghost use Rattle.jack_host.specs.Bytes.{Puts};
     ghost use Rattle.jack_host.specs.Causes.{HasCause};
     ghost use Rattle.run_laws.specs.Told.{text_in};
-    ghost use Rattle.session_run.specs.Parts.{session_of};
+    ghost use Rattle.session_threads.specs.Parts.{session_of};
     ghost use Rattle.session_run.specs.Standings.{HasEnded};
 
     /// Puts the report: the calls with their replies, the cycles with the number of changes that each used and the transport,
@@ -114,7 +114,7 @@ impl<S: Source, W: Store, G: Guest> Session<S, W, G> {
         ensures puts { Puts (K.content out.old) (K.content out.new) result (text_in (session_of self.now)) }
         ensures cause { HasCause (K.faults out.old) (K.faults out.new) result }
     {
-        match put_report(out, &self.works) {
+        match put_report(out, &self.rig.works) {
             Ok(()) => Ok(()),
             Err(_) => Err(WriteFailed),
         }

@@ -1,6 +1,6 @@
 use Rattle.std.proofs.Common.{◌≡◌, length}
 use Rattle.session_run.proofs.CloseLemmas.{ClosedUpTo}
-use Rattle.session_run.proofs.RingLemmas.{AreEach}
+use Rattle.session_threads.proofs.RingLemmas.{AreEach}
 use Rattle.session_run.proofs.closing.close_recorders.Given as goal
 
 abbrev pub invariant-loop-recorder : goal.invariant-loop-recorder

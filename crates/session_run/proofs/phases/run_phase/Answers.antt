@@ -1,10 +1,10 @@
 use Rattle.std.proofs.Common.{Err, refl, ◌∙◌, ap, arith}
 use Rattle.session_run.proofs.PhaseLemmas.{next-in, of-phase, phase-begins, phase-ends, phase-fails, phase-keeps, stays-begun, turned-keeps, turned-on}
-use Rattle.session_run.proofs.ReelLemmas.{on-err}
-use Rattle.session_run.proofs.StayLemmas.{stays-trans}
-use Rattle.session_run.proofs.StoreLemmas.{rose-behind}
-use Rattle.session_run.proofs.TurningLemmas.{caught}
-use Rattle.session_run.specs.Insides.{held}
+use Rattle.session_threads.proofs.ReelLemmas.{on-err}
+use Rattle.session_threads.proofs.StayLemmas.{stays-trans}
+use Rattle.session_threads.proofs.StoreLemmas.{rose-behind}
+use Rattle.session_threads.proofs.TurningLemmas.{caught}
+use Rattle.session_threads.specs.Insides.{held}
 use Rattle.session_run.proofs.phases.run_phase.Goals as goal
 
 pub loop-init : goal.loop-init

@@ -1,7 +1,7 @@
 use Rattle.std.proofs.Common.{◌≤◌}
 use Rattle.session_model.specs.Explanations.{Given}
 use Rattle.run_laws.specs.SerialRuns.{SerialKept}
-use Rattle.session_run.specs.Insides.{Stays, seen}
+use Rattle.session_threads.specs.Insides.{Stays, seen}
 use Rattle.session_run.proofs.PhaseLemmas.{InPhase}
 use Rattle.session_run.proofs.phases.run_phase.Given as goal
 

@@ -2,11 +2,11 @@ use Rattle.std.proofs.Common.{◌≡◌, ◌+◌, suc, false, Err, sym, ◌∙�
 use Rattle.control_desk.specs.Desks.{cycles_before}
 use Rattle.session_model.specs.Scripts.{Script}
 use Rattle.run_laws.specs.SerialRuns.{SerialBehind}
-use Rattle.session_run.proofs.SegmentLemmas.{base-next, base-small, place_fits, segment_there}
-use Rattle.session_run.proofs.StayLemmas.{stays-trans}
-use Rattle.session_run.proofs.StoreLemmas.{rose-behind}
-use Rattle.session_run.proofs.TurningLemmas.{caught}
-use Rattle.session_run.specs.Insides.{held, seen}
+use Rattle.session_threads.proofs.SegmentLemmas.{base-next, base-small, place_fits, segment_there}
+use Rattle.session_threads.proofs.StayLemmas.{stays-trans}
+use Rattle.session_threads.proofs.StoreLemmas.{rose-behind}
+use Rattle.session_threads.proofs.TurningLemmas.{caught}
+use Rattle.session_threads.specs.Insides.{held, seen}
 use Rattle.session_run.proofs.phases.run_phases.Goals as goal
 
 pub overflow_cast-phase : goal.overflow_cast-phase

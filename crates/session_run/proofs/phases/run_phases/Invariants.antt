@@ -3,7 +3,7 @@ use Rattle.control_desk.specs.Desks.{cycles_before}
 use Rattle.session_model.specs.Explanations.{Given}
 use Rattle.run_laws.specs.SerialRuns.{SerialBehind, SerialKept}
 use Rattle.serial_laws.specs.Steps.{IsSound}
-use Rattle.session_run.specs.Insides.{Stays, seen}
+use Rattle.session_threads.specs.Insides.{Stays, seen}
 use Rattle.session_run.proofs.phases.run_phases.Given as goal
 
 abbrev pub invariant-loop-phase : goal.invariant-loop-phase

@@ -2,7 +2,7 @@ use Rattle.std.proofs.Common.{◌∙◌, refl}
 use Rattle.session_model.specs.Reports.{Report}
 use Rattle.report_lines.proofs.PutLemmas.{first_cut, first_last}
 use Rattle.run_laws.specs.Told.{report_in}
-use Rattle.session_run.specs.Insides.{seen}
+use Rattle.session_threads.specs.Insides.{seen}
 use Rattle.session_run.proofs.ReportLemmas.{behind_calls, behind_cycles, behind_meters, calls-put, calls_text, cause-cut, cause-later, cycles-put, cycles_text, last, meters-put, meters_text, recorders-put, recorders_text, text-put, title}
 use Rattle.session_run.proofs.reporting.put_report.Goals as goal
 

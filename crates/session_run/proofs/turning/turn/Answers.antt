@@ -1,6 +1,6 @@
-use Rattle.session_run.proofs.StayLemmas.{stays-met, stays-trans}
-use Rattle.session_run.proofs.TurningLemmas.{turn-fails}
-use Rattle.session_run.specs.Insides.{seen}
+use Rattle.session_threads.proofs.StayLemmas.{stays-met, stays-trans}
+use Rattle.session_threads.proofs.TurningLemmas.{turn-fails}
+use Rattle.session_threads.specs.Insides.{seen}
 use Rattle.session_run.proofs.turning.turn.Goals as goal
 
 pub returns-in-Err-clause-failed : goal.returns-in-Err-clause-failed

@@ -5,8 +5,8 @@ use Rattle.cycle_laws.specs.Gears.{Gear}
 use Rattle.recorder_files.specs.Recorders.{Stored}
 use Rattle.serial_laws.specs.Endings.{EndsAll, IsBroken, IsFinished}
 use Rattle.session_run.specs.Closings.{CloseFails, ClosesAll}
-use Rattle.session_run.specs.Insides.{parts_of}
-use Rattle.session_run.specs.Parts.{Parts, session_of, told_of}
+use Rattle.session_threads.specs.Insides.{parts_of}
+use Rattle.session_threads.specs.Parts.{Parts, session_of, told_of}
 use Rattle.session_run.proofs.EndLemmas.{ClosingFailed, PlaybackEnded, closing-failed, closing-fails, ends-all, has-ended, playback-ended, playback-fails, rose-playback, rose-tried, stops-playback, stops-recorder, stores-closed, stores-tried, told-closed}
 use Rattle.session_run.proofs.ToldLemmas.{err-held, ok-held}
 use Rattle.session_run.proofs.session.Session.end.Goals as goal

@@ -1,5 +1,5 @@
 use Rattle.std.proofs.Common.{◌∙◌, ap}
-use Rattle.session_run.specs.Parts.{Parts}
+use Rattle.session_threads.specs.Parts.{Parts}
 use Rattle.session_run.proofs.session.Session.into_capture.Goals as goal
 
 pub returns-clause-sound : goal.returns-clause-sound

@@ -3,7 +3,7 @@ use Rattle.graph_word.specs.Publications.{IsOpening as IsPublication, Reading}
 use Rattle.session_model.specs.Scripts.{Script}
 use Rattle.control_desk.specs.Desks.{base_of}
 use Rattle.cycle_laws.specs.Gears.{Gear}
-use Rattle.session_run.specs.Parts.{stores_in}
+use Rattle.session_threads.specs.Parts.{stores_in}
 use Rattle.session_run.specs.Standings.{IsAttaching}
 use Rattle.session_run.proofs.OpeningLemmas.{IsAttaching-opened, IsOpened, no-stores}
 use Rattle.session_run.proofs.session.Session.new.Goals as goal

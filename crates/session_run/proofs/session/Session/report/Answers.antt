@@ -1,7 +1,7 @@
 use Rattle.std.proofs.Common.{ℕ, ◌≤◌, length, subst, take}
 use Rattle.jack_host.specs.Bytes.{Gains}
 use Rattle.run_laws.specs.Told.{text_in}
-use Rattle.session_run.specs.Parts.{Parts, session_of}
+use Rattle.session_threads.specs.Parts.{Parts, session_of}
 use Rattle.session_run.proofs.session.Session.report.Goals as goal
 
 pub returns-in-Ok-clause-puts : goal.returns-in-Ok-clause-puts

@@ -1,5 +1,5 @@
 use Rattle.std.proofs.lemmas.Result.{on_err_weaker}
-use Rattle.session_run.proofs.ReelLemmas.{on-ok_then}
+use Rattle.session_threads.proofs.ReelLemmas.{on-ok_then}
 use Rattle.session_run.proofs.RunningLemmas.{on-ok_all, ready-behind, ready-files, ready-sound, run-fails, run-kept, run-whole}
 use Rattle.session_run.proofs.session.Session.run.Goals as goal
 

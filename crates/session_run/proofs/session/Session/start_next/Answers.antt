@@ -1,5 +1,5 @@
 use Rattle.std.proofs.Common.{◌≡◌, ◌-◌, sym, ◌∙◌, ap, arith}
-use Rattle.session_run.specs.Parts.{Parts}
+use Rattle.session_threads.specs.Parts.{Parts}
 use Rattle.session_run.proofs.AttachLemmas.{from-playback, from-recorder, may-attach}
 use Rattle.session_run.proofs.session.Session.start_next.Goals as goal
 

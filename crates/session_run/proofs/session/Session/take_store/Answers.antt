@@ -3,8 +3,8 @@ use Rattle.std.specs.Option.{option_map}
 use Rattle.std.proofs.lemmas.Option.{IfSome_then}
 use Rattle.cycle_laws.specs.Gears.{Gear}
 use Rattle.recorder_files.specs.Recorders.{Recording, Stored}
-use Rattle.session_run.specs.Insides.{parts_of}
-use Rattle.session_run.specs.Parts.{Parts, stores_in}
+use Rattle.session_threads.specs.Insides.{parts_of}
+use Rattle.session_threads.specs.Parts.{Parts, stores_in}
 use Rattle.session_run.specs.Takings.{stores_of}
 use Rattle.session_run.proofs.TakeLemmas.{ended-stays, if-none, report-stays, stores-rest}
 use Rattle.session_run.proofs.session.Session.take_store.Goals as goal
