@@ -1,7 +1,7 @@
 //! How a session ends, and how its stores and its capture come out.
 
 use crate::closing::{close_playback, close_recorders, take_recorded};
-use session_threads::{Rig, SessionFault};
+use session_threads::SessionFault;
 use crate::session::Session;
 use client_kinds::Guest;
 use control_desk::Desk;
@@ -93,7 +93,8 @@ impl<S: Source, W: Store, G: Guest> Session<S, W, G> {
         ensures reading { result ≡ self.gear.capture.reading }
         ensures sound { self.gear.failed ≡ false → result.failed ≡ false }
     {
-        let Rig { works, .. } = self.rig;
+        let rig = self.rig;
+        let works = rig.works;
         works.driver.into_capture()
     }
 }
