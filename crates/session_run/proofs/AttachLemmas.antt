@@ -147,7 +147,6 @@ module _ (parts : Parts) (is : IsAttaching parts) where
       next-playback tape starts = record {
         attaching = λ e. record {
           served = is.served;
-          serial = is.serial;
           new = is.new;
           fresh = record { rings = is.fresh.rings; getting = is.fresh.getting };
           formats = is.formats;
@@ -237,8 +236,7 @@ module _ (parts : Parts) (is : IsAttaching parts) where
         next-recorder = record {
           attaching = λ e. record {
             served = is.served;
-            serial = is.serial;
-            new = new_still;
+              new = new_still;
             fresh = record { rings = is.fresh.rings; getting = subst (All (λ (got : Getting). got.least ≡ 0)) (sym getting_same) is.fresh.getting };
             formats = map-kept (λ (q : Recording). q.format) parts.recorders i r started here refl ∙ is.formats;
             playback = record { begun = λ h. is.playback.begun (omega (arith, next)); none = λ h. absurd (omega (arith, h)) };

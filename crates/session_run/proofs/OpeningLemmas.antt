@@ -28,7 +28,6 @@ use Rattle.session_run.proofs.PairLemmas.{IsBare, IsOver, opened-at}
 
 pub record IsOpened (script : Script) (scores : List Score) (desk : Desk) (gear : Gear) (made : List Recording) : Type 0 where
   pub served : IsServed script
-  pub serial : IsNone script.header.threads
   pub desk_is : IsNewDesk script desk.publishing desk
   pub desk_kept : IsDesk desk
   pub opening : IsPublication (base_of script) desk.publishing gear.reading
@@ -153,7 +152,6 @@ module _ (scores : List Score) (desk : Desk) (gear : Gear) (made : List Recordin
   pub IsAttaching-opened : IsAttaching parts
   IsAttaching-opened = record {
     served = is.served;
-    serial = is.serial;
     new = record {
       one = one;
       opening = is.opening;

@@ -1,8 +1,6 @@
--- A phase of a session's run.
+-- A phase of a session's run in serial mode.
 --     sound_set, at_set, kept_set      what holds of a session whatever period is set
 --     stays-set      setting the period leaves the works
---     IsOfPhase script done segment      a segment is that of the phase behind so many
---     of-phase      it is, by its place
 --     InPhase works segment done t      in a phase, before one of its cycles or behind the last, with its period set
 --     phase-begins, phase-keeps      the front of the phase, and what is kept there
 --     next-in      the next cycle
@@ -31,6 +29,7 @@ use Rattle.serial_laws.specs.Steps.{AreExact, Begun, IsSound, KeepsOwn, Turned}
 use Rattle.session_threads.specs.Insides.{Stays, parts_of, seen}
 use Rattle.session_threads.specs.Parts.{HasOpenFiles, session_of, told_of}
 use Rattle.session_threads.specs.declared.works.Works.{Works}
+use Rattle.session_threads.proofs.SegmentLemmas.{CycleIs, CycleThere, IsOfPhase}
 use Rattle.session_threads.proofs.StayLemmas.{reading_same, stays-met, stays-trans}
 use Rattle.session_threads.proofs.StoreLemmas.{HeldLater, held_same}
 use Rattle.session_threads.proofs.TellLemmas.{told-agrees}
@@ -115,19 +114,6 @@ module _ (session : Session) (period : ℕ) where
 
 -- ---- a segment and its phase
 
-pub record IsOfPhase (script : Script) (done : ℕ) (segment : Segment) : Type 0 where
-  pub phase : Phase
-  pub there : slice_get (phases script) done ≡ Some phase
-  pub is : segment ≡ segment_of phase
-
-abbrev pub SegmentsOfPhases : Type 0
-SegmentsOfPhases = (script : Script) (done : ℕ) (segment : Segment) → slice_get (segments script) done ≡ Some segment → (phase : Phase) × (slice_get (phases script) done ≡ Some phase) × (segment ≡ segment_of phase)
-
-pub of-phase : SegmentsOfPhases → (before after : Script) (done : ℕ) (segment : Segment) → after ≡ before → slice_get (segments before) done ≡ Some segment → IsOfPhase after done segment
-of-phase law before after done segment same there =
-    let found = law after done segment (subst (λ (s : Script). slice_get (segments s) done ≡ Some segment) (sym same) there) in
-    record { phase = found.0; there = found.1; is = found.2 }
-
 -- a place before one of the segment's cycles is one before a cycle of its phase
 low-in : (script : Script) (done t : ℕ) (segment : Segment) (of : IsOfPhase script done segment) → t < segment.cycles → t < of.phase.cycles
 low-in script done t segment of low = subst (λ (s : Segment). t < s.cycles) of.is low
@@ -137,14 +123,6 @@ turned-in : (script : Script) (done : ℕ) (segment : Segment) (of : IsOfPhase s
 turned-in script done segment of session after turned = subst (λ (s : Segment). Turned s.is_freewheel session after) of.is turned
 
 -- ---- the laws of a phase
-
-abbrev pub CycleThere : Type 0
-CycleThere = (script : Script) (done t : ℕ) (phase : Phase) → slice_get (phases script) done ≡ Some phase → t < phase.cycles → cycles_before script done + t < length (turns script)
-
-abbrev pub CycleIs : Type 0
-CycleIs =
-    (script : Script) (done t : ℕ) (phase : Phase) → slice_get (phases script) done ≡ Some phase → t < phase.cycles
-    → turn_of script (cycles_before script done + t + 1) ≡ record { period = phase.period; is_freewheel = phase.is_freewheel; phase = done }
 
 abbrev pub SoundBegun : Type 0
 SoundBegun = (done : ℕ) (session after : Session) → IsSound session → Begun done session after → IsSound after
@@ -196,14 +174,14 @@ module _ {S W G : Type 0} where
   seen-set : (works : Works S W G) (driver : Gear) (period : ℕ) → driver ≡ record works.driver { set = period } → seen (with_driver works driver) ≡ with_set (seen works) period
   seen-set works driver period = ap (λ (g : Gear). session_of (record { desk = works.desk; gear = g; recorders = works.recorders.items; playback = None; attached = 0 }))
 
-  pub stays-set : (works : Works S W G) (driver : Gear) (period : ℕ) → HasOpenFiles (parts_of works) → driver ≡ record works.driver { set = period } → Stays works (with_driver works driver)
+  pub stays-set : (works : Works S W G) (driver : Gear) (period : ℕ) → HasOpenFiles (parts_of works) → driver ≡ record works.driver { set = period } → Stays (parts_of works) (parts_of (with_driver works driver))
   stays-set works driver period files same =
       stays-cycled works driver files (ap (λ (g : Gear). g.script) same) (ap (λ (g : Gear). g.stage.staged.owned.scores) same)
       (subst (λ (file : Option Tape). HeldLater (held_or None works.driver.playback) (held_or None file)) (sym (ap (λ (g : Gear). g.playback) same)) (held_same (held_or None works.driver.playback)))
       (subst (λ (r : Reading). SameReading works.driver.capture.reading r) (sym (ap (λ (g : Gear). g.capture.reading) same)) (reading_same works.driver.capture.reading))
 
   pub stays-begun : (before begun : Works S W G) (driver : Gear) (period : ℕ) → HasOpenFiles (parts_of before) → begun.driver ≡ record before.driver { reading = begun.driver.reading } → begun.recorders ≡ before.recorders
-      → driver ≡ record begun.driver { set = period } → Stays before (with_driver begun driver)
+      → driver ≡ record begun.driver { set = period } → Stays (parts_of before) (parts_of (with_driver begun driver))
   stays-begun before begun driver period files same recorders set =
       let stays = stays-met before begun same recorders files in
       stays-trans before begun (with_driver begun driver) stays (stays-set begun driver period stays.files set)

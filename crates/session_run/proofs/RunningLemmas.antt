@@ -2,42 +2,63 @@
 --     on-ok_all      what follows from three clauses of an answer
 --     begun-files      its files are begun, each of its format, and have no sample
 --     whole works playback attached      the parts of the fields of a session
---     ready-sound, ready-behind, ready-files      it may run its phases
---     ready-kept      and keeps what it is given
---     run-whole, run-kept, run-fails      what the run of its phases leaves of it
-use Rattle.std.proofs.Common.{◌≡◌, ℕ, zero, suc, ◌<◌, ◌≤◌, true, List, [], ◌∷◌, length, map, filter_map, slice_get, Contains, Option, Some, None, IsNone, Result, Ok, Err, OnOk, refl, sym, ◌∙◌, ap, ap₂, subst, arith}
+--     ready-sound, ready-files      it may run its phases
+--     ready-behind, ready-kept      in serial mode, and keeps what it is given
+--     ready-at, may-run      in threads mode
+--     run-whole, run-kept, run-fails, has-run      what the run of its phases leaves of it in serial mode
+--     threads-whole, threads-fail, threads-ran      and in threads mode
+--     is-serial, has-threads      which of the two it is
+use Rattle.std.proofs.Common.{◌≡◌, ℕ, zero, suc, ◌<◌, ◌≤◌, Bool, true, false, true≢false, List, [], ◌∷◌, length, map, filter_map, slice_get, Contains, Option, Some, None, IsNone, IsSome, Result, Ok, Err, OnOk, OnErr, refl, sym, ◌∙◌, ap, ap₂, subst, arith}
 use Rattle.std.specs.List.{cons_option}
-use Rattle.std.specs.Prelude.{IfSome}
+use Rattle.std.specs.Prelude.{IfSome, is_none}
 use Rattle.std.proofs.lemmas.Option.{same_Some, slice_get_within}
 use Rattle.jack_types.specs.declared.files.Format.{Format}
 use Rattle.session_model.specs.Explanations.{Given}
 use Rattle.session_model.specs.Grammar.{IsFormat as IsRecorderFormat}
-use Rattle.session_model.specs.Scripts.{phases}
+use Rattle.session_model.specs.Scripts.{Script, phases}
 use Rattle.session_model.specs.WaveFiles.{IsFormat, is_width}
 use Rattle.record_ring.specs.Rings.{Getting, Sending, items_of}
 use Rattle.wave_write.specs.Tapes.{HasSamples, Tape}
 use Rattle.disk_recorder.specs.Recordings.{MayWrite, samples_of_blocks}
 use Rattle.driver_laws.specs.Keeping.{HasTape}
 use Rattle.cycle_driver.specs.Openings.{playback_format}
+use Rattle.cycle_laws.specs.Gears.{IsServed}
 use Rattle.recorder_files.specs.Recorders.{Recording, Stored}
 use Rattle.recorder_files.proofs.Reels.{begun-may}
-use Rattle.run_laws.specs.Runs.{HasFiles}
+use Rattle.run_laws.specs.Runs.{AtPhase, HasFiles, RanPhases}
 use Rattle.run_laws.specs.SerialRuns.{SerialBehind, SerialKept}
 use Rattle.run_laws.specs.Sessions.{IsGiven, Session}
-use Rattle.run_laws.specs.Told.{IsNew, Runs}
+use Rattle.run_laws.specs.Told.{IsNew, Runs, StandsSoFar}
 use Rattle.run_laws.proofs.PlaceLemmas.{mapped_there, some_at}
 use Rattle.serial_laws.specs.Faults.{StandsInSerial}
 use Rattle.serial_laws.specs.Openings.{AreFresh, bare}
 use Rattle.serial_laws.specs.Steps.{IsSound}
+use Rattle.script_segments.specs.Segments.{segments}
+use Rattle.script_segments.specs.declared.lines.Segment.{Segment}
 use Rattle.session_threads.specs.Insides.{Stays, parts_of, seen}
+use Rattle.session_threads.specs.Running.{MayRunThreads}
 use Rattle.session_threads.specs.Parts.{HasOpenFiles, Parts, bytes_of, session_of, told_of}
-use Rattle.session_run.specs.Standings.{IsBegun, IsReady}
+use Rattle.session_run.specs.Standings.{HasRun, IsBegun, IsReady}
 use Rattle.session_threads.specs.declared.works.Works.{Works}
 use Rattle.session_threads.proofs.ReelLemmas.{all-there, picked_from}
 
 pub on-ok_all : {T E : Type 0} (r : Result T E) {P Q R K : Type 0} → (P → Q → R → K) → OnOk r P → OnOk r Q → OnOk r R → OnOk r K
 on-ok_all (Ok x) f p q k = f p q k
 on-ok_all (Err e) f p q k = tt
+
+-- ---- the mode
+
+pub is-serial : {T : Type 0} (threads : Option T) (serial : Bool) → serial ≡ is_none threads → serial ≡ true → IsNone threads
+is-serial None serial is yes = tt
+is-serial (Some n) serial is yes = absurd (true≢false (sym yes ∙ is))
+
+pub has-threads : {T : Type 0} (threads : Option T) (serial : Bool) → serial ≡ is_none threads → serial ≡ false → IsSome threads
+has-threads None serial is no = absurd (true≢false (sym is ∙ no))
+has-threads (Some n) serial is no = tt
+
+no-threads : {T : Type 0} (threads : Option T) → IsNone threads → IsSome threads → ⊥
+no-threads None none some = some
+no-threads (Some n) none some = none
 
 -- ---- files that are begun
 
@@ -157,6 +178,22 @@ RunsWhole =
     (before after : Session) → IsNone before.script.header.threads → after.script ≡ before.script → IsSound after → SerialBehind after (length (phases after.script))
     → ((given : Given) → IsGiven before given → SerialKept given after) → Runs before after
 
+abbrev pub RestsAtFirst : Type 0
+RestsAtFirst = (session : Session) → IsNew (bare session) → RanPhases session 0
+
+abbrev pub AtFirst : Type 0
+AtFirst =
+    (session : Session) (given : Given) → IsNew (bare session) → session.putting ≡ [] → HasFiles session → HasTape session.driver.playback [] → AreFresh session
+    → IsGiven session given → AtPhase session given 0
+
+abbrev pub RanBehind : Type 0
+RanBehind = (session : Session) → SerialBehind session (length (phases session.script)) → RanPhases session (length (phases session.script))
+
+abbrev pub RunsWithThreads : Type 0
+RunsWithThreads =
+    (before after : Session) → IsSome before.script.header.threads → after.script ≡ before.script → after.putting ≡ [] → RanPhases after (length (phases after.script))
+    → ((given : Given) → IsGiven before given → AtPhase after given (length (phases after.script))) → Runs before after
+
 -- ---- the fields of a session
 
 module _ {S W G : Type 0} where
@@ -179,32 +216,88 @@ module _ {S W G : Type 0} where
     pub ready-sound : SoundAtFirst → IsSound (seen works)
     ready-sound law = subst (λ (s : Session). IsSound s) seen_is (law (session_of now) ready.0.new refl (files-begun now ready))
 
-    pub ready-behind : BehindAtFirst → SerialBehind (seen works) 0
-    ready-behind law = subst (λ (s : Session). SerialBehind s 0) seen_is (law (session_of now) ready.0.new ready.0.serial refl (files-begun now ready))
+    script_is : works.driver.script ≡ now.gear.script
+    script_is = ap (λ (p : Parts). p.gear.script) view
 
     pub ready-files : HasOpenFiles (parts_of works)
     ready-files =
         subst (λ (p : Parts). HasOpenFiles (record { desk = p.desk; gear = p.gear; recorders = p.recorders; playback = None; attached = 0 })) (sym view)
         (record { tapes = λ i r there. let file = begun-files now ready i r there in (file.0, file.1); no_playback = refl; no_stores = ready.0.no_stores })
 
-    pub ready-kept : KeptAtFirst → (given : Given) → IsGiven (session_of now) given → SerialKept given (seen works)
-    ready-kept law given is =
-        let file = begun-playback now ready in
-        subst (λ (s : Session). SerialKept given s) seen_is
-        (law (session_of now) given ready.0.new ready.0.serial refl (files-begun now ready) (subst (λ (t : Option Tape). HasTape t []) (sym file.1) file.2.samples) ready.0.fresh is)
+    tape-begun : HasTape now.gear.playback []
+    tape-begun = let file = begun-playback now ready in subst (λ (t : Option Tape). HasTape t []) (sym file.1) file.2.samples
 
-    module _ (after : Works S W G) where
+    -- what a run left, with the fields that it did not touch
+    module _ (after : Works S W G) (stays : Stays (parts_of works) (parts_of after)) where
       after_is : session_of (whole after playback attached) ≡ seen after
       after_is = session-whole after playback attached none_held
 
-      pub run-kept : KeptAtFirst → ((given : Given) → SerialKept given (seen works) → SerialKept given (seen after)) → (given : Given) → IsGiven (session_of now) given → SerialKept given (session_of (whole after playback attached))
-      run-kept law keeps given is = subst (λ (s : Session). SerialKept given s) (sym after_is) (keeps given (ready-kept law given is))
+      told_is : told_of (whole after playback attached) ≡ told_of (parts_of after)
+      told_is = told-whole after playback attached none_held
 
-      pub run-whole : KeptAtFirst → RunsWhole → Stays works after → IsSound (seen after) → SerialBehind (seen after) (length (phases after.driver.script))
-          → ((given : Given) → SerialKept given (seen works) → SerialKept given (seen after)) → Runs (session_of now) (session_of (whole after playback attached))
-      run-whole kept law stays sound behind keeps =
-          subst (λ (s : Session). Runs (session_of now) s) (sym after_is)
-          (law (session_of now) (seen after) ready.0.serial (stays.script ∙ ap (λ (p : Parts). p.gear.script) view) sound behind (λ given is. keeps given (ready-kept kept given is)))
+      same_script : after.driver.script ≡ now.gear.script
+      same_script = stays.script ∙ script_is
 
-      pub run-fails : KeptAtFirst → ((given : Given) → SerialKept given (seen works) → StandsInSerial given (told_of (parts_of after))) → (given : Given) → IsGiven (session_of now) given → StandsInSerial given (told_of (whole after playback attached))
-      run-fails law fails given is = subst (λ (s : Session). StandsInSerial given s) (sym (told-whole after playback attached none_held)) (fails given (ready-kept law given is))
+      pub has-run : IsSound (seen after) → RanPhases (seen after) (length (phases after.driver.script)) → (IsNone after.driver.script.header.threads → SerialBehind (seen after) (length (phases after.driver.script))) → HasRun (whole after playback attached)
+      has-run sound ran serial = record {
+        served = subst (λ (s : Script). IsServed s) (sym same_script) ready.0.served;
+        sound = subst (λ (s : Session). IsSound s) (sym after_is) sound;
+        ran = subst (λ (s : Session). RanPhases s (length (phases after.driver.script))) (sym after_is) ran;
+        serial = λ none. subst (λ (s : Session). SerialBehind s (length (phases after.driver.script))) (sym after_is) (serial none);
+        files = record { tapes = stays.files.tapes; no_playback = none_held; no_stores = stays.files.no_stores };
+      }
+
+    -- ---- in serial mode
+
+    module _ (serial : IsNone now.gear.script.header.threads) where
+      pub ready-behind : BehindAtFirst → SerialBehind (seen works) 0
+      ready-behind law = subst (λ (s : Session). SerialBehind s 0) seen_is (law (session_of now) ready.0.new serial refl (files-begun now ready))
+
+      pub ready-kept : KeptAtFirst → (given : Given) → IsGiven (session_of now) given → SerialKept given (seen works)
+      ready-kept law given is =
+          subst (λ (s : Session). SerialKept given s) seen_is (law (session_of now) given ready.0.new serial refl (files-begun now ready) tape-begun ready.0.fresh is)
+
+      module _ (after : Works S W G) (stays : Stays (parts_of works) (parts_of after)) where
+        pub run-kept : KeptAtFirst → ((given : Given) → SerialKept given (seen works) → SerialKept given (seen after)) → (given : Given) → IsGiven (session_of now) given → SerialKept given (session_of (whole after playback attached))
+        run-kept law keeps given is = subst (λ (s : Session). SerialKept given s) (sym (after_is after stays)) (keeps given (ready-kept law given is))
+
+        pub run-whole : KeptAtFirst → RunsWhole → IsSound (seen after) → SerialBehind (seen after) (length (phases after.driver.script))
+            → ((given : Given) → SerialKept given (seen works) → SerialKept given (seen after)) → Runs (session_of now) (session_of (whole after playback attached))
+        run-whole kept law sound behind keeps =
+            subst (λ (s : Session). Runs (session_of now) s) (sym (after_is after stays))
+            (law (session_of now) (seen after) serial (same_script after stays) sound behind (λ given is. keeps given (ready-kept kept given is)))
+
+        pub run-fails : KeptAtFirst → ((given : Given) → SerialKept given (seen works) → StandsInSerial given (told_of (parts_of after))) → (given : Given) → IsGiven (session_of now) given → StandsInSerial given (told_of (whole after playback attached))
+        run-fails law fails given is = subst (λ (s : Session). StandsInSerial given s) (sym (told_is after stays)) (fails given (ready-kept law given is))
+
+    -- ---- in threads mode
+
+    pub ready-at : AtFirst → (given : Given) → IsGiven (session_of now) given → AtPhase (seen works) given 0
+    ready-at law given is = subst (λ (s : Session). AtPhase s given 0) seen_is (law (session_of now) given ready.0.new refl (files-begun now ready) tape-begun ready.0.fresh is)
+
+    module _ (threads : IsSome now.gear.script.header.threads) where
+      pub may-run : SoundAtFirst → RestsAtFirst → (given : List Segment) (ring drain : ℕ) → given ≡ segments works.driver.script → ring ≡ works.driver.script.header.ring → drain ≡ works.driver.script.header.drain
+          → MayRunThreads (parts_of works) given ring drain
+      may-run sound rests given ring drain segments_are ring_is drain_is = record {
+        segments_are = segments_are;
+        threads = subst (λ (s : Script). IsSome s.header.threads) (sym script_is) threads;
+        sound = ready-sound sound;
+        ran = subst (λ (s : Session). RanPhases s 0) seen_is (rests (session_of now) ready.0.new);
+        files = ready-files;
+        ring_is = ring_is;
+        drain_is = drain_is;
+      }
+
+      module _ (after : Works S W G) (stays : Stays (parts_of works) (parts_of after)) where
+        pub threads-whole : AtFirst → RunsWithThreads → RanPhases (seen after) (length (phases after.driver.script)) → ((given : Given) → AtPhase (seen works) given 0 → AtPhase (seen after) given (length (phases after.driver.script)))
+            → Runs (session_of now) (session_of (whole after playback attached))
+        threads-whole first law ran at =
+            subst (λ (s : Session). Runs (session_of now) s) (sym (after_is after stays))
+            (law (session_of now) (seen after) threads (same_script after stays) refl ran (λ given is. at given (ready-at first given is)))
+
+        pub threads-ran : IsSound (seen after) → RanPhases (seen after) (length (phases after.driver.script)) → HasRun (whole after playback attached)
+        threads-ran sound ran = has-run after stays sound ran (λ none. absurd (no-threads after.driver.script.header.threads none (subst (λ (s : Script). IsSome s.header.threads) (sym (same_script after stays)) threads)))
+
+        pub threads-fail : AtFirst → ((kept : ℕ) × ((given : Given) → AtPhase (seen works) given 0 → StandsSoFar kept (told_of (parts_of after)) given))
+            → (kept : ℕ) × ((given : Given) → IsGiven (session_of now) given → StandsSoFar kept (told_of (whole after playback attached)) given)
+        threads-fail first fails = (fails.0, λ given is. subst (λ (s : Session). StandsSoFar fails.0 s given) (sym (told_is after stays)) (fails.1 given (ready-at first given is)))

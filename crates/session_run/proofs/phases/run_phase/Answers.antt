@@ -1,5 +1,6 @@
 use Rattle.std.proofs.Common.{Err, refl, ◌∙◌, ap, arith}
-use Rattle.session_run.proofs.PhaseLemmas.{next-in, of-phase, phase-begins, phase-ends, phase-fails, phase-keeps, stays-begun, turned-keeps, turned-on}
+use Rattle.session_threads.proofs.SegmentLemmas.{of-phase}
+use Rattle.session_run.proofs.PhaseLemmas.{next-in, phase-begins, phase-ends, phase-fails, phase-keeps, stays-begun, turned-keeps, turned-on}
 use Rattle.session_threads.proofs.ReelLemmas.{on-err}
 use Rattle.session_threads.proofs.StayLemmas.{stays-trans}
 use Rattle.session_threads.proofs.StoreLemmas.{rose-behind}

@@ -1,7 +1,7 @@
 use Rattle.std.proofs.Common.{◌≤◌}
 use Rattle.session_model.specs.Explanations.{Given}
 use Rattle.run_laws.specs.SerialRuns.{SerialKept}
-use Rattle.session_threads.specs.Insides.{Stays, seen}
+use Rattle.session_threads.specs.Insides.{Stays, parts_of, seen}
 use Rattle.session_run.proofs.PhaseLemmas.{InPhase}
 use Rattle.session_run.proofs.phases.run_phase.Given as goal
 
@@ -9,6 +9,6 @@ abbrev pub invariant-loop : goal.invariant-loop
 invariant-loop g l = record {
   inside : InPhase {S = g.row.S.Denot} {W = g.row.W.Denot} {G = g.row.G.Denot} l.works l.segment l.phase l.counter;
   within : l.counter ≤ l.segment.cycles;
-  stays : Stays {S = g.row.S.Denot} {W = g.row.W.Denot} {G = g.row.G.Denot} l.fn.works l.works;
+  stays : Stays (parts_of {S = g.row.S.Denot} {W = g.row.W.Denot} {G = g.row.G.Denot} l.fn.works) (parts_of {S = g.row.S.Denot} {W = g.row.W.Denot} {G = g.row.G.Denot} l.works);
   kept : (given : Given) → SerialKept given (seen {S = g.row.S.Denot} {W = g.row.W.Denot} {G = g.row.G.Denot} l.fn.works) → SerialKept given (seen {S = g.row.S.Denot} {W = g.row.W.Denot} {G = g.row.G.Denot} l.works);
 }

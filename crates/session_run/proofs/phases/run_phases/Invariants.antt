@@ -3,7 +3,7 @@ use Rattle.control_desk.specs.Desks.{cycles_before}
 use Rattle.session_model.specs.Explanations.{Given}
 use Rattle.run_laws.specs.SerialRuns.{SerialBehind, SerialKept}
 use Rattle.serial_laws.specs.Steps.{IsSound}
-use Rattle.session_threads.specs.Insides.{Stays, seen}
+use Rattle.session_threads.specs.Insides.{Stays, parts_of, seen}
 use Rattle.session_run.proofs.phases.run_phases.Given as goal
 
 abbrev pub invariant-loop-phase : goal.invariant-loop-phase
@@ -12,6 +12,6 @@ invariant-loop-phase g l = record {
   behind : SerialBehind (seen {S = g.row.S.Denot} {W = g.row.W.Denot} {G = g.row.G.Denot} l.works) l.phase;
   sound : IsSound (seen {S = g.row.S.Denot} {W = g.row.W.Denot} {G = g.row.G.Denot} l.works);
   within : l.phase ≤ l.phase-end;
-  stays : Stays {S = g.row.S.Denot} {W = g.row.W.Denot} {G = g.row.G.Denot} l.fn.works l.works;
+  stays : Stays (parts_of {S = g.row.S.Denot} {W = g.row.W.Denot} {G = g.row.G.Denot} l.fn.works) (parts_of {S = g.row.S.Denot} {W = g.row.W.Denot} {G = g.row.G.Denot} l.works);
   kept : (given : Given) → SerialKept given (seen {S = g.row.S.Denot} {W = g.row.W.Denot} {G = g.row.G.Denot} l.fn.works) → SerialKept given (seen {S = g.row.S.Denot} {W = g.row.W.Denot} {G = g.row.G.Denot} l.works);
 }

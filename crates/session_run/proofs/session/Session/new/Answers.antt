@@ -16,7 +16,6 @@ returns-in-Ok-make_recorders-clause-new g c =
     let out = c.make_recorders.new.driver.rings.out in
     let opened : IsOpened c.args.script.now _ desk gear made = record {
       served = c.requires.served;
-      serial = c.requires.serial;
       desk_is = c.in-Ok-open_desk.ensures.desk;
       desk_kept = c.in-Ok-open_desk.ensures.kept;
       opening = subst (λ (r : Reading). IsPublication (base_of c.args.script.now) desk.publishing r) (sym c.in_ok-driver.ensures.reader) c.in-Ok-open_desk.ensures.opening;

@@ -13,7 +13,7 @@ pub returns-in-Some-clause-report : goal.returns-in-Some-clause-report
 returns-in-Some-clause-report g c = report-stays c.args.self.now after gear (ap (λ (p : Parts). p.desk) c.self.view_is) (ap (λ (p : Parts). map (λ (r : Recording). r.getting) p.recorders) c.self.view_is) (ap (λ (p : Parts). map (λ (r : Recording). r.blocks) p.recorders) c.self.view_is)
   where
     after : Parts
-    after = record (parts_of {S = g.row.S.Denot} {W = g.row.W.Denot} {G = g.row.G.Denot} c.self.inside.works) { gear = c.close-file.new.self; recorders = c.self.inside.works.recorders.items; playback = option_map {T = g.row.W.Denot} {U = Stored} (λ w. record { name = g.W.Store.name w; bytes = g.W.Store.content w; faults = g.W.Store.faults w }) c.take-store.new.self; attached = c.self.inside.attached }
+    after = record (parts_of {S = g.row.S.Denot} {W = g.row.W.Denot} {G = g.row.G.Denot} c.self.inside.rig.works) { gear = c.close-file.new.self; recorders = c.self.inside.rig.works.recorders.items; playback = option_map {T = g.row.W.Denot} {U = Stored} (λ w. record { name = g.W.Store.name w; bytes = g.W.Store.content w; faults = g.W.Store.faults w }) c.take-store.new.self; attached = c.self.inside.attached }
 
     gear : after.gear ≡ record c.args.self.now.gear { playback = None }
     gear = c.close-file.ensures.after ∙ ap (λ (p : Parts). record p.gear { playback = None }) c.self.view_is
@@ -22,7 +22,7 @@ pub returns-in-Some-clause-ended : goal.returns-in-Some-clause-ended
 returns-in-Some-clause-ended g c = ended-stays c.args.self.now after gear (ap (λ (p : Parts). p.desk) c.self.view_is) (ap (λ (p : Parts). map (λ (r : Recording). r.getting) p.recorders) c.self.view_is) (ap (λ (p : Parts). map (λ (r : Recording). r.blocks) p.recorders) c.self.view_is)
   where
     after : Parts
-    after = record (parts_of {S = g.row.S.Denot} {W = g.row.W.Denot} {G = g.row.G.Denot} c.self.inside.works) { gear = c.close-file.new.self; recorders = c.self.inside.works.recorders.items; playback = option_map {T = g.row.W.Denot} {U = Stored} (λ w. record { name = g.W.Store.name w; bytes = g.W.Store.content w; faults = g.W.Store.faults w }) c.take-store.new.self; attached = c.self.inside.attached }
+    after = record (parts_of {S = g.row.S.Denot} {W = g.row.W.Denot} {G = g.row.G.Denot} c.self.inside.rig.works) { gear = c.close-file.new.self; recorders = c.self.inside.rig.works.recorders.items; playback = option_map {T = g.row.W.Denot} {U = Stored} (λ w. record { name = g.W.Store.name w; bytes = g.W.Store.content w; faults = g.W.Store.faults w }) c.take-store.new.self; attached = c.self.inside.attached }
 
     gear : after.gear ≡ record c.args.self.now.gear { playback = None }
     gear = c.close-file.ensures.after ∙ ap (λ (p : Parts). record p.gear { playback = None }) c.self.view_is
@@ -31,7 +31,7 @@ pub returns-in-Some-store-clause-report : goal.returns-in-Some-store-clause-repo
 returns-in-Some-store-clause-report g c = report-stays c.args.self.now after gear (ap (λ (p : Parts). p.desk) c.self.view_is) (ap (λ (p : Parts). map (λ (r : Recording). r.getting) p.recorders) c.self.view_is) (ap (λ (p : Parts). map (λ (r : Recording). r.blocks) p.recorders) c.self.view_is)
   where
     after : Parts
-    after = record (parts_of {S = g.row.S.Denot} {W = g.row.W.Denot} {G = g.row.G.Denot} c.self.inside.works) { gear = c.close-file.new.self; recorders = c.self.inside.works.recorders.items; playback = option_map {T = g.row.W.Denot} {U = Stored} (λ w. record { name = g.W.Store.name w; bytes = g.W.Store.content w; faults = g.W.Store.faults w }) c.take-store.new.self; attached = c.self.inside.attached }
+    after = record (parts_of {S = g.row.S.Denot} {W = g.row.W.Denot} {G = g.row.G.Denot} c.self.inside.rig.works) { gear = c.close-file.new.self; recorders = c.self.inside.rig.works.recorders.items; playback = option_map {T = g.row.W.Denot} {U = Stored} (λ w. record { name = g.W.Store.name w; bytes = g.W.Store.content w; faults = g.W.Store.faults w }) c.take-store.new.self; attached = c.self.inside.attached }
 
     gear : after.gear ≡ record c.args.self.now.gear { playback = None }
     gear = c.close-file.ensures.after ∙ ap (λ (p : Parts). record p.gear { playback = None }) c.self.view_is
@@ -40,7 +40,7 @@ pub returns-in-Some-store-clause-ended : goal.returns-in-Some-store-clause-ended
 returns-in-Some-store-clause-ended g c = ended-stays c.args.self.now after gear (ap (λ (p : Parts). p.desk) c.self.view_is) (ap (λ (p : Parts). map (λ (r : Recording). r.getting) p.recorders) c.self.view_is) (ap (λ (p : Parts). map (λ (r : Recording). r.blocks) p.recorders) c.self.view_is)
   where
     after : Parts
-    after = record (parts_of {S = g.row.S.Denot} {W = g.row.W.Denot} {G = g.row.G.Denot} c.self.inside.works) { gear = c.close-file.new.self; recorders = c.self.inside.works.recorders.items; playback = option_map {T = g.row.W.Denot} {U = Stored} (λ w. record { name = g.W.Store.name w; bytes = g.W.Store.content w; faults = g.W.Store.faults w }) c.take-store.new.self; attached = c.self.inside.attached }
+    after = record (parts_of {S = g.row.S.Denot} {W = g.row.W.Denot} {G = g.row.G.Denot} c.self.inside.rig.works) { gear = c.close-file.new.self; recorders = c.self.inside.rig.works.recorders.items; playback = option_map {T = g.row.W.Denot} {U = Stored} (λ w. record { name = g.W.Store.name w; bytes = g.W.Store.content w; faults = g.W.Store.faults w }) c.take-store.new.self; attached = c.self.inside.attached }
 
     gear : after.gear ≡ record c.args.self.now.gear { playback = None }
     gear = c.close-file.ensures.after ∙ ap (λ (p : Parts). record p.gear { playback = None }) c.self.view_is
@@ -49,7 +49,7 @@ pub returns-clause-report : goal.returns-clause-report
 returns-clause-report g c = report-stays c.args.self.now after gear (ap (λ (p : Parts). p.desk) c.self.view_is) (c.take_recorded.ensures.getting ∙ ap (λ (p : Parts). map (λ (r : Recording). r.getting) p.recorders) c.self.view_is) (c.take_recorded.ensures.blocks ∙ ap (λ (p : Parts). map (λ (r : Recording). r.blocks) p.recorders) c.self.view_is)
   where
     after : Parts
-    after = record (parts_of {S = g.row.S.Denot} {W = g.row.W.Denot} {G = g.row.G.Denot} c.self.inside.works) { gear = c.close-file.new.self; recorders = c.take_recorded.new.recorders.items; playback = option_map {T = g.row.W.Denot} {U = Stored} (λ w. record { name = g.W.Store.name w; bytes = g.W.Store.content w; faults = g.W.Store.faults w }) c.take-store.new.self; attached = c.self.inside.attached }
+    after = record (parts_of {S = g.row.S.Denot} {W = g.row.W.Denot} {G = g.row.G.Denot} c.self.inside.rig.works) { gear = c.close-file.new.self; recorders = c.take_recorded.new.recorders.items; playback = option_map {T = g.row.W.Denot} {U = Stored} (λ w. record { name = g.W.Store.name w; bytes = g.W.Store.content w; faults = g.W.Store.faults w }) c.take-store.new.self; attached = c.self.inside.attached }
 
     gear : after.gear ≡ record c.args.self.now.gear { playback = None }
     gear = c.close-file.ensures.after ∙ ap (λ (p : Parts). record p.gear { playback = None }) c.self.view_is
@@ -58,7 +58,7 @@ pub returns-clause-ended : goal.returns-clause-ended
 returns-clause-ended g c = ended-stays c.args.self.now after gear (ap (λ (p : Parts). p.desk) c.self.view_is) (c.take_recorded.ensures.getting ∙ ap (λ (p : Parts). map (λ (r : Recording). r.getting) p.recorders) c.self.view_is) (c.take_recorded.ensures.blocks ∙ ap (λ (p : Parts). map (λ (r : Recording). r.blocks) p.recorders) c.self.view_is)
   where
     after : Parts
-    after = record (parts_of {S = g.row.S.Denot} {W = g.row.W.Denot} {G = g.row.G.Denot} c.self.inside.works) { gear = c.close-file.new.self; recorders = c.take_recorded.new.recorders.items; playback = option_map {T = g.row.W.Denot} {U = Stored} (λ w. record { name = g.W.Store.name w; bytes = g.W.Store.content w; faults = g.W.Store.faults w }) c.take-store.new.self; attached = c.self.inside.attached }
+    after = record (parts_of {S = g.row.S.Denot} {W = g.row.W.Denot} {G = g.row.G.Denot} c.self.inside.rig.works) { gear = c.close-file.new.self; recorders = c.take_recorded.new.recorders.items; playback = option_map {T = g.row.W.Denot} {U = Stored} (λ w. record { name = g.W.Store.name w; bytes = g.W.Store.content w; faults = g.W.Store.faults w }) c.take-store.new.self; attached = c.self.inside.attached }
 
     gear : after.gear ≡ record c.args.self.now.gear { playback = None }
     gear = c.close-file.ensures.after ∙ ap (λ (p : Parts). record p.gear { playback = None }) c.self.view_is
@@ -68,12 +68,12 @@ returns-clause-taken g c = IfSome_then c.take_recorded.result c.take_recorded.en
     (λ w first. before_rest ∙ first ∙ ap (λ (rest : List Stored). record { name = g.W.Store.name w; bytes = g.W.Store.content w; faults = g.W.Store.faults w } ∷ rest) (sym after_rest))
   where
     after : Parts
-    after = record (parts_of {S = g.row.S.Denot} {W = g.row.W.Denot} {G = g.row.G.Denot} c.self.inside.works) { gear = c.close-file.new.self; recorders = c.take_recorded.new.recorders.items; playback = option_map {T = g.row.W.Denot} {U = Stored} (λ w. record { name = g.W.Store.name w; bytes = g.W.Store.content w; faults = g.W.Store.faults w }) c.take-store.new.self; attached = c.self.inside.attached }
+    after = record (parts_of {S = g.row.S.Denot} {W = g.row.W.Denot} {G = g.row.G.Denot} c.self.inside.rig.works) { gear = c.close-file.new.self; recorders = c.take_recorded.new.recorders.items; playback = option_map {T = g.row.W.Denot} {U = Stored} (λ w. record { name = g.W.Store.name w; bytes = g.W.Store.content w; faults = g.W.Store.faults w }) c.take-store.new.self; attached = c.self.inside.attached }
 
     gear : after.gear ≡ record c.args.self.now.gear { playback = None }
     gear = c.close-file.ensures.after ∙ ap (λ (p : Parts). record p.gear { playback = None }) c.self.view_is
 
-    before_rest : stores_in c.args.self.now ≡ stores_of c.self.inside.works.recorders.items
+    before_rest : stores_in c.args.self.now ≡ stores_of c.self.inside.rig.works.recorders.items
     before_rest =
         stores-rest c.args.self.now (ap (λ (p : Parts). p.playback) (sym c.self.view_is) ∙ ap (option_map {T = g.row.W.Denot} {U = Stored} (λ w. record { name = g.W.Store.name w; bytes = g.W.Store.content w; faults = g.W.Store.faults w })) (sym c.take-store.ensures.value ∙ c.in_default-store.is))
         (ap (λ (p : Parts). p.gear.playback) (sym c.self.view_is) ∙ sym c.close-file.ensures.file ∙ c.in_default.is)
@@ -84,16 +84,16 @@ returns-clause-taken g c = IfSome_then c.take_recorded.result c.take_recorded.en
 
 pub returns-clause-none : goal.returns-clause-none
 returns-clause-none g c =
-    if-none c.take_recorded.result ((stores_of c.self.inside.works.recorders.items ≡ []) × (stores_of c.take_recorded.new.recorders.items ≡ [])) ((stores_in c.args.self.now ≡ []) × (stores_in after ≡ []))
+    if-none c.take_recorded.result ((stores_of c.self.inside.rig.works.recorders.items ≡ []) × (stores_of c.take_recorded.new.recorders.items ≡ [])) ((stores_in c.args.self.now ≡ []) × (stores_in after ≡ []))
     (λ none. (before_rest ∙ none.0, after_rest ∙ none.1)) c.take_recorded.ensures.none
   where
     after : Parts
-    after = record (parts_of {S = g.row.S.Denot} {W = g.row.W.Denot} {G = g.row.G.Denot} c.self.inside.works) { gear = c.close-file.new.self; recorders = c.take_recorded.new.recorders.items; playback = option_map {T = g.row.W.Denot} {U = Stored} (λ w. record { name = g.W.Store.name w; bytes = g.W.Store.content w; faults = g.W.Store.faults w }) c.take-store.new.self; attached = c.self.inside.attached }
+    after = record (parts_of {S = g.row.S.Denot} {W = g.row.W.Denot} {G = g.row.G.Denot} c.self.inside.rig.works) { gear = c.close-file.new.self; recorders = c.take_recorded.new.recorders.items; playback = option_map {T = g.row.W.Denot} {U = Stored} (λ w. record { name = g.W.Store.name w; bytes = g.W.Store.content w; faults = g.W.Store.faults w }) c.take-store.new.self; attached = c.self.inside.attached }
 
     gear : after.gear ≡ record c.args.self.now.gear { playback = None }
     gear = c.close-file.ensures.after ∙ ap (λ (p : Parts). record p.gear { playback = None }) c.self.view_is
 
-    before_rest : stores_in c.args.self.now ≡ stores_of c.self.inside.works.recorders.items
+    before_rest : stores_in c.args.self.now ≡ stores_of c.self.inside.rig.works.recorders.items
     before_rest =
         stores-rest c.args.self.now (ap (λ (p : Parts). p.playback) (sym c.self.view_is) ∙ ap (option_map {T = g.row.W.Denot} {U = Stored} (λ w. record { name = g.W.Store.name w; bytes = g.W.Store.content w; faults = g.W.Store.faults w })) (sym c.take-store.ensures.value ∙ c.in_default-store.is))
         (ap (λ (p : Parts). p.gear.playback) (sym c.self.view_is) ∙ sym c.close-file.ensures.file ∙ c.in_default.is)
