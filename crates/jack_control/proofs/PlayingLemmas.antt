@@ -17,7 +17,7 @@ use Rattle.run_laws.specs.Runs.{AtPhase}
 use Rattle.run_laws.specs.Sessions.{IsGiven, Session}
 use Rattle.run_laws.specs.Told.{Ends, Runs, text_in}
 use Rattle.serial_laws.specs.Faults.{StandsInSerial}
-use Rattle.session_run.specs.Parts.{AreLater, IsLater, Parts, bytes_of, session_of, stores_in, told_of}
+use Rattle.session_threads.specs.Parts.{AreLater, IsLater, Parts, bytes_of, session_of, stores_in, told_of}
 use Rattle.session_run.specs.Standings.{IsAttaching}
 use Rattle.jack_control.specs.Files.{AreOut, IsOut}
 use Rattle.jack_control.specs.Inputs.{Files}

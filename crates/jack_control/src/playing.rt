@@ -1,22 +1,23 @@
 //! A play whose session is open.
 
-ghost use Rattle.std.specs.Prelude.{◌≡◌, ◌+◌, ◌<◌, ◌≤◌, ◌⊎◌, [], List, ℕ, Option, IfErr, IsErrOf, IsOk, IsTrue, OnErr, OnOk, false, length};
+ghost use Rattle.std.specs.Prelude.{◌≡◌, ◌+◌, ◌<◌, ◌≤◌, ◌⊎◌, [], List, ℕ, Option, IfErr, IsErrOf, IsNone, IsOk, IsTrue, OnErr, OnOk, false, length};
 ghost use Rattle.jack_types.specs.declared.kinds.Score.{Score as ScoreValue};
 ghost use Rattle.jack_host.specs.Bytes.{Gains};
 ghost use Rattle.jack_host.specs.Causes.{Rose};
 ghost use Rattle.jack_host.specs.Files.{SameFiles};
 ghost use Rattle.session_model.specs.Explanations.{Given};
 ghost use Rattle.session_model.specs.Soundness.{Apart};
-ghost use Rattle.run_laws.specs.Sessions.{IsGiven};
+ghost use Rattle.session_model.specs.Serial.{serial_printed};
+ghost use Rattle.run_laws.specs.Sessions.{IsGiven, printed_of};
 ghost use Rattle.wave_pcm.specs.Readings.{SameReading};
 ghost use Rattle.jack_control.specs.Files.{AreOut, OneFailed};
 ghost use Rattle.jack_control.specs.Inputs.{Files as AllFiles};
 ghost use Rattle.jack_control.specs.Openings.{IsSessionOf};
-ghost use Rattle.jack_control.specs.Performances.{Explain, HaveFronts, MadeSome, status_of_session};
+ghost use Rattle.jack_control.specs.Performances.{Explain, HaveCut, MadeSome, status_of_session};
 ghost use Rattle.jack_control.specs.Plays.{IsCut, IsExplained, IsOutCut, TouchesOnly, made_by};
 ghost use Rattle.play_words.specs.Words.{names_of};
 ghost use Rattle.run_laws.specs.Told.{text_in};
-ghost use Rattle.session_run.specs.Parts.{session_of, stores_in};
+ghost use Rattle.session_threads.specs.Parts.{session_of, stores_in};
 ghost use Rattle.session_run.specs.Standings.{HasEnded, IsAttaching};
 
 use crate::Status;
@@ -26,6 +27,7 @@ use jack_host::{Gate, Host, Sink, Source, Store};
 use play_words::Names;
 use run_laws::endings::a_session_is_explained;
 use session_run::{Session, SessionFault};
+use std::sync::Wait;
 use std::thread::Threads;
 
 // The status of a session's fault.
@@ -39,8 +41,9 @@ fn status_of(fault: SessionFault) -> Status
 }
 
 // Makes the files, runs the session and ends it. However that goes, the stores that are out have fronts of their files.
-fn perform<H: Host, G: Guest + Send, T: Threads + Sync, A: Gate>(
+fn perform<H: Host, G: Guest + Send, T: Threads + Sync, R: Wait + Sync, A: Gate>(
     threads: &T,
+    wait: &R,
     gate: &A,
     names: &Names<'_>,
     host: &mut H,
@@ -51,9 +54,10 @@ fn perform<H: Host, G: Guest + Send, T: Threads + Sync, A: Gate>(
     requires recorders { length session.old.recorders ≡ length names.now.records }
     requires apart { Apart (λ (name : List ℕ). name) (made_by names.now) }
     ensures ended { OnOk result (HasEnded session.new) }
-    ensures explained { OnOk result ((given : Given) → IsGiven (session_of session.old) given → given.disks ≡ [] → Explain given (stores_in session.new) (text_in (session_of session.new))) }
+    ensures explained { OnOk result ((given : Given) → IsGiven (session_of session.old) given → given.disks ≡ [] → Explain given (printed_of (session_of session.new)) (stores_in session.new) (text_in (session_of session.new))) }
+    ensures serial { OnOk result ((given : Given) → IsGiven (session_of session.old) given → given.disks ≡ [] → IsNone given.script.header.threads → printed_of (session_of session.new) ≡ serial_printed given) }
     ensures whole { OnOk result (AreOut (H.files host.new) (made_by names.now) (stores_in session.new)) }
-    ensures fronts { (given : Given) → IsGiven (session_of session.old) given → given.disks ≡ [] → HaveFronts given (stores_in session.new) }
+    ensures fronts { (given : Given) → IsGiven (session_of session.old) given → given.disks ≡ [] → HaveCut given (printed_of (session_of session.new)) (stores_in session.new) }
     ensures made { MadeSome (H.files host.old) (H.files host.new) (made_by names.now) (stores_in session.new) }
     ensures fault { IfErr result (λ status. (status ≡ Status.ReadFault) ⊎ (status ≡ Status.WriteFault)) }
     ensures read { IsErrOf result Status.ReadFault → Rose session.old.gear.capture.reading.faults session.new.gear.capture.reading.faults }
@@ -69,7 +73,7 @@ fn perform<H: Host, G: Guest + Send, T: Threads + Sync, A: Gate>(
     if make_files(host, names, session).is_err() {
         return Err(Status::WriteFault);
     }
-    if let Err(fault) = session.run(threads, gate) {
+    if let Err(fault) = session.run(threads, wait, gate) {
         return Err(status_of(fault));
     }
     if let Err(fault) = session.end() {
@@ -126,8 +130,16 @@ fn conclude<K: Sink, S: Source, W: Store, G: Guest>(
 
 /// Plays a session: makes its files, runs it, hands the files back, and puts the report out. The capture goes back to the
 /// host last.
-pub(crate) fn play_session<H: Host, K: Sink, G: Guest + Send, T: Threads + Sync, A: Gate>(
+pub(crate) fn play_session<
+    H: Host,
+    K: Sink,
+    G: Guest + Send,
+    T: Threads + Sync,
+    R: Wait + Sync,
+    A: Gate,
+>(
     threads: &T,
+    wait: &R,
     gate: &A,
     names: &Names<'_>,
     host: &mut H,
@@ -151,7 +163,7 @@ pub(crate) fn play_session<H: Host, K: Sink, G: Guest + Send, T: Threads + Sync,
     ensures puts { OnOk result (K.faults out.new ≡ K.faults out.old) }
     ensures lent { H.lent host.new + 1 ≡ H.lent host.old }
 {
-    let performed = perform(threads, gate, names, host, &mut session);
+    let performed = perform(threads, wait, gate, names, host, &mut session);
     let handed = hand_back(host, &mut session);
     let reported = conclude(out, &session, performed, handed.is_ok());
     host.back(session.into_capture().into_source());

@@ -5,11 +5,12 @@ use crate::running::{Played, has_length, has_out};
 use jack_control::Status;
 use jack_host::MemorySink;
 use std::process::Abort;
+use std::sync::Wait;
 use std::test::Fail;
 use std::thread::Threads;
 
 /// A play whose call of this number on this name is refused.
-fn refusing<R: Threads + Sync + AllocGlobal>(
+fn refusing<R: Threads + Wait + Sync + AllocGlobal>(
     rt: &R,
     name: &str,
     call: u32,
@@ -20,7 +21,7 @@ fn refusing<R: Threads + Sync + AllocGlobal>(
 }
 
 /// Refuses each call on a name in turn, until there is none of its number. Each but the last ends in this way.
-fn each_call_fails<R: Threads + Sync + AllocGlobal + Abort>(
+fn each_call_fails<R: Threads + Wait + Sync + AllocGlobal + Abort>(
     rt: &R,
     name: &str,
     status: Status,

@@ -8,6 +8,7 @@ use crate::running::{Played, RECORD, run};
 use jack_host::{MemoryHost, MemorySink};
 use jack_types::Format;
 use std::alloc::Global;
+use std::sync::Wait;
 use std::test::Fail;
 use std::thread::Threads;
 
@@ -59,7 +60,7 @@ pub fn drained_host(alloc: Global) -> Result<MemoryHost, Fail>
 }
 
 /// Plays what a host has, with one recorder.
-pub fn play_over<R: Threads + Sync + AllocGlobal>(
+pub fn play_over<R: Threads + Wait + Sync + AllocGlobal>(
     rt: &R,
     host: MemoryHost,
     out: MemorySink,

@@ -8,6 +8,7 @@ use jack_control::{Status, jackd};
 use jack_host::{FreeGate, Host, MemoryHost, MemorySink};
 use std::alloc::Global;
 use std::process::Abort;
+use std::sync::Wait;
 use std::test::Fail;
 use std::thread::Threads;
 
@@ -34,7 +35,7 @@ fn list_of(alloc: Global, words: &[&str]) -> Result<Vec<String>, Fail> {
 }
 
 /// Runs the words over a host.
-pub fn run<R: Threads + Sync + AllocGlobal, H: Host>(
+pub fn run<R: Threads + Wait + Sync + AllocGlobal, H: Host>(
     rt: &R,
     words: &[&str],
     host: &mut H,
@@ -44,11 +45,11 @@ pub fn run<R: Threads + Sync + AllocGlobal, H: Host>(
     requires { H.lent host.old < 900 }
 {
     let list = list_of(rt.alloc(), words)?;
-    Ok(jackd(rt, rt.alloc(), &list, host, out, guests, &FreeGate))
+    Ok(jackd(rt, rt, rt.alloc(), &list, host, out, guests, &FreeGate))
 }
 
 /// Runs the words over a host with a script, in pieces, and a capture, and with guests.
-pub fn play_with<R: Threads + Sync + AllocGlobal>(
+pub fn play_with<R: Threads + Wait + Sync + AllocGlobal>(
     rt: &R,
     words: &[&str],
     script: &[&str],
@@ -63,7 +64,7 @@ pub fn play_with<R: Threads + Sync + AllocGlobal>(
 }
 
 /// Runs the words over a host with a script, in pieces, and a capture.
-pub fn play<R: Threads + Sync + AllocGlobal>(
+pub fn play<R: Threads + Wait + Sync + AllocGlobal>(
     rt: &R,
     words: &[&str],
     script: &[&str],
@@ -89,7 +90,7 @@ pub fn has_out(rt: &impl Abort, played: &Played, text: &str) {
 }
 
 /// A script is refused with this status and line, and no file is made.
-pub fn refuses<R: Threads + Sync + AllocGlobal + Abort>(
+pub fn refuses<R: Threads + Wait + Sync + AllocGlobal + Abort>(
     rt: &R,
     script: &[&str],
     capture: &[u8],

@@ -5,6 +5,7 @@ use crate::running::refuses;
 use jack_control::Status;
 use jack_types::{Cause, ScriptFault};
 use std::process::Abort;
+use std::sync::Wait;
 use std::test::Fail;
 use std::thread::Threads;
 
@@ -16,7 +17,7 @@ playback 1 16
 ";
 
 /// A script is refused on this line for its version.
-fn has_version_3<R: Threads + Sync + AllocGlobal + Abort>(
+fn has_version_3<R: Threads + Wait + Sync + AllocGlobal + Abort>(
     rt: &R,
     script: &[&str],
     line: u32,

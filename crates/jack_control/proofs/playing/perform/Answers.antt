@@ -1,8 +1,8 @@
 use Rattle.std.proofs.Common.{◌∙◌, ap, refl, subst, sym}
 use Rattle.wave_pcm.specs.Readings.{Reading, SameReading}
 use Rattle.cycle_laws.specs.Gears.{Gear}
-use Rattle.session_run.specs.Parts.{stores_in}
-use Rattle.session_run.proofs.StoreLemmas.{later-trans}
+use Rattle.session_threads.specs.Parts.{stores_in}
+use Rattle.session_threads.proofs.StoreLemmas.{later-trans}
 use Rattle.jack_control.specs.Plays.{made_by}
 use Rattle.jack_control.proofs.HandedLemmas.{ok_of}
 use Rattle.jack_control.proofs.ExplainedLemmas.{fronts-begun}

@@ -2,7 +2,7 @@ use Rattle.std.proofs.Common.{◌≡◌, List, ℕ, ◌∙◌, arith, sym, ap, s
 use Rattle.jack_host.specs.Bytes.{Gains}
 use Rattle.wave_pcm.specs.Readings.{Reading}
 use Rattle.run_laws.specs.Told.{text_in}
-use Rattle.session_run.specs.Parts.{session_of, stores_in}
+use Rattle.session_threads.specs.Parts.{session_of, stores_in}
 use Rattle.jack_control.specs.Plays.{made_by}
 use Rattle.jack_control.proofs.CauseLemmas.{err-any, ok-behind, ok-known, rose-handed, rose-written}
 use Rattle.jack_control.proofs.CutLemmas.{apart-front, apart-take, cut, explained, others-kept}
