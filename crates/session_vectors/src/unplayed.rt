@@ -39,7 +39,7 @@ fn version_3_is_refused_on_its_line(rt: HostRuntime) -> Result<(), Fail> {
     let behind = [
         "# a session\n\njackd 3\n",
         DEVICE,
-        "  # no threads yet\n \t \nmode threads 2\n",
+        "  # two workers\n \t \nmode threads 2\n",
     ];
     has_version_3(&rt, &behind, 3, "fault 5 script 3 Choice\n")
 }
