@@ -23,6 +23,7 @@ ghost use Rattle.session_run.specs.Standings.{HasEnded, IsAttaching};
 use crate::Status;
 use crate::files::{hand_back, make_files};
 use client_kinds::Guest;
+use driver_laws::endings::{all_is_played_back, blocks_kept_are_recorded};
 use jack_host::{Gate, Host, Sink, Source, Store};
 use play_words::Names;
 use run_laws::endings::a_session_is_explained;
@@ -70,6 +71,8 @@ fn perform<H: Host, G: Guest + Send, T: Threads + Sync, R: Wait + Sync, A: Gate>
     ensures lent { H.lent host.new ≡ H.lent host.old + length (stores_in session.new) }
 {
     a_session_is_explained();
+    all_is_played_back();
+    blocks_kept_are_recorded();
     if make_files(host, names, session).is_err() {
         return Err(Status::WriteFault);
     }

@@ -49,6 +49,7 @@ impl<S: Source, W: Store + Send, G: Guest + Send> Session<S, W, G> {
     ghost use Rattle.std.specs.Prelude.{◌≡◌, ℕ, IsErrOf, IsNone, IsSome, OnErr, OnOk, length};
     ghost use Rattle.jack_host.specs.Causes.{Rose};
     ghost use Rattle.session_model.specs.Explanations.{Given};
+    ghost use Rattle.session_model.specs.Histories.{LegalSoFar};
     ghost use Rattle.wave_pcm.specs.Readings.{SameReading};
     ghost use Rattle.run_laws.specs.Sessions.{IsGiven};
     ghost use Rattle.run_laws.specs.SerialRuns.{SerialKept};
@@ -75,6 +76,7 @@ impl<S: Source, W: Store + Send, G: Guest + Send> Session<S, W, G> {
         ensures kept { IsNone self.old.gear.script.header.threads → OnOk result ((given : Given) → IsGiven (session_of self.old) given → SerialKept given (session_of self.new)) }
         ensures fault { IsNone self.old.gear.script.header.threads → OnErr result ((given : Given) → IsGiven (session_of self.old) given → StandsInSerial given (told_of self.new)) }
         ensures so_far { IsSome self.old.gear.script.header.threads → OnErr result ((kept : ℕ) × ((given : Given) → IsGiven (session_of self.old) given → StandsSoFar kept (told_of self.new) given)) }
+        ensures legal { IsSome self.old.gear.script.header.threads → OnErr result (LegalSoFar self.new.gear.script self.new.desk.history) }
         ensures script { self.new.gear.script ≡ self.old.gear.script }
         ensures stores { AreLater (stores_in self.old) (stores_in self.new) }
         ensures recorders { length self.new.recorders ≡ length self.old.recorders }

@@ -1,6 +1,7 @@
 use Rattle.std.proofs.Common.{◌≡◌, List, ℕ, ◌∙◌, arith, sym, ap, subst, take}
 use Rattle.jack_host.specs.Bytes.{Gains}
 use Rattle.wave_pcm.specs.Readings.{Reading}
+use Rattle.run_laws.specs.Sessions.{printed_of}
 use Rattle.run_laws.specs.Told.{text_in}
 use Rattle.session_threads.specs.Parts.{session_of, stores_in}
 use Rattle.jack_control.specs.Plays.{made_by}
@@ -22,10 +23,10 @@ pub returns-clause-played : goal.returns-clause-played
 returns-clause-played g c =
     ok-behind c.conclude-reported.result
     (λ put files scores first is.
-    explained scores c.args.names.now c.args.session (stores_in c.perform-performed.new.session) files (g.H.Host.files c.args.host.now) (g.H.Host.files c.perform-performed.new.host) (g.H.Host.files c.hand_back-handed.new.host) (g.H.Host.files c.back.new.self)
+    explained scores c.args.names.now c.args.session (printed_of (session_of c.perform-performed.new.session)) (stores_in c.perform-performed.new.session) files (g.H.Host.files c.args.host.now) (g.H.Host.files c.perform-performed.new.host) (g.H.Host.files c.hand_back-handed.new.host) (g.H.Host.files c.back.new.self)
     (g.K.Sink.content c.args.out.now) (g.K.Sink.content c.conclude-reported.new.out) (text_in (session_of c.perform-performed.new.session)) first c.perform-performed.ensures.others
     (apart-front (made_by c.args.names.now) c.args.names.now.disks c.requires.apart.1.1) c.hand_back-handed.ensures.stand c.back.ensures.files is
-    (ok-known c.perform-performed.result _ put.0 c.perform-performed.ensures.whole) (ok-known c.perform-performed.result _ put.0 c.perform-performed.ensures.explained)
+    (ok-known c.perform-performed.result _ put.0 c.perform-performed.ensures.whole) (ok-known c.perform-performed.result _ put.0 c.perform-performed.ensures.explained) (ok-known c.perform-performed.result _ put.0 c.perform-performed.ensures.serial)
     (subst (λ (report : List ℕ). Gains (g.K.Sink.content c.args.out.now) (g.K.Sink.content c.conclude-reported.new.out) report) c.hand_back-handed.ensures.report put.2))
     c.conclude-reported.ensures.put
 
@@ -33,7 +34,7 @@ pub returns-clause-cut : goal.returns-clause-cut
 returns-clause-cut g c =
     err-any c.conclude-reported.result
     (λ files scores first is.
-    cut scores c.args.names.now c.args.session (stores_in c.perform-performed.new.session) files (g.H.Host.files c.args.host.now) (g.H.Host.files c.perform-performed.new.host) (g.H.Host.files c.hand_back-handed.new.host) (g.H.Host.files c.back.new.self) first
+    cut scores c.args.names.now c.args.session (printed_of (session_of c.perform-performed.new.session)) (stores_in c.perform-performed.new.session) files (g.H.Host.files c.args.host.now) (g.H.Host.files c.perform-performed.new.host) (g.H.Host.files c.hand_back-handed.new.host) (g.H.Host.files c.back.new.self) first
     (apart-front (made_by c.args.names.now) c.args.names.now.disks c.requires.apart.1.1) c.perform-performed.ensures.made c.hand_back-handed.ensures.stand c.back.ensures.files is c.perform-performed.ensures.fronts)
 
 pub returns-clause-read : goal.returns-clause-read
