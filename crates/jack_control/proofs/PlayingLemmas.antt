@@ -5,7 +5,7 @@
 --     all-held, made-behind      what is so behind that
 --     cut-begun, cut-broken, cut-whole      of the stores, where making files failed, where the run or the end failed, and where neither did
 --     explain-whole, serial-whole      what is printed explains them, and in serial mode it is the history of that
-use Rattle.std.proofs.Common.{◌≡◌, ℕ, suc, ◌<◌, List, [], length, take, Option, Some, None, IsNone, is_some, Result, Ok, Err, is_err, OnOk, false, sym, ◌∙◌, ap, subst, arith, true≢false}
+use Rattle.std.proofs.Common.{◌≡◌, ℕ, suc, ◌<◌, ◌≤◌, List, [], length, take, Option, Some, None, IsNone, is_some, Result, Ok, Err, is_err, OnOk, false, sym, ◌∙◌, ap, subst, arith, true≢false}
 use Rattle.std.specs.Prelude.{IsSome}
 use Rattle.std.proofs.lemmas.List.{length-map, take_all}
 use Rattle.std.proofs.lemmas.Option.{slice_get_within}
