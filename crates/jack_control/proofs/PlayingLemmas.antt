@@ -3,10 +3,11 @@
 --     out-behind      its stores, later
 --     MadeAll, made-all      all files were made
 --     all-held, made-behind      what is so behind that
+--     status-either, was-read, was-write, one-failed      whose fault it was
 --     cut-begun, cut-broken, cut-whole      of the stores, where making files failed, where the run or the end failed, and where neither did
 --     explain-whole, serial-whole      what is printed explains them, and in serial mode it is the history of that
-use Rattle.std.proofs.Common.{◌≡◌, ℕ, suc, ◌<◌, ◌≤◌, List, [], length, take, Option, Some, None, IsNone, is_some, Result, Ok, Err, is_err, OnOk, false, sym, ◌∙◌, ap, subst, arith, true≢false}
-use Rattle.std.specs.Prelude.{IsSome}
+use Rattle.std.proofs.Common.{◌≡◌, ◌⊎◌, inl, inr, ℕ, suc, ◌<◌, ◌≤◌, List, [], length, take, Option, Some, None, IsNone, is_some, Result, Ok, Err, is_err, OnOk, false, sym, ◌∙◌, ap, subst, arith, true≢false}
+use Rattle.std.specs.Prelude.{IsErrOf, IsSome}
 use Rattle.std.proofs.lemmas.List.{length-map, take_all}
 use Rattle.std.proofs.lemmas.Option.{slice_get_within}
 use Rattle.jack_types.specs.declared.replies.Entry.{Entry}
@@ -25,11 +26,15 @@ use Rattle.run_laws.specs.Sessions.{IsGiven, Session, printed_of}
 use Rattle.run_laws.specs.Told.{Ends, Runs, StandsSoFar, text_in}
 use Rattle.serial_laws.specs.Faults.{StandsInSerial}
 use Rattle.serial_laws.proofs.FrontLemmas.{KeptAreAll, PlayedIsAll}
-use Rattle.session_threads.specs.Parts.{AreLater, IsLater, Parts, bytes_of, session_of, stores_in, told_of}
+use Rattle.session_threads.specs.Parts.{AreLater, IsLater, OneRose, Parts, bytes_of, session_of, stores_in, told_of}
+use Rattle.session_threads.specs.declared.faults.SessionFault.{SessionFault}
+use Rattle.session_threads.specs.declared.faults.SessionFault.TheVariants.{Read, Write}
 use Rattle.session_run.specs.Standings.{IsAttaching}
-use Rattle.jack_control.specs.Files.{AreFronts, AreOut, IsOut}
+use Rattle.jack_control.specs.declared.status.Status.{Status}
+use Rattle.jack_control.specs.declared.status.Status.TheVariants.{ReadFault, WriteFault}
+use Rattle.jack_control.specs.Files.{AreFronts, AreOut, IsOut, OneFailed}
 use Rattle.jack_control.specs.Inputs.{Files}
-use Rattle.jack_control.specs.Performances.{Explain, HaveCut, MadeSome}
+use Rattle.jack_control.specs.Performances.{Explain, HaveCut, MadeSome, status_of_session}
 use Rattle.jack_control.specs.Plays.{TouchesOnly}
 use Rattle.jack_control.proofs.ExplainedLemmas.{AreHeld, IsExplainedEach, begun-so_far, ended-so_far, explain, fronts-begun, fronts-ended, fronts-so_far, fronts-told, printed-serial}
 
@@ -83,6 +88,23 @@ cut-begun parts later stores attaching begun desk same given is = record {
     fronts = begun-so_far parts stores begun given (printed_of (session_of later)) 0 is;
   };
 }
+
+-- ---- the causes of a session's fault
+
+pub status-either : (fault : SessionFault) (status : Status) → status ≡ status_of_session fault → (status ≡ ReadFault) ⊎ (status ≡ WriteFault)
+status-either Read status is = inl is
+status-either Write status is = inr is
+
+pub was-read : (fault : SessionFault) (status : Status) (r : Result (Unit {0}) SessionFault) (answer : Result (Unit {0}) Status) → r ≡ Err fault → status ≡ status_of_session fault → answer ≡ Err status → IsErrOf answer ReadFault → IsErrOf r Read
+was-read Read status r answer is of told e = is
+was-read Write status r answer is of told e = let no : ⊥ = cc in absurd no
+
+pub was-write : (fault : SessionFault) (status : Status) (r : Result (Unit {0}) SessionFault) (answer : Result (Unit {0}) Status) → r ≡ Err fault → status ≡ status_of_session fault → answer ≡ Err status → IsErrOf answer WriteFault → IsErrOf r Write
+was-write Read status r answer is of told e = let no : ⊥ = cc in absurd no
+was-write Write status r answer is of told e = is
+
+pub one-failed : (before after : List Stored) → OneRose before after → OneFailed after
+one-failed before after one = (one.place, one.new, one.is, let rose = one.rose in omega (arith, rose))
 
 -- all files were made, of a session that had none
 pub record MadeAll (old new : Option Files) (names records : List (List ℕ)) (before after : Parts) : Type 0 where

@@ -48,41 +48,42 @@ fn perform<H: Host, G: Guest + Send, T: Threads + Sync, R: Wait + Sync, A: Gate>
     gate: &A,
     names: &Names<'_>,
     host: &mut H,
-    session: &mut Session<H::In, H::Out, G>,
-) -> Result<(), Status>
+    mut session: Session<H::In, H::Out, G>,
+) -> (Session<H::In, H::Out, G>, Result<(), Status>)
     requires out { H.lent host.old < 950 }
-    requires attaching { IsAttaching session.old × (session.old.attached ≡ 0) × (stores_in session.old ≡ []) }
-    requires recorders { length session.old.recorders ≡ length names.now.records }
+    requires attaching { IsAttaching session × (session.attached ≡ 0) × (stores_in session ≡ []) }
+    requires recorders { length session.recorders ≡ length names.now.records }
     requires apart { Apart (λ (name : List ℕ). name) (made_by names.now) }
-    ensures ended { OnOk result (HasEnded session.new) }
-    ensures explained { OnOk result ((given : Given) → IsGiven (session_of session.old) given → given.disks ≡ [] → Explain given (printed_of (session_of session.new)) (stores_in session.new) (text_in (session_of session.new))) }
-    ensures serial { OnOk result ((given : Given) → IsGiven (session_of session.old) given → given.disks ≡ [] → IsNone given.script.header.threads → printed_of (session_of session.new) ≡ serial_printed given) }
-    ensures whole { OnOk result (AreOut (H.files host.new) (made_by names.now) (stores_in session.new)) }
-    ensures fronts { (given : Given) → IsGiven (session_of session.old) given → given.disks ≡ [] → HaveCut given (printed_of (session_of session.new)) (stores_in session.new) }
-    ensures made { MadeSome (H.files host.old) (H.files host.new) (made_by names.now) (stores_in session.new) }
-    ensures fault { IfErr result (λ status. (status ≡ Status.ReadFault) ⊎ (status ≡ Status.WriteFault)) }
-    ensures read { IsErrOf result Status.ReadFault → Rose session.old.gear.capture.reading.faults session.new.gear.capture.reading.faults }
-    ensures write { IsErrOf result Status.WriteFault → Rose (H.write_faults host.old) (H.write_faults host.new) ⊎ OneFailed (stores_in session.new) }
+    ensures ended { OnOk result.1 (HasEnded result.0) }
+    ensures explained { OnOk result.1 ((given : Given) → IsGiven (session_of session) given → given.disks ≡ [] → Explain given (printed_of (session_of result.0)) (stores_in result.0) (text_in (session_of result.0))) }
+    ensures serial { OnOk result.1 ((given : Given) → IsGiven (session_of session) given → given.disks ≡ [] → IsNone given.script.header.threads → printed_of (session_of result.0) ≡ serial_printed given) }
+    ensures whole { OnOk result.1 (AreOut (H.files host.new) (made_by names.now) (stores_in result.0)) }
+    ensures fronts { (given : Given) → IsGiven (session_of session) given → given.disks ≡ [] → HaveCut given (printed_of (session_of result.0)) (stores_in result.0) }
+    ensures made { MadeSome (H.files host.old) (H.files host.new) (made_by names.now) (stores_in result.0) }
+    ensures fault { IfErr result.1 (λ status. (status ≡ Status.ReadFault) ⊎ (status ≡ Status.WriteFault)) }
+    ensures read { IsErrOf result.1 Status.ReadFault → Rose session.gear.capture.reading.faults result.0.gear.capture.reading.faults }
+    ensures write { IsErrOf result.1 Status.WriteFault → Rose (H.write_faults host.old) (H.write_faults host.new) ⊎ OneFailed (stores_in result.0) }
     ensures others { TouchesOnly (H.files host.old) (H.files host.new) (made_by names.now) }
     ensures later { H.write_faults host.old ≤ H.write_faults host.new }
-    ensures kept { OnOk result (H.write_faults host.new ≡ H.write_faults host.old) }
-    ensures capture { OnOk result (SameReading session.old.gear.capture.reading session.new.gear.capture.reading) }
+    ensures kept { OnOk result.1 (H.write_faults host.new ≡ H.write_faults host.old) }
+    ensures capture { OnOk result.1 (SameReading session.gear.capture.reading result.0.gear.capture.reading) }
     ensures reads { H.read_faults host.new ≡ H.read_faults host.old }
-    ensures lent { H.lent host.new ≡ H.lent host.old + length (stores_in session.new) }
+    ensures lent { H.lent host.new ≡ H.lent host.old + length (stores_in result.0) }
 {
     a_session_is_explained();
     all_is_played_back();
     blocks_kept_are_recorded();
-    if make_files(host, names, session).is_err() {
-        return Err(Status::WriteFault);
+    if make_files(host, names, &mut session).is_err() {
+        return (session, Err(Status::WriteFault));
     }
-    if let Err(fault) = session.run(threads, wait, gate) {
-        return Err(status_of(fault));
+    let (mut session, ran) = session.run(threads, wait, gate);
+    if let Err(fault) = ran {
+        return (session, Err(status_of(fault)));
     }
     if let Err(fault) = session.end() {
-        return Err(status_of(fault));
+        return (session, Err(status_of(fault)));
     }
-    Ok(())
+    (session, Ok(()))
 }
 
 // Puts the report out, where all files were handed back.
@@ -147,7 +148,7 @@ pub(crate) fn play_session<
     names: &Names<'_>,
     host: &mut H,
     out: &mut K,
-    mut session: Session<H::In, H::Out, G>,
+    session: Session<H::In, H::Out, G>,
 ) -> Result<(), Status>
     requires out { (1 ≤ H.lent host.old) × (H.lent host.old < 950) }
     requires attaching { IsAttaching session × (session.attached ≡ 0) × (stores_in session ≡ []) }
@@ -166,7 +167,7 @@ pub(crate) fn play_session<
     ensures puts { OnOk result (K.faults out.new ≡ K.faults out.old) }
     ensures lent { H.lent host.new + 1 ≡ H.lent host.old }
 {
-    let performed = perform(threads, wait, gate, names, host, &mut session);
+    let (mut session, performed) = perform(threads, wait, gate, names, host, session);
     let handed = hand_back(host, &mut session);
     let reported = conclude(out, &session, performed, handed.is_ok());
     host.back(session.into_capture().into_source());
