@@ -13,6 +13,9 @@
 #
 # A .wave has rate, channels and bits on its first line, and then the samples in the file's units; 0*20 is a sample twenty
 # times.
+#
+# A script in serial mode that threads play to the same bytes, in whatever order they run, is played with 1, 2 and 4 workers
+# too, as its row says.
 set -u
 # shellcheck source=scripts/program.sh
 . "$(dirname "$0")/program.sh" python3
@@ -35,6 +38,17 @@ def wave_of(text):
     header = b'WAVEfmt ' + b''.join(number.to_bytes(size, 'little') for number, size in shape)
     header += b'data' + len(data).to_bytes(4, 'little')
     return b'RIFF' + (len(header) + len(data)).to_bytes(4, 'little') + header + data
+
+
+def with_threads(script):
+    """The script with 1, 2 and 4 workers, if no lane has a call and no ring has fewer places than `run` cycles."""
+    lines = [line.split() for line in script.splitlines()]
+    first = [line[0] for line in lines if line]
+    places = sum(int(line[1]) for line in lines if line[:1] == [b'ring'] and line[1:]) or 16
+    cycles = sum(int(line[1]) for line in lines if line[:1] == [b'run'] and line[1:])
+    if b'lane' in first or b'recorder' in first and cycles > places:
+        return []
+    return [script.replace(b'mode serial\n', b'mode threads %d\n' % workers, 1) for workers in (1, 2, 4) if b'mode serial\n' in script]
 
 
 def read(path):
@@ -117,6 +131,8 @@ def faults_of_row(folder):
             row[stem] = held
         else:
             made.setdefault(stem, []).append(held)
+    if 'fronts' not in row:
+        scripts += [other for script in scripts for other in with_threads(script)]
     for script in scripts:
         given = {'s': script, **({'c': row['c']} if 'c' in row else {})}
         for words in row['words'].decode().splitlines():

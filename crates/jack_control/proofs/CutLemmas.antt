@@ -4,7 +4,7 @@
 --     handed, others-kept      of the files that were made, when they were handed back
 --     explained      an ended play
 --     cut      one that failed
-use Rattle.std.proofs.Common.{◌≡◌, ℕ, zero, suc, ◌<◌, ◌≤◌, ◌⊎◌, inl, inr, List, [], ◌∷◌, ◌++◌, length, map, take, drop, get_or, slice_get, Contains, Option, Some, None, refl, sym, ◌∙◌, ap, ap₂, subst, arith, true≢false}
+use Rattle.std.proofs.Common.{◌≡◌, ℕ, zero, suc, ◌<◌, ◌≤◌, ◌⊎◌, inl, inr, List, [], ◌∷◌, ◌++◌, length, map, take, drop, get_or, slice_get, Contains, Option, Some, None, IsNone, refl, sym, ◌∙◌, ap, ap₂, subst, arith, true≢false}
 use Rattle.std.specs.Prelude.{IsSome}
 use Rattle.std.proofs.lemmas.Bool.{cases_lt}
 use Rattle.std.proofs.lemmas.List.{length-map, take-append-drop}
@@ -12,7 +12,8 @@ use Rattle.std.proofs.lemmas.Option.{same_Some, slice_get-get_or}
 use Rattle.jack_types.specs.declared.kinds.Score.{Score}
 use Rattle.jack_host.specs.Bytes.{Gains}
 use Rattle.jack_host.specs.Files.{bytes_under, SameFiles}
-use Rattle.session_model.specs.Explanations.{Given}
+use Rattle.session_model.specs.Explanations.{Given, Printed}
+use Rattle.session_model.specs.Serial.{serial_printed}
 use Rattle.session_model.specs.Soundness.{Apart}
 use Rattle.session_laws.proofs.LoopLemmas.{Contains-cases, Contains-first, Contains-later}
 use Rattle.port_registry.proofs.PlaceLemmas.{Apart-place}
@@ -20,11 +21,11 @@ use Rattle.recorder_files.specs.Recorders.{Stored}
 use Rattle.run_laws.proofs.PlaceLemmas.{front_there, some_at}
 use Rattle.run_laws.specs.Sessions.{IsGiven}
 use Rattle.play_words.specs.Words.{Play}
-use Rattle.session_run.specs.Parts.{Parts, session_of}
+use Rattle.session_threads.specs.Parts.{Parts, session_of}
 use Rattle.jack_control.specs.Files.{AreOut, IsHeld, Stand}
 use Rattle.jack_control.specs.Inputs.{Files}
 use Rattle.jack_control.specs.Openings.{IsSessionOf}
-use Rattle.jack_control.specs.Performances.{Explain, HaveFronts, MadeSome, front_at}
+use Rattle.jack_control.specs.Performances.{Explain, HaveCut, HaveCutSoFar, HaveFronts, MadeSome, front_at, front_so_far}
 use Rattle.jack_control.specs.Plays.{Cuts, IsAsBeforeOr, IsCut, IsExplained, Plays, TouchesOnly, made_by}
 
 -- ---- names
@@ -122,14 +123,17 @@ first-of a b rest others same = cc
 others-of : (a b : Option (List ℕ)) (rest others : List (Option (List ℕ))) → a ∷ rest ≡ b ∷ others → rest ≡ others
 others-of a b rest others same = cc
 
--- whatever is given, the history of serial mode explains what the stores have and this report
-abbrev pub ExplainsAll : Parts → List Stored → List ℕ → Type 0
-ExplainsAll parts stores report = (given : Given) → IsGiven (session_of parts) given → given.disks ≡ [] → Explain given stores report
+-- whatever is given, what is printed explains what the stores have and this report, and in serial mode it is the history of that
+abbrev pub ExplainsAll : Parts → Printed → List Stored → List ℕ → Type 0
+ExplainsAll parts printed stores report = (given : Given) → IsGiven (session_of parts) given → given.disks ≡ [] → Explain given printed stores report
 
-module _ (scores : List Score) (play : Play) (parts : Parts) (stores : List Stored) where
+abbrev pub IsSerialOf : Parts → Printed → Type 0
+IsSerialOf parts printed = (given : Given) → IsGiven (session_of parts) given → given.disks ≡ [] → IsNone given.script.header.threads → printed ≡ serial_printed given
+
+module _ (scores : List Score) (play : Play) (parts : Parts) (printed : Printed) (stores : List Stored) where
   plays : (files made behind new : Files) (out out_after : Option (List ℕ)) (report : List ℕ) → IsSessionOf (Some files) scores play parts → AreOut (Some made) (made_by play) stores
-      → Stand (Some made) (Some behind) (made_by play) stores → SameFiles (Some behind) (Some new) → ExplainsAll parts stores report → Gains out out_after report → Plays files new out out_after scores play
-  plays files made behind new out out_after report is held stand same explains gains = go texts.0 texts.1
+      → Stand (Some made) (Some behind) (made_by play) stores → SameFiles (Some behind) (Some new) → ExplainsAll parts printed stores report → IsSerialOf parts printed → Gains out out_after report → Plays files new out out_after scores play
+  plays files made behind new out out_after report is held stand same explains serial gains = go texts.0 texts.1
     where
       texts : (texts : List (List ℕ)) × (map (λ (store : Stored). store.bytes) stores ≡ map Some texts)
       texts = texts-told made (made_by play) stores held.as_many (λ i n s a b. held.each i n s a b)
@@ -146,6 +150,8 @@ module _ (scores : List Score) (play : Play) (parts : Parts) (stores : List Stor
         capture_is = is.given.2.1;
         given = is.given.2.2.0;
         input = is.given.2.2.1;
+        printed = printed;
+        serial = serial is.given.2.2.0 is.given.2.2.2 is.given.2.2.1.no_disk;
         written = record { playback = text; records = texts; report = report };
         explained = explains is.given.2.2.0 is.given.2.2.2 is.given.2.2.1.no_disk text texts are;
         playback_is = first-of (bytes_under new play.playback) (Some text) (map (bytes_under new) play.records) (map Some texts) (under ∙ are);
@@ -154,14 +160,14 @@ module _ (scores : List Score) (play : Play) (parts : Parts) (stores : List Stor
       }
 
   pub explained : (files old made behind new : Option Files) (out out_after : Option (List ℕ)) (report : List ℕ) → SameFiles files old → TouchesOnly old made (made_by play) → AreApart (made_by play) → AllStand made behind stores → SameFiles behind new
-      → IsSessionOf files scores play parts → AreOut made (made_by play) stores → ExplainsAll parts stores report → Gains out out_after report → IsExplained files new out out_after scores play
-  explained None old made behind new out out_after report first touches apart stand last is held explains gains = tt
-  explained (Some files) None made behind new out out_after report first touches apart stand last is held explains gains = absurd first
-  explained (Some files) (Some old) None behind new out out_after report first touches apart stand last is held explains gains = absurd touches
-  explained (Some files) (Some old) (Some made) None new out out_after report first touches apart stand last is held explains gains = absurd (stand (made_by play) held apart).others
-  explained (Some files) (Some old) (Some made) (Some behind) None out out_after report first touches apart stand last is held explains gains = absurd last
-  explained (Some files) (Some old) (Some made) (Some behind) (Some new) out out_after report first touches apart stand last is held explains gains =
-      plays files made behind new out out_after report is held (stand (made_by play) held apart) last explains gains
+      → IsSessionOf files scores play parts → AreOut made (made_by play) stores → ExplainsAll parts printed stores report → IsSerialOf parts printed → Gains out out_after report → IsExplained files new out out_after scores play
+  explained None old made behind new out out_after report first touches apart stand last is held explains serial gains = tt
+  explained (Some files) None made behind new out out_after report first touches apart stand last is held explains serial gains = absurd first
+  explained (Some files) (Some old) None behind new out out_after report first touches apart stand last is held explains serial gains = absurd touches
+  explained (Some files) (Some old) (Some made) None new out out_after report first touches apart stand last is held explains serial gains = absurd (stand (made_by play) held apart).others
+  explained (Some files) (Some old) (Some made) (Some behind) None out out_after report first touches apart stand last is held explains serial gains = absurd last
+  explained (Some files) (Some old) (Some made) (Some behind) (Some new) out out_after report first touches apart stand last is held explains serial gains =
+      plays files made behind new out out_after report is held (stand (made_by play) held apart) last explains serial gains
 
 -- ---- cut
 
@@ -173,12 +179,12 @@ none-there many names i name apart there high contains =
     let low = contains.1 in
     omega (arith, same, high, low)
 
-module _ (given : Given) (names : List (List ℕ)) (stores : List Stored) (apart : AreApart names) (fronts : HaveFronts given stores) where
+module _ (front : ℕ → Option (List ℕ) → Type 0) (names : List (List ℕ)) (stores : List Stored) (apart : AreApart names) (fronts : HaveFronts front stores) where
   cut-at : (files old made behind new : Files) → SameFiles (Some files) (Some old) → (some : MadeSome (Some old) (Some made) names stores) → Stand (Some made) (Some behind) (take some.made names) stores → SameFiles (Some behind) (Some new)
-      → (place : ℕ) (name : List ℕ) → slice_get names place ≡ Some name → IsAsBeforeOr (front_at given place) files new name
+      → (place : ℕ) (name : List ℕ) → slice_get names place ≡ Some name → IsAsBeforeOr (front place) files new name
   cut-at files old made behind new first some stand last place name there = go (cases_lt place (length (take some.made names)))
     where
-      go : (place < length (take some.made names)) ⊎ (length (take some.made names) ≤ place) → IsAsBeforeOr (front_at given place) files new name
+      go : (place < length (take some.made names)) ⊎ (length (take some.made names) ≤ place) → IsAsBeforeOr (front place) files new name
       go (inr high) =
           let other : Contains (take some.made names) name → ⊥ = none-there some.made names place name apart there high in
           inl (last name ∙ stand.others name other ∙ some.touches name other ∙ first name)
@@ -189,28 +195,44 @@ module _ (given : Given) (names : List (List ℕ)) (stores : List Stored) (apart
           let store = some_at stores place (subst (λ n. place < n) (sym some.out.as_many) low) in
           let held : IsHeld made name store.0 = some.out.each place name store.0 at store.1 in
           let told = some-told store.0.bytes held.tells in
-          inr (told.0, last name ∙ stand.each place name store.0 at store.1 ∙ told.1, subst (λ (bytes : Option (List ℕ)). front_at given place bytes) told.1 (fronts place store.0 store.1))
+          inr (told.0, last name ∙ stand.each place name store.0 at store.1 ∙ told.1, subst (λ (bytes : Option (List ℕ)). front place bytes) told.1 (fronts place store.0 store.1))
 
-module _ (scores : List Score) (play : Play) (parts : Parts) (stores : List Stored) where
+module _ (scores : List Score) (play : Play) (parts : Parts) (printed : Printed) (stores : List Stored) where
   cuts : (files old made behind new : Files) → SameFiles (Some files) (Some old) → AreApart (made_by play) → MadeSome (Some old) (Some made) (made_by play) stores → AllStand (Some made) (Some behind) stores → SameFiles (Some behind) (Some new)
-      → IsSessionOf (Some files) scores play parts → ((given : Given) → IsGiven (session_of parts) given → given.disks ≡ [] → HaveFronts given stores) → Cuts files new scores play
-  cuts files old made behind new first apart some stand last is fronts = record {
+      → IsSessionOf (Some files) scores play parts → ((given : Given) → IsGiven (session_of parts) given → given.disks ≡ [] → HaveCut given printed stores) → Cuts files new scores play
+  cuts files old made behind new first apart some stand last is cut = record {
     script_bytes = is.given.0;
     capture_bytes = is.given.2.0;
     script_is = is.given.1;
     capture_is = is.given.2.1;
-    given = is.given.2.2.0;
+    given = given;
     input = is.given.2.2.1;
-    playback = at zero play.playback refl;
-    records = λ recorder name there. at (suc recorder) name there;
+    serial = λ none. record {
+      playback = at (front_at given) ((cut given is.given.2.2.2 is.given.2.2.1.no_disk).serial none) zero play.playback refl;
+      records = λ recorder name there. at (front_at given) ((cut given is.given.2.2.2 is.given.2.2.1.no_disk).serial none) (suc recorder) name there;
+    };
+    so_far = λ some.
+        let far : HaveCutSoFar given printed stores = (cut given is.given.2.2.2 is.given.2.2.1.no_disk).so_far some in
+        record {
+          printed = printed;
+          kept = far.kept;
+          came = far.came;
+          fronts = record {
+            playback = at (front_so_far given printed far.kept) far.fronts zero play.playback refl;
+            records = λ recorder name there. at (front_so_far given printed far.kept) far.fronts (suc recorder) name there;
+          };
+        };
   }
     where
-      at : (place : ℕ) (name : List ℕ) → slice_get (made_by play) place ≡ Some name → IsAsBeforeOr (front_at is.given.2.2.0 place) files new name
-      at place name there =
-          cut-at is.given.2.2.0 (made_by play) stores apart (fronts is.given.2.2.0 is.given.2.2.2 is.given.2.2.1.no_disk) files old made behind new first some (handed (Some old) (Some made) (Some behind) (made_by play) stores apart some stand) last place name there
+      given : Given
+      given = is.given.2.2.0
+
+      at : (front : ℕ → Option (List ℕ) → Type 0) → HaveFronts front stores → (place : ℕ) (name : List ℕ) → slice_get (made_by play) place ≡ Some name → IsAsBeforeOr (front place) files new name
+      at front fronts place name there =
+          cut-at front (made_by play) stores apart fronts files old made behind new first some (handed (Some old) (Some made) (Some behind) (made_by play) stores apart some stand) last place name there
 
   pub cut : (files old made behind new : Option Files) → SameFiles files old → AreApart (made_by play) → MadeSome old made (made_by play) stores → AllStand made behind stores → SameFiles behind new
-      → IsSessionOf files scores play parts → ((given : Given) → IsGiven (session_of parts) given → given.disks ≡ [] → HaveFronts given stores) → IsCut files new scores play
+      → IsSessionOf files scores play parts → ((given : Given) → IsGiven (session_of parts) given → given.disks ≡ [] → HaveCut given printed stores) → IsCut files new scores play
   cut None old made behind new first apart some stand last is fronts = tt
   cut (Some files) None made behind new first apart some stand last is fronts = absurd first
   cut (Some files) (Some old) None behind new first apart some stand last is fronts = absurd some.touches

@@ -17,7 +17,7 @@ use Rattle.jack_control.specs.declared.status.Difference.{Difference}
 use Rattle.jack_control.specs.declared.status.Status.{Status}
 use Rattle.jack_control.specs.declared.status.Status.TheVariants.{Ok, NoMemory, Words, ReadFault, BadWave, BadScript, WriteFault, Differs, Wrong}
 use Rattle.jack_control.specs.Answers.{HasInput, HasRefusal, IfCapture, IfInput, IfScript, IsFirstDifference, LacksInput, PlayStatus}
-use Rattle.jack_control.specs.Inputs.{Files, IfBytes, IsBadScript, IsBadWave, IsCapture, IsDifferent, IsPlayed, IsScriptOf, difference_in, unplayable}
+use Rattle.jack_control.specs.Inputs.{Files, IfBytes, IsBadScript, IsBadWave, IsCapture, IsDifferent, IsPlayed, IsScriptOf, difference_in}
 use Rattle.jack_control.specs.Plays.{IsExplained}
 use Rattle.jack_control.proofs.OpeningLemmas.{differs}
 
@@ -49,7 +49,7 @@ one_fault : (whole : List ℕ) (a b : ScriptFault) → IsBadScript whole a → I
 one_fault whole a b (inl x) (inl y) = cc
 one_fault whole a b (inl x) (inr y) = absurd (some_none (script_fault (take 1048577 whole)) a x (no_fault (take 1048577 whole) y.0 y.1))
 one_fault whole a b (inr x) (inl y) = absurd (some_none (script_fault (take 1048577 whole)) b y (no_fault (take 1048577 whole) x.0 x.1))
-one_fault whole a b (inr x) (inr y) = x.3 ∙ ap (unplayable (take 1048577 whole)) (one_script (take 1048577 whole) x.0 y.0 x.1 y.1) ∙ sym y.3
+one_fault whole a b (inr x) (inr y) = x.3 ∙ sym y.3
 
 -- ---- a capture
 

@@ -22,7 +22,7 @@ use Rattle.session_laws.proofs.ListLemmas.{slice_get-map}
 use Rattle.session_model.specs.Samples.{bytes_of as sample_bytes}
 use Rattle.session_model.specs.WaveFiles.{opening_text}
 use Rattle.cycle_driver.specs.Openings.{playback_format}
-use Rattle.session_run.specs.Parts.{Parts, stores_in}
+use Rattle.session_threads.specs.Parts.{Parts, stores_in}
 use Rattle.session_run.specs.Standings.{IsAttaching, IsBegun, format_at, format_next}
 use Rattle.wave_write.specs.Tapes.{IsCut, Tape}
 use Rattle.jack_control.specs.Files.{AreFronts, AreOut, IsOut, KeepsRest, MakesOne, OneFailed}

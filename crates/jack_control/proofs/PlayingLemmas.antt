@@ -3,27 +3,40 @@
 --     out-behind      its stores, later
 --     MadeAll, made-all      all files were made
 --     all-held, made-behind      what is so behind that
---     fronts-broken, fronts-whole, explain-whole      of the stores, where the run or the end failed, and where neither did
-use Rattle.std.proofs.Common.{◌≡◌, ℕ, suc, ◌<◌, List, [], length, take, Option, Some, None, is_some, Result, Ok, Err, is_err, OnOk, false, sym, ◌∙◌, ap, subst, arith, true≢false}
-use Rattle.std.specs.Prelude.{IsSome}
+--     status-either, was-read, was-write, one-failed      whose fault it was
+--     cut-begun, cut-broken, cut-whole      of the stores, where making files failed, where the run or the end failed, and where neither did
+--     explain-whole, serial-whole      what is printed explains them, and in serial mode it is the history of that
+use Rattle.std.proofs.Common.{◌≡◌, ◌⊎◌, inl, inr, ℕ, suc, ◌<◌, ◌≤◌, List, [], length, take, Option, Some, None, IsNone, is_some, Result, Ok, Err, is_err, OnOk, false, sym, ◌∙◌, ap, subst, arith, true≢false}
+use Rattle.std.specs.Prelude.{IsErrOf, IsSome}
 use Rattle.std.proofs.lemmas.List.{length-map, take_all}
 use Rattle.std.proofs.lemmas.Option.{slice_get_within}
-use Rattle.session_model.specs.Explanations.{Given}
-use Rattle.session_model.specs.Scripts.{Script, phases}
+use Rattle.jack_types.specs.declared.replies.Entry.{Entry}
+use Rattle.session_model.specs.Explanations.{Given, Printed}
+use Rattle.session_model.specs.Histories.{LegalSoFar}
+use Rattle.session_model.specs.Scripts.{Script, phases, turns}
+use Rattle.session_model.specs.Serial.{serial_printed}
+use Rattle.session_laws.proofs.HistoryLemmas.{LegalSoFar-none}
+use Rattle.control_desk.specs.Desks.{Desk}
+use Rattle.driver_laws.specs.Drivers.{run}
 use Rattle.cycle_laws.specs.Gears.{Gear}
 use Rattle.recorder_files.specs.Recorders.{Recording, Stored, held_in}
 use Rattle.run_laws.proofs.PlaceLemmas.{some_at}
 use Rattle.run_laws.specs.Runs.{AtPhase}
-use Rattle.run_laws.specs.Sessions.{IsGiven, Session}
-use Rattle.run_laws.specs.Told.{Ends, Runs, text_in}
+use Rattle.run_laws.specs.Sessions.{IsGiven, Session, printed_of}
+use Rattle.run_laws.specs.Told.{Ends, Runs, StandsSoFar, text_in}
 use Rattle.serial_laws.specs.Faults.{StandsInSerial}
-use Rattle.session_run.specs.Parts.{AreLater, IsLater, Parts, bytes_of, session_of, stores_in, told_of}
+use Rattle.serial_laws.proofs.FrontLemmas.{KeptAreAll, PlayedIsAll}
+use Rattle.session_threads.specs.Parts.{AreLater, IsLater, OneRose, Parts, bytes_of, session_of, stores_in, told_of}
+use Rattle.session_threads.specs.declared.faults.SessionFault.{SessionFault}
+use Rattle.session_threads.specs.declared.faults.SessionFault.TheVariants.{Read, Write}
 use Rattle.session_run.specs.Standings.{IsAttaching}
-use Rattle.jack_control.specs.Files.{AreOut, IsOut}
+use Rattle.jack_control.specs.declared.status.Status.{Status}
+use Rattle.jack_control.specs.declared.status.Status.TheVariants.{ReadFault, WriteFault}
+use Rattle.jack_control.specs.Files.{AreFronts, AreOut, IsOut, OneFailed}
 use Rattle.jack_control.specs.Inputs.{Files}
-use Rattle.jack_control.specs.Performances.{Explain, HaveFronts, MadeSome}
+use Rattle.jack_control.specs.Performances.{Explain, HaveCut, MadeSome, status_of_session}
 use Rattle.jack_control.specs.Plays.{TouchesOnly}
-use Rattle.jack_control.proofs.ExplainedLemmas.{AreHeld, IsExplainedEach, explain, fronts-ended, fronts-told, printed-serial}
+use Rattle.jack_control.proofs.ExplainedLemmas.{AreHeld, IsExplainedEach, begun-so_far, ended-so_far, explain, fronts-begun, fronts-ended, fronts-so_far, fronts-told, printed-serial}
 
 -- the playback's file alone is new
 abbrev pub HasFiles : Parts → Parts → Type 0
@@ -59,6 +72,39 @@ out-behind files names before after out later = record {
       let was = some_at before i (subst (λ n. i < n) later.as_many (slice_get_within after i store is)) in
       out-later files name was.0 store (out.each i name was.0 named was.1) (later.each i was.0 store was.1 is);
 }
+
+-- a file could not be made, or begun: nothing was run
+pub cut-begun : (parts later : Parts) (stores : List Stored) → IsAttaching parts → AreFronts parts stores → later.desk ≡ parts.desk → HasFiles parts later → (given : Given) → IsGiven (session_of parts) given
+    → HaveCut given (printed_of (session_of later)) stores
+cut-begun parts later stores attaching begun desk same given is = record {
+  serial = λ none. fronts-begun parts stores begun given is;
+  so_far = λ some. record {
+    kept = 0;
+    came = record {
+      legal = subst (λ (history : List Entry). LegalSoFar given.script history) (sym (ap (λ (d : Desk). d.history) (desk ∙ attaching.new.new_desk))) (LegalSoFar-none given.script);
+      low = omega arith;
+      near = subst (λ (numbers : List ℕ). length numbers ≤ 1) (sym (ap (λ (g : Gear). g.numbers) same ∙ attaching.new.new_driver.numbers)) (omega arith);
+    };
+    fronts = begun-so_far parts stores begun given (printed_of (session_of later)) 0 is;
+  };
+}
+
+-- ---- the causes of a session's fault
+
+pub status-either : (fault : SessionFault) (status : Status) → status ≡ status_of_session fault → (status ≡ ReadFault) ⊎ (status ≡ WriteFault)
+status-either Read status is = inl is
+status-either Write status is = inr is
+
+pub was-read : (fault : SessionFault) (status : Status) (r : Result (Unit {0}) SessionFault) (answer : Result (Unit {0}) Status) → r ≡ Err fault → status ≡ status_of_session fault → answer ≡ Err status → IsErrOf answer ReadFault → IsErrOf r Read
+was-read Read status r answer is of told e = is
+was-read Write status r answer is of told e = let no : ⊥ = cc in absurd no
+
+pub was-write : (fault : SessionFault) (status : Status) (r : Result (Unit {0}) SessionFault) (answer : Result (Unit {0}) Status) → r ≡ Err fault → status ≡ status_of_session fault → answer ≡ Err status → IsErrOf answer WriteFault → IsErrOf r Write
+was-write Read status r answer is of told e = let no : ⊥ = cc in absurd no
+was-write Write status r answer is of told e = is
+
+pub one-failed : (before after : List Stored) → OneRose before after → OneFailed after
+one-failed before after one = (one.place, one.new, one.is, let rose = one.rose in omega (arith, rose))
 
 -- all files were made, of a session that had none
 pub record MadeAll (old new : Option Files) (names records : List (List ℕ)) (before after : Parts) : Type 0 where
@@ -96,25 +142,70 @@ module _ (old new : Option Files) (names records : List (List ℕ)) (before afte
     pub held-behind : AreHeld later
     held-behind = goes.as_many ∙ all-held ∙ ap suc (sym many)
 
-    pub fronts-broken : (given : Given) → StandsInSerial given (told_of later) → HaveFronts given (stores_in later)
-    fronts-broken given = fronts-told later given held-behind
+    -- the run failed, or the end
+    pub cut-broken : later.gear.script ≡ after.gear.script → (given : Given) → given.script ≡ after.gear.script
+        → (IsNone after.gear.script.header.threads → StandsInSerial given (told_of later))
+        → (IsSome after.gear.script.header.threads → LegalSoFar after.gear.script later.desk.history × (kept : ℕ) × StandsSoFar kept (told_of later) given)
+        → HaveCut given (printed_of (session_of later)) (stores_in later)
+    cut-broken same given is serial threads = record {
+      serial = λ none. fronts-told later given held-behind (serial (subst (λ (s : Script). IsNone s.header.threads) is none));
+      so_far = λ some.
+          let far = threads (subst (λ (s : Script). IsSome s.header.threads) is some) in
+          record {
+            kept = far.1;
+            came = record { legal = subst (λ (s : Script). LegalSoFar s later.desk.history) (sym is) far.0; low = far.2.low; near = far.2.near };
+            fronts = fronts-so_far later given far.1 held-behind (many ∙ recorders-held ∙ ap (λ (s : Script). length s.header.recorders) (sym same)) far.2;
+          };
+    }
 
   -- the run and the end, both with Ok
   module _ (same : HasFiles before after) (between ended : Parts) (runs : Runs (session_of after) (session_of between))
       (ends : (given : Given) → AtPhase (session_of between) given (length (phases between.gear.script)) → Ends given (session_of between) (session_of ended))
-      (told : told_of ended ≡ session_of ended) (goes : AreLater (stores_in after) (stores_in ended)) (many : length ended.recorders ≡ length after.recorders) where
-    ends-given : (given : Given) → IsGiven (session_of after) given → Ends given (session_of between) (session_of ended)
-    ends-given given is = ends given (subst (λ (s : Script). AtPhase (session_of between) given (length (phases s))) (sym runs.script) (runs.at_end given is))
+      (told : told_of ended ≡ session_of ended) (goes : AreLater (stores_in after) (stores_in ended)) (many : length ended.recorders ≡ length after.recorders) (script : ended.gear.script ≡ between.gear.script) where
+    at-end : (given : Given) → IsGiven (session_of after) given → AtPhase (session_of between) given (length (phases between.gear.script))
+    at-end given is = subst (λ (s : Script). AtPhase (session_of between) given (length (phases s))) (sym runs.script) (runs.at_end given is)
 
-    pub fronts-whole : (given : Given) → IsGiven (session_of before) given → given.disks ≡ [] → HaveFronts given (stores_in ended)
-    fronts-whole given is none =
-        let here : IsGiven (session_of after) given = given-made before after same given is in
-        fronts-told ended given (held-behind ended goes many)
-        (subst (λ (s : Session). StandsInSerial given s) (sym told)
-        (fronts-ended given (session_of between) (session_of ended) (ends-given given here) (printed-serial (session_of after) (session_of between) given runs made.ready.serial here none)
-        (sym (ap (λ (s : Session). length s.record_files) told) ∙ length-map ended.recorders (λ (r : Recording). bytes_of (held_in r)) ∙ many ∙ recorders-held ∙ ap (λ (s : Script). length s.header.recorders) (sym here.own.script))))
+    as-many : length (session_of ended).record_files ≡ length after.gear.script.header.recorders
+    as-many = sym (ap (λ (s : Session). length s.record_files) told) ∙ length-map ended.recorders (λ (r : Recording). bytes_of (held_in r)) ∙ many ∙ recorders-held
 
-    pub explain-whole : IsExplainedEach → (given : Given) → IsGiven (session_of before) given → given.disks ≡ [] → Explain given (stores_in ended) (text_in (session_of ended))
-    explain-whole law given is none =
-        let here : IsGiven (session_of after) given = given-made before after same given is in
-        explain law after between ended runs made.ready.serial (held-behind ended goes many) told (many ∙ recorders-held) given here none (ends-given given here)
+    module _ (given : Given) (is : IsGiven (session_of before) given) (none : given.disks ≡ []) where
+      here : IsGiven (session_of after) given
+      here = given-made before after same given is
+
+      ends-here : Ends given (session_of between) (session_of ended)
+      ends-here = ends given (at-end given here)
+
+      serial-printed : IsNone given.script.header.threads → printed_of (session_of between) ≡ serial_printed given
+      serial-printed serial = printed-serial (session_of after) (session_of between) given runs (subst (λ (s : Script). IsNone s.header.threads) here.own.script serial) here none
+
+      pub serial-whole : IsNone given.script.header.threads → printed_of (session_of ended) ≡ serial_printed given
+      serial-whole serial = ends-here.printed ∙ serial-printed serial
+
+      script-here : between.gear.script ≡ given.script
+      script-here = runs.script ∙ sym here.own.script
+
+      all-cycles : run (session_of ended).driver ≡ length (turns given.script)
+      all-cycles = ap (λ (printed : Printed). length printed.numbers) ends-here.printed ∙ runs.lists.cycles.each ∙ ap (λ (s : Script). length (turns s)) script-here
+
+      legal-whole : LegalSoFar given.script (printed_of (session_of ended)).history
+      legal-whole =
+          subst (λ (printed : Printed). LegalSoFar given.script printed.history) (sym ends-here.printed)
+          (subst (λ (s : Script). LegalSoFar s between.desk.history) script-here runs.lists.legal.so_far)
+
+      pub cut-whole : PlayedIsAll → KeptAreAll → HaveCut given (printed_of (session_of ended)) (stores_in ended)
+      cut-whole played kept = record {
+        serial = λ serial.
+            fronts-told ended given (held-behind ended goes many)
+            (subst (λ (s : Session). StandsInSerial given s) (sym told)
+            (fronts-ended given (session_of between) (session_of ended) ends-here (serial-printed serial) (as-many ∙ ap (λ (s : Script). length s.header.recorders) (sym here.own.script))));
+        so_far = λ some. record {
+          kept = run (session_of ended).driver;
+          came = record { legal = legal-whole; low = omega arith; near = omega arith };
+          fronts = fronts-so_far ended given (run (session_of ended).driver) (held-behind ended goes many) (many ∙ recorders-held ∙ ap (λ (s : Script). length s.header.recorders) (sym (script ∙ runs.script)))
+              (subst (λ (s : Session). StandsSoFar (run (session_of ended).driver) s given) (sym told)
+              (ended-so_far played kept given (session_of between) (session_of ended) ends-here all-cycles (as-many ∙ ap (λ (s : Script). length s.header.recorders) (sym (script ∙ runs.script)))));
+        };
+      }
+
+      pub explain-whole : IsExplainedEach → Explain given (printed_of (session_of ended)) (stores_in ended) (text_in (session_of ended))
+      explain-whole law = explain law after between ended runs (held-behind ended goes many) told (many ∙ recorders-held) given here ends-here

@@ -2,15 +2,15 @@
 --     IfBytes files name P      what holds of a name's bytes, where the files are told
 --     IsPlayed script      a script that is played yet
 --     line_at bytes place      the number of a line among those that are said
---     unplayable bytes script      the fault of a lawful script that is not played yet
+--     unplayable bytes      the fault of a lawful script that is not played yet
 --     IsBadScript bytes fault      why a script can't be played
 --     first_difference, difference_in      the comparisons, in their order
 --     IsInput script_bytes capture_bytes scores play given      what the two files and the guests give
-use Rattle.std.specs.Prelude.{◌≡◌, ◌⊎◌, ℕ, ◌==◌, nat_lt, not, List, [], length, map, slice_index_or, take, ⊤, ℤ, Option, Some, None, Ok, Err, IsNone, if◌then◌else◌}
+use Rattle.std.specs.Prelude.{◌≡◌, ◌⊎◌, ℕ, ◌==◌, nat_lt, not, List, [], length, map, slice_index_or, take, ⊤, ℤ, Option, Some, None, Ok, Err, if◌then◌else◌}
 use Rattle.jack_types.specs.declared.files.Format.{Format}
 use Rattle.jack_types.specs.declared.files.WaveFault.{WaveFault}
 use Rattle.jack_types.specs.declared.kinds.Score.{Score}
-use Rattle.jack_types.specs.declared.scripts.Cause.TheVariants.{Choice, Unknown}
+use Rattle.jack_types.specs.declared.scripts.Cause.TheVariants.{Choice}
 use Rattle.jack_types.specs.declared.scripts.Header.{Header}
 use Rattle.jack_types.specs.declared.scripts.ScriptFault.{ScriptFault}
 use Rattle.jack_host.specs.Files.{bytes_under}
@@ -36,26 +36,21 @@ abbrev pub IfBytes : Option Files → List ℕ → (List ℕ → Type 0) → Typ
 IfBytes None name P = ⊤
 IfBytes (Some files) name P = (bytes : List ℕ) × (bytes_under files name ≡ Some bytes) × P bytes
 
--- a script in serial mode before version 3
+-- a script before version 3
 pub record IsPlayed (script : Script) : Type 0 where
   pub served : IsServed script
-  pub serial : IsNone script.header.threads
 
 -- the number of the line at a place among those that are said, counted from 0; 0 where there is none
 abbrev pub line_at : List ℕ → ℕ → ℕ
 line_at bytes place = slice_index_or (map (λ line. line.number) (said bytes)) place 0
 
--- the fault of a lawful script that is not played yet:
--- of version 3, a version that is none, on the version's line, which is the first that is said;
--- else there are threads: an unknown word on the mode's line, which is the sixth
-abbrev pub unplayable : List ℕ → Script → ScriptFault
-unplayable bytes script =
-    if script.header.version == 3 then record { line = line_at bytes 0; cause = Choice 3 }
-    else record { line = line_at bytes 5; cause = Unknown }
+-- the fault of a lawful script that is not played yet: it is of version 3, a version that is none, on the version's line, which is the first that is said
+abbrev pub unplayable : List ℕ → ScriptFault
+unplayable bytes = record { line = line_at bytes 0; cause = Choice 3 }
 
 -- the bytes have this fault, or spell a script that is not played yet
 abbrev pub IsFaulty : List ℕ → ScriptFault → Type 0
-IsFaulty bytes fault = (script_fault bytes ≡ Some fault) ⊎ ((script : Script) × Spells bytes script × (IsPlayed script → ⊥) × (fault ≡ unplayable bytes script))
+IsFaulty bytes fault = (script_fault bytes ≡ Some fault) ⊎ ((script : Script) × Spells bytes script × (IsPlayed script → ⊥) × (fault ≡ unplayable bytes))
 
 -- 1,048,577 bytes are read at most
 abbrev pub IsBadScript : List ℕ → ScriptFault → Type 0

@@ -1,14 +1,21 @@
 -- What a play leaves.
 --     IsExplained files new out out_after scores play      an ended play: what is written is explained by the one history that is printed
+--     PlaybackSoFar, RecordSoFar      fronts of what so many cycles of a history gave
 --     IsCut ..      one that failed when its files were made, or before
-use Rattle.std.specs.Prelude.{◌≡◌, ◌⊎◌, ℕ, ◌∷◌, List, [], map, slice_get, ⊤, Option, Some, None, Contains}
+use Rattle.std.specs.Prelude.{◌≡◌, ◌⊎◌, ℕ, ◌+◌, ◌≤◌, ◌∷◌, List, [], length, map, slice_get, ⊤, Option, Some, None, IsNone, IsSome, Contains}
 use Rattle.jack_types.specs.declared.kinds.Score.{Score}
 use Rattle.jack_host.specs.Bytes.{Gains}
 use Rattle.jack_host.specs.Causes.{Rose}
 use Rattle.jack_host.specs.Files.{bytes_under, SameFiles}
 use Rattle.jack_host.specs.Told.{BothTold}
-use Rattle.session_model.specs.Explanations.{Explained, Given, Written}
+use Rattle.session_model.specs.Explanations.{Explained, Given, Printed, Written, course_of, overruns_of}
+use Rattle.session_model.specs.Histories.{LegalSoFar}
+use Rattle.session_model.specs.Playback.{playback_format}
+use Rattle.session_model.specs.Recorders.{recorder_format}
 use Rattle.session_model.specs.Serial.{serial_printed}
+use Rattle.wave_write.specs.Tapes.{HasFront}
+use Rattle.disk_recorder.specs.Recordings.{samples_of_blocks}
+use Rattle.driver_laws.specs.Keeping.{kept_blocks, played_so_far}
 use Rattle.serial_laws.specs.Faults.{playback_front, record_front}
 use Rattle.play_words.specs.Words.{Play}
 use Rattle.jack_control.specs.Inputs.{Files, IsInput}
@@ -21,7 +28,7 @@ made_by play = play.playback ∷ play.records
 abbrev pub TouchesOnly : Option Files → Option Files → List (List ℕ) → Type 0
 TouchesOnly old new names = BothTold old new (λ before after. (name : List ℕ) → (Contains names name → ⊥) → bytes_under after name ≡ bytes_under before name)
 
--- what the two files spell, and what was written: the files and the report that the history of serial mode explains
+-- what the two files spell, and what was written: the files and the report that the one history explains that is printed; in serial mode it is that of serial mode
 pub record Plays (files new : Files) (out out_after : Option (List ℕ)) (scores : List Score) (play : Play) : Type 0 where
   pub script_bytes : List ℕ
   pub capture_bytes : List ℕ
@@ -29,8 +36,10 @@ pub record Plays (files new : Files) (out out_after : Option (List ℕ)) (scores
   pub capture_is : bytes_under files play.capture ≡ Some capture_bytes
   pub given : Given
   pub input : IsInput script_bytes capture_bytes scores play given
+  pub printed : Printed
+  pub serial : IsNone given.script.header.threads → printed ≡ serial_printed given
   pub written : Written
-  pub explained : Explained given (serial_printed given) written
+  pub explained : Explained given printed written
   pub playback_is : bytes_under new play.playback ≡ Some written.playback
   pub records_are : map (bytes_under new) play.records ≡ map Some written.records
   pub report_is : Gains out out_after written.report
@@ -44,7 +53,34 @@ IsExplained (Some files) (Some new) out out_after scores play = Plays files new 
 abbrev pub IsAsBeforeOr : (Option (List ℕ) → Type 0) → Files → Files → List ℕ → Type 0
 IsAsBeforeOr P files new name = (bytes_under new name ≡ bytes_under files name) ⊎ ((bytes : List ℕ) × (bytes_under new name ≡ Some bytes) × P (Some bytes))
 
--- what stands behind a fault that came when the files were made, or later
+-- so is each name that a play makes, by its place
+pub record AreAsBeforeOr (played : Option (List ℕ) → Type 0) (recorded : ℕ → Option (List ℕ) → Type 0) (files new : Files) (play : Play) : Type 0 where
+  pub playback : IsAsBeforeOr played files new play.playback
+  pub records : (recorder : ℕ) (name : List ℕ) → slice_get play.records recorder ≡ Some name → IsAsBeforeOr (recorded recorder) files new name
+
+-- a store that tells holds a front of what so many cycles played, by the one computation over a history
+abbrev pub PlaybackSoFar : Given → Printed → ℕ → Option (List ℕ) → Type 0
+PlaybackSoFar given printed kept = HasFront (playback_format (course_of given printed)) (played_so_far (course_of given printed) kept)
+
+-- or of the blocks that a recorder kept of them
+abbrev pub RecordSoFar : Given → Printed → ℕ → ℕ → Option (List ℕ) → Type 0
+RecordSoFar given printed kept recorder =
+    HasFront (recorder_format (course_of given printed) recorder) (samples_of_blocks (kept_blocks (course_of given printed) (overruns_of printed recorder) recorder kept))
+
+-- how far a play came: a history that the script allows, and the cycles of it that were played, all but the last at least
+pub record CameTo (given : Given) (printed : Printed) (kept : ℕ) : Type 0 where
+  pub legal : LegalSoFar given.script printed.history
+  pub low : kept ≤ length printed.numbers
+  pub near : length printed.numbers ≤ kept + 1
+
+-- with threads: fronts of what the play's own history gave, as far as it came
+pub record CutsSoFar (given : Given) (files new : Files) (play : Play) : Type 0 where
+  pub printed : Printed
+  pub kept : ℕ
+  pub came : CameTo given printed kept
+  pub fronts : AreAsBeforeOr (PlaybackSoFar given printed kept) (RecordSoFar given printed kept) files new play
+
+-- what stands behind a fault that came when the files were made, or later; in serial mode fronts of the files of that
 pub record Cuts (files new : Files) (scores : List Score) (play : Play) : Type 0 where
   pub script_bytes : List ℕ
   pub capture_bytes : List ℕ
@@ -52,8 +88,8 @@ pub record Cuts (files new : Files) (scores : List Score) (play : Play) : Type 0
   pub capture_is : bytes_under files play.capture ≡ Some capture_bytes
   pub given : Given
   pub input : IsInput script_bytes capture_bytes scores play given
-  pub playback : IsAsBeforeOr (playback_front given) files new play.playback
-  pub records : (recorder : ℕ) (name : List ℕ) → slice_get play.records recorder ≡ Some name → IsAsBeforeOr (record_front given recorder) files new name
+  pub serial : IsNone given.script.header.threads → AreAsBeforeOr (playback_front given) (record_front given) files new play
+  pub so_far : IsSome given.script.header.threads → CutsSoFar given files new play
 
 -- nothing was made, or this
 abbrev pub IsCut : Option Files → Option Files → List Score → Play → Type 0

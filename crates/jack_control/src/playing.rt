@@ -1,31 +1,34 @@
 //! A play whose session is open.
 
-ghost use Rattle.std.specs.Prelude.{◌≡◌, ◌+◌, ◌<◌, ◌≤◌, ◌⊎◌, [], List, ℕ, Option, IfErr, IsErrOf, IsOk, IsTrue, OnErr, OnOk, false, length};
+ghost use Rattle.std.specs.Prelude.{◌≡◌, ◌+◌, ◌<◌, ◌≤◌, ◌⊎◌, [], List, ℕ, Option, IfErr, IsErrOf, IsNone, IsOk, IsTrue, OnErr, OnOk, false, length};
 ghost use Rattle.jack_types.specs.declared.kinds.Score.{Score as ScoreValue};
 ghost use Rattle.jack_host.specs.Bytes.{Gains};
 ghost use Rattle.jack_host.specs.Causes.{Rose};
 ghost use Rattle.jack_host.specs.Files.{SameFiles};
 ghost use Rattle.session_model.specs.Explanations.{Given};
 ghost use Rattle.session_model.specs.Soundness.{Apart};
-ghost use Rattle.run_laws.specs.Sessions.{IsGiven};
+ghost use Rattle.session_model.specs.Serial.{serial_printed};
+ghost use Rattle.run_laws.specs.Sessions.{IsGiven, printed_of};
 ghost use Rattle.wave_pcm.specs.Readings.{SameReading};
 ghost use Rattle.jack_control.specs.Files.{AreOut, OneFailed};
 ghost use Rattle.jack_control.specs.Inputs.{Files as AllFiles};
 ghost use Rattle.jack_control.specs.Openings.{IsSessionOf};
-ghost use Rattle.jack_control.specs.Performances.{Explain, HaveFronts, MadeSome, status_of_session};
+ghost use Rattle.jack_control.specs.Performances.{Explain, HaveCut, MadeSome, status_of_session};
 ghost use Rattle.jack_control.specs.Plays.{IsCut, IsExplained, IsOutCut, TouchesOnly, made_by};
 ghost use Rattle.play_words.specs.Words.{names_of};
 ghost use Rattle.run_laws.specs.Told.{text_in};
-ghost use Rattle.session_run.specs.Parts.{session_of, stores_in};
+ghost use Rattle.session_threads.specs.Parts.{session_of, stores_in};
 ghost use Rattle.session_run.specs.Standings.{HasEnded, IsAttaching};
 
 use crate::Status;
 use crate::files::{hand_back, make_files};
 use client_kinds::Guest;
+use driver_laws::endings::{all_is_played_back, blocks_kept_are_recorded};
 use jack_host::{Gate, Host, Sink, Source, Store};
 use play_words::Names;
 use run_laws::endings::a_session_is_explained;
 use session_run::{Session, SessionFault};
+use std::sync::Wait;
 use std::thread::Threads;
 
 // The status of a session's fault.
@@ -39,43 +42,48 @@ fn status_of(fault: SessionFault) -> Status
 }
 
 // Makes the files, runs the session and ends it. However that goes, the stores that are out have fronts of their files.
-fn perform<H: Host, G: Guest + Send, T: Threads + Sync, A: Gate>(
+fn perform<H: Host, G: Guest + Send, T: Threads + Sync, R: Wait + Sync, A: Gate>(
     threads: &T,
+    wait: &R,
     gate: &A,
     names: &Names<'_>,
     host: &mut H,
-    session: &mut Session<H::In, H::Out, G>,
-) -> Result<(), Status>
+    mut session: Session<H::In, H::Out, G>,
+) -> (Session<H::In, H::Out, G>, Result<(), Status>)
     requires out { H.lent host.old < 950 }
-    requires attaching { IsAttaching session.old × (session.old.attached ≡ 0) × (stores_in session.old ≡ []) }
-    requires recorders { length session.old.recorders ≡ length names.now.records }
+    requires attaching { IsAttaching session × (session.attached ≡ 0) × (stores_in session ≡ []) }
+    requires recorders { length session.recorders ≡ length names.now.records }
     requires apart { Apart (λ (name : List ℕ). name) (made_by names.now) }
-    ensures ended { OnOk result (HasEnded session.new) }
-    ensures explained { OnOk result ((given : Given) → IsGiven (session_of session.old) given → given.disks ≡ [] → Explain given (stores_in session.new) (text_in (session_of session.new))) }
-    ensures whole { OnOk result (AreOut (H.files host.new) (made_by names.now) (stores_in session.new)) }
-    ensures fronts { (given : Given) → IsGiven (session_of session.old) given → given.disks ≡ [] → HaveFronts given (stores_in session.new) }
-    ensures made { MadeSome (H.files host.old) (H.files host.new) (made_by names.now) (stores_in session.new) }
-    ensures fault { IfErr result (λ status. (status ≡ Status.ReadFault) ⊎ (status ≡ Status.WriteFault)) }
-    ensures read { IsErrOf result Status.ReadFault → Rose session.old.gear.capture.reading.faults session.new.gear.capture.reading.faults }
-    ensures write { IsErrOf result Status.WriteFault → Rose (H.write_faults host.old) (H.write_faults host.new) ⊎ OneFailed (stores_in session.new) }
+    ensures ended { OnOk result.1 (HasEnded result.0) }
+    ensures explained { OnOk result.1 ((given : Given) → IsGiven (session_of session) given → given.disks ≡ [] → Explain given (printed_of (session_of result.0)) (stores_in result.0) (text_in (session_of result.0))) }
+    ensures serial { OnOk result.1 ((given : Given) → IsGiven (session_of session) given → given.disks ≡ [] → IsNone given.script.header.threads → printed_of (session_of result.0) ≡ serial_printed given) }
+    ensures whole { OnOk result.1 (AreOut (H.files host.new) (made_by names.now) (stores_in result.0)) }
+    ensures fronts { (given : Given) → IsGiven (session_of session) given → given.disks ≡ [] → HaveCut given (printed_of (session_of result.0)) (stores_in result.0) }
+    ensures made { MadeSome (H.files host.old) (H.files host.new) (made_by names.now) (stores_in result.0) }
+    ensures fault { IfErr result.1 (λ status. (status ≡ Status.ReadFault) ⊎ (status ≡ Status.WriteFault)) }
+    ensures read { IsErrOf result.1 Status.ReadFault → Rose session.gear.capture.reading.faults result.0.gear.capture.reading.faults }
+    ensures write { IsErrOf result.1 Status.WriteFault → Rose (H.write_faults host.old) (H.write_faults host.new) ⊎ OneFailed (stores_in result.0) }
     ensures others { TouchesOnly (H.files host.old) (H.files host.new) (made_by names.now) }
     ensures later { H.write_faults host.old ≤ H.write_faults host.new }
-    ensures kept { OnOk result (H.write_faults host.new ≡ H.write_faults host.old) }
-    ensures capture { OnOk result (SameReading session.old.gear.capture.reading session.new.gear.capture.reading) }
+    ensures kept { OnOk result.1 (H.write_faults host.new ≡ H.write_faults host.old) }
+    ensures capture { OnOk result.1 (SameReading session.gear.capture.reading result.0.gear.capture.reading) }
     ensures reads { H.read_faults host.new ≡ H.read_faults host.old }
-    ensures lent { H.lent host.new ≡ H.lent host.old + length (stores_in session.new) }
+    ensures lent { H.lent host.new ≡ H.lent host.old + length (stores_in result.0) }
 {
     a_session_is_explained();
-    if make_files(host, names, session).is_err() {
-        return Err(Status::WriteFault);
+    all_is_played_back();
+    blocks_kept_are_recorded();
+    if make_files(host, names, &mut session).is_err() {
+        return (session, Err(Status::WriteFault));
     }
-    if let Err(fault) = session.run(threads, gate) {
-        return Err(status_of(fault));
+    let (mut session, ran) = session.run(threads, wait, gate);
+    if let Err(fault) = ran {
+        return (session, Err(status_of(fault)));
     }
     if let Err(fault) = session.end() {
-        return Err(status_of(fault));
+        return (session, Err(status_of(fault)));
     }
-    Ok(())
+    (session, Ok(()))
 }
 
 // Puts the report out, where all files were handed back.
@@ -126,13 +134,21 @@ fn conclude<K: Sink, S: Source, W: Store, G: Guest>(
 
 /// Plays a session: makes its files, runs it, hands the files back, and puts the report out. The capture goes back to the
 /// host last.
-pub(crate) fn play_session<H: Host, K: Sink, G: Guest + Send, T: Threads + Sync, A: Gate>(
+pub(crate) fn play_session<
+    H: Host,
+    K: Sink,
+    G: Guest + Send,
+    T: Threads + Sync,
+    R: Wait + Sync,
+    A: Gate,
+>(
     threads: &T,
+    wait: &R,
     gate: &A,
     names: &Names<'_>,
     host: &mut H,
     out: &mut K,
-    mut session: Session<H::In, H::Out, G>,
+    session: Session<H::In, H::Out, G>,
 ) -> Result<(), Status>
     requires out { (1 ≤ H.lent host.old) × (H.lent host.old < 950) }
     requires attaching { IsAttaching session × (session.attached ≡ 0) × (stores_in session ≡ []) }
@@ -151,7 +167,7 @@ pub(crate) fn play_session<H: Host, K: Sink, G: Guest + Send, T: Threads + Sync,
     ensures puts { OnOk result (K.faults out.new ≡ K.faults out.old) }
     ensures lent { H.lent host.new + 1 ≡ H.lent host.old }
 {
-    let performed = perform(threads, gate, names, host, &mut session);
+    let (mut session, performed) = perform(threads, wait, gate, names, host, session);
     let handed = hand_back(host, &mut session);
     let reported = conclude(out, &session, performed, handed.is_ok());
     host.back(session.into_capture().into_source());

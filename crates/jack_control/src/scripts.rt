@@ -4,7 +4,6 @@ ghost use Rattle.std.specs.Prelude.{◌≡◌, ◌<◌, ◌≤◌, ◌⊎◌, If
 ghost use Rattle.jack_host.specs.Causes.{Rose};
 ghost use Rattle.jack_host.specs.Files.{IsThere, SameFiles};
 ghost use Rattle.jack_types.specs.declared.scripts.ScriptFault.{ScriptFault as FaultValue};
-ghost use Rattle.session_model.specs.Grammar.{Spells};
 ghost use Rattle.jack_control.specs.Inputs.{IfBytes, IsFaulty, IsPlayed, IsScriptOf, line_at, unplayable};
 ghost use Rattle.jack_control.specs.Scripts.{IsRead, ScriptStatus, status_of_script};
 
@@ -22,15 +21,11 @@ const MOST_READ: usize = 1_048_577;
 // The place of the version's line among those that are said.
 const VERSION_PLACE: usize = 0;
 
-// And of the mode's.
-const MODE_PLACE: usize = 5;
-
-// Whether a script is one that is played yet: in serial mode, before version 3.
+// Whether a script is one that is played yet: before version 3.
 fn is_played(script: &Script) -> bool
     ensures { IsTrue result ↔ IsPlayed script.now }
 {
-    let header = script.header();
-    header.threads.is_none() && header.version < 3
+    script.header().version < 3
 }
 
 // The number of the line at a place among those that are said. Where there is none, 0.
@@ -50,20 +45,13 @@ fn line_at(text: &[u8], place: usize) -> u32
 }
 
 // The fault of a script that is not played, which these bytes spell.
-fn fault_of(bytes: &[u8], script: &Script) -> ScriptFault
-    requires { Spells bytes.now script.now }
-    ensures { result ≡ unplayable bytes.now script.now }
+fn fault_of(bytes: &[u8]) -> ScriptFault
+    requires { length bytes.now ≤ 1048576 }
+    ensures { result ≡ unplayable bytes.now }
 {
-    let header = script.header();
-    if header.version == 3 {
-        return ScriptFault {
-            line: line_at(bytes, VERSION_PLACE),
-            cause: Cause::Choice(3),
-        };
-    }
     ScriptFault {
-        line: line_at(bytes, MODE_PLACE),
-        cause: Cause::Unknown,
+        line: line_at(bytes, VERSION_PLACE),
+        cause: Cause::Choice(3),
     }
 }
 
@@ -87,7 +75,7 @@ fn script_in(alloc: Global, bytes: &[u8]) -> Result<Script, Status>
             if is_played(&script) {
                 Ok(script)
             } else {
-                Err(Status::BadScript(fault_of(bytes, &script)))
+                Err(Status::BadScript(fault_of(bytes)))
             }
         }
         Err(fault) => Err(status_of(fault)),

@@ -19,11 +19,13 @@ use jack_host::{Gate, Host, Sink};
 use play_words::laws::words_name_one_play;
 use play_words::{Names, play_names};
 use std::alloc::Global;
+use std::sync::Wait;
 use std::thread::Threads;
 
 // Plays what these names name. What came before a file was made has put nothing out.
-fn play<T: Threads + Sync, H: Host, K: Sink, G: Guest + Send, A: Gate>(
+fn play<T: Threads + Sync, R: Wait + Sync, H: Host, K: Sink, G: Guest + Send, A: Gate>(
     threads: &T,
+    wait: &R,
     alloc: Global,
     names: &Names<'_>,
     host: &mut H,
@@ -52,7 +54,7 @@ fn play<T: Threads + Sync, H: Host, K: Sink, G: Guest + Send, A: Gate>(
     ensures lent { H.lent host.new ≡ H.lent host.old }
 {
     let session = open_session(alloc, names, host, guests)?;
-    play_session(threads, gate, names, host, out, session)
+    play_session(threads, wait, gate, names, host, out, session)
 }
 
 /// Does all that the program does, and answers how it ended. `words` are without the program's name.
@@ -61,8 +63,11 @@ fn play<T: Threads + Sync, H: Host, K: Sink, G: Guest + Send, A: Gate>(
 /// writes the playback file and the recorders', and puts the report out. The names differ, are not empty and do not begin with
 /// `-`. Any other words are refused. `guests` are the clients that a script opens by number. A fault of the words, the script
 /// or the capture, or of reading them, puts out one line that tells of it.
-pub fn jackd<T: Threads + Sync, H: Host, K: Sink, G: Guest + Send, A: Gate>(
+///
+/// With a script in threads mode it waits for threads, and all this holds if it returns.
+pub fn jackd<T: Threads + Sync, R: Wait + Sync, H: Host, K: Sink, G: Guest + Send, A: Gate>(
     threads: &T,
+    wait: &R,
     alloc: Global,
     words: &[String],
     host: &mut H,
@@ -72,7 +77,7 @@ pub fn jackd<T: Threads + Sync, H: Host, K: Sink, G: Guest + Send, A: Gate>(
 ) -> Status
     requires { H.lent host.old < 900 }
 
-    // What is written is explained by the one history that is printed, and that is the history of serial mode.
+    // What is written is explained by the one history that is printed, and in serial mode that is the history of serial mode.
     ensures played { result ≡ Status.Ok → (play : Play) → IsPlay (map string_bytes words.now) play →
         IsExplained (H.files host.old) (H.files host.new) (K.content out.old) (K.content out.new) (map G.score guests.items) play }
 
@@ -124,7 +129,7 @@ pub fn jackd<T: Threads + Sync, H: Host, K: Sink, G: Guest + Send, A: Gate>(
         put_fault(out, Status::Words);
         return Status::Words;
     };
-    match play(threads, alloc, &names, host, out, guests, gate) {
+    match play(threads, wait, alloc, &names, host, out, guests, gate) {
         Ok(()) => Status::Ok,
         Err(status) => {
             put_line(out, status);

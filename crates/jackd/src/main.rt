@@ -83,6 +83,7 @@ fn main(rt: HostRuntime) -> ExitCode {
     let mut out = ListeningSink::new(WriterSink::new(io::writer(&rt)));
     let status = jackd(
         &rt,
+        &rt,
         rt.alloc(),
         &words,
         &mut host,

@@ -14,3 +14,4 @@ pub mod OutcomeLemmas
 pub mod PairedLemmas
 pub mod SegmentLemmas
 pub mod PhaseLemmas
+pub mod LegalLemmas

@@ -3,6 +3,7 @@
 ghost use Rattle.std.specs.Prelude.{◌≡◌, ◌≤◌, ℕ, IsErrOf, IsSome, IsTrue, OnErr, OnOk, Some, false, length, slice_get, suc};
 ghost use Rattle.jack_host.specs.Causes.{Rose};
 ghost use Rattle.session_model.specs.Explanations.{Given};
+ghost use Rattle.session_model.specs.Histories.{LegalSoFar};
 ghost use Rattle.session_model.specs.Scripts.{phases as the_phases};
 ghost use Rattle.control_desk.specs.Desks.{IsDone, cycles_before};
 ghost use Rattle.run_laws.specs.Runs.{AtPhase, RanPhases};
@@ -135,6 +136,7 @@ fn run_phases<
     ensures ran { OnOk result.1 (RanPhases (seen result.0.works) (length (the_phases result.0.works.driver.script))) }
     ensures at { OnOk result.1 ((given : Given) → AtPhase (seen rig.works) given 0 → AtPhase (seen result.0.works) given (length (the_phases result.0.works.driver.script))) }
     ensures fault { OnErr result.1 ((kept : ℕ) × ((given : Given) → AtPhase (seen rig.works) given 0 → StandsSoFar kept (told_of (parts_of result.0.works)) given)) }
+    ensures legal { OnErr result.1 (LegalSoFar result.0.works.driver.script result.0.works.desk.history) }
     ensures stays { Stays (parts_of rig.works) (parts_of result.0.works) }
     ensures read { IsErrOf result.1 SessionFault.Read → Rose rig.works.driver.capture.reading.faults result.0.works.driver.capture.reading.faults }
     ensures write { IsErrOf result.1 SessionFault.Write → OneRose (held rig.works) (held result.0.works) }

@@ -1,38 +1,48 @@
 //! Each call of the host and of the sink refused in turn.
 
-use crate::overruns::{drained_host, play_over};
+use crate::overruns::{SERIAL, TWO_WORKERS, drained_host, play_over};
 use crate::running::{Played, has_length, has_out};
 use jack_control::Status;
 use jack_host::MemorySink;
 use std::process::Abort;
+use std::sync::Wait;
 use std::test::Fail;
 use std::thread::Threads;
 
-/// A play whose call of this number on this name is refused.
-fn refusing<R: Threads + Sync + AllocGlobal>(
+// The calls of lane 1 that wait for the last cycle.
+const WAITING: &str = "\
+run 20
+lane 1 at 20 disconnect system:capture_1 tape:in
+lane 1 at 20 connect system:capture_1 tape:in
+";
+
+/// A play in this mode whose call of this number on this name is refused.
+fn refusing<R: Threads + Wait + Sync + AllocGlobal>(
     rt: &R,
+    mode: &str,
     name: &str,
     call: u32,
 ) -> Result<Played, Fail> {
-    let mut host = drained_host(rt.alloc())?;
+    let mut host = drained_host(rt.alloc(), mode, WAITING)?;
     host.refuse(name, call)?;
     play_over(rt, host, MemorySink::new(rt.alloc()))
 }
 
 /// Refuses each call on a name in turn, until there is none of its number. Each but the last ends in this way.
-fn each_call_fails<R: Threads + Sync + AllocGlobal + Abort>(
+fn each_call_fails<R: Threads + Wait + Sync + AllocGlobal + Abort>(
     rt: &R,
+    mode: &str,
     name: &str,
     status: Status,
     out: &str,
 ) -> Result<(), Fail> {
     for call in 0..64_u32 {
-        let played = refusing(rt, name, call)?;
+        let played = refusing(rt, mode, name, call)?;
         if played.status == Status::Ok {
             assert!(rt; call >= 2, "{name} has more than one call");
             return Ok(());
         }
-        assert_eq!(rt; played.status, status, "call {call} of {name}");
+        assert_eq!(rt; played.status, status, "call {call} of {name}, {mode}");
         has_out(rt, &played, out);
     }
     panic!(rt; "{name} has more than 64 calls")
@@ -40,20 +50,26 @@ fn each_call_fails<R: Threads + Sync + AllocGlobal + Abort>(
 
 #[test]
 fn each_failing_read_is_told(rt: HostRuntime) -> Result<(), Fail> {
-    each_call_fails(&rt, "s", Status::ReadFault, "fault 3 read\n")?;
-    each_call_fails(&rt, "c", Status::ReadFault, "fault 3 read\n")
+    for mode in [SERIAL, TWO_WORKERS] {
+        each_call_fails(&rt, mode, "s", Status::ReadFault, "fault 3 read\n")?;
+        each_call_fails(&rt, mode, "c", Status::ReadFault, "fault 3 read\n")?;
+    }
+    Ok(())
 }
 
 #[test]
 fn each_failing_write_ends_the_run(rt: HostRuntime) -> Result<(), Fail> {
-    each_call_fails(&rt, "p", Status::WriteFault, "")?;
-    each_call_fails(&rt, "r", Status::WriteFault, "")
+    for mode in [SERIAL, TWO_WORKERS] {
+        each_call_fails(&rt, mode, "p", Status::WriteFault, "")?;
+        each_call_fails(&rt, mode, "r", Status::WriteFault, "")?;
+    }
+    Ok(())
 }
 
 #[test]
 fn a_file_that_is_not_closed_ends_the_run(rt: HostRuntime) -> Result<(), Fail> {
     for name in ["p", "r"] {
-        let mut host = drained_host(rt.alloc())?;
+        let mut host = drained_host(rt.alloc(), SERIAL, "run 5\n")?;
         host.refuse_done(name)?;
         let played = play_over(&rt, host, MemorySink::new(rt.alloc()))?;
         assert_eq!(rt; played.status, Status::WriteFault, "{name}");
@@ -66,7 +82,7 @@ fn a_file_that_is_not_closed_ends_the_run(rt: HostRuntime) -> Result<(), Fail> {
 fn a_report_that_is_not_put_leaves_whole_files(rt: HostRuntime) -> Result<(), Fail> {
     let mut out = MemorySink::new(rt.alloc());
     out.refuse(1)?;
-    let played = play_over(&rt, drained_host(rt.alloc())?, out)?;
+    let played = play_over(&rt, drained_host(rt.alloc(), SERIAL, "run 5\n")?, out)?;
     assert_eq!(rt; played.status, Status::WriteFault);
     has_out(&rt, &played, "");
     has_length(&rt, &played, "p", 84);

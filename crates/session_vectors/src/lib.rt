@@ -8,6 +8,8 @@ mod bytewise;
 #[cfg(test)]
 mod faults;
 #[cfg(test)]
+mod gates;
+#[cfg(test)]
 mod overruns;
 #[cfg(test)]
 mod recorders;
@@ -15,5 +17,7 @@ mod recorders;
 mod running;
 #[cfg(test)]
 mod scores;
+#[cfg(test)]
+mod threads;
 #[cfg(test)]
 mod unplayed;

@@ -4,10 +4,11 @@ ghost use Rattle.std.specs.Prelude.{◌≡◌, IfOk};
 ghost use Rattle.jack_host.specs.MemoryHost.{host_lent};
 
 use crate::building::{host_with, text, wave};
-use crate::running::{Played, RECORD, run};
-use jack_host::{MemoryHost, MemorySink};
+use crate::running::{Played, RECORD, run_under};
+use jack_host::{FreeGate, Gate, MemoryHost, MemorySink};
 use jack_types::Format;
 use std::alloc::Global;
+use std::sync::Wait;
 use std::test::Fail;
 use std::thread::Threads;
 
@@ -18,14 +19,22 @@ pub const FORMAT: Format = Format {
     bits: 16,
 };
 
-// The header without its version and its optional lines.
+// The header up to its mode.
 const DEVICE: &str = "\
+jackd 1
 rate 8000
 period 4
 capture 1
 playback 1 16
-mode serial
 ";
+
+/// The mode's line of one thread.
+pub const SERIAL: &str = "mode serial\n";
+
+/// That of threads with so many workers.
+pub const ONE_WORKER: &str = "mode threads 1\n";
+pub const TWO_WORKERS: &str = "mode threads 2\n";
+pub const FOUR_WORKERS: &str = "mode threads 4\n";
 
 // The header's optional lines, with a ring that is drained in each cycle.
 const DRAINED_RING: &str = "\
@@ -47,27 +56,36 @@ pub const SAMPLES: [i32; 20] = [
     1, 2, 3, 4, 5, 6, 7, 8, 9, 10, 11, 12, 13, 14, 15, 16, 17, 18, 19, 20,
 ];
 
-/// A host with the script that drains its ring and the capture.
-pub fn drained_host(alloc: Global) -> Result<MemoryHost, Fail>
+/// A host with the script that drains its ring, in this mode and with this body behind its calls, and the capture.
+pub fn drained_host(alloc: Global, mode: &str, body: &str) -> Result<MemoryHost, Fail>
     ensures { IfOk result (λ host. host_lent host ≡ 0) }
 {
-    let script = text(
-        alloc,
-        &["jackd 1\n", DEVICE, DRAINED_RING, CALLS, "run 5\n"],
-    )?;
+    let script = text(alloc, &[DEVICE, mode, DRAINED_RING, CALLS, body])?;
     host_with(alloc, script.as_bytes(), &wave(alloc, FORMAT, &SAMPLES)?)
 }
 
+/// Plays what a host has, with one recorder, under a gate.
+pub fn play_under<R: Threads + Wait + Sync + AllocGlobal, K: Gate>(
+    rt: &R,
+    host: MemoryHost,
+    out: MemorySink,
+    gate: &K,
+) -> Result<Played, Fail>
+    requires { host_lent host ≡ 0 }
+{
+    let mut host = host;
+    let mut out = out;
+    let status = run_under(rt, &RECORD, &mut host, &mut out, Vec::new(rt.alloc()), gate)?;
+    Ok(Played { status, host, out })
+}
+
 /// Plays what a host has, with one recorder.
-pub fn play_over<R: Threads + Sync + AllocGlobal>(
+pub fn play_over<R: Threads + Wait + Sync + AllocGlobal>(
     rt: &R,
     host: MemoryHost,
     out: MemorySink,
 ) -> Result<Played, Fail>
     requires { host_lent host ≡ 0 }
 {
-    let mut host = host;
-    let mut out = out;
-    let status = run(rt, &RECORD, &mut host, &mut out, Vec::new(rt.alloc()))?;
-    Ok(Played { status, host, out })
+    play_under(rt, host, out, &FreeGate)
 }

@@ -5,9 +5,10 @@ ghost use Rattle.std.specs.Prelude.{◌<◌};
 use crate::building::{host_with, text};
 use guests::AnyGuest;
 use jack_control::{Status, jackd};
-use jack_host::{FreeGate, Host, MemoryHost, MemorySink};
+use jack_host::{FreeGate, Gate, Host, MemoryHost, MemorySink};
 use std::alloc::Global;
 use std::process::Abort;
+use std::sync::Wait;
 use std::test::Fail;
 use std::thread::Threads;
 
@@ -33,8 +34,23 @@ fn list_of(alloc: Global, words: &[&str]) -> Result<Vec<String>, Fail> {
     Ok(list)
 }
 
+/// Runs the words over a host, under a gate.
+pub fn run_under<R: Threads + Wait + Sync + AllocGlobal, H: Host, K: Gate>(
+    rt: &R,
+    words: &[&str],
+    host: &mut H,
+    out: &mut MemorySink,
+    guests: Vec<AnyGuest>,
+    gate: &K,
+) -> Result<Status, Fail>
+    requires { H.lent host.old < 900 }
+{
+    let list = list_of(rt.alloc(), words)?;
+    Ok(jackd(rt, rt, rt.alloc(), &list, host, out, guests, gate))
+}
+
 /// Runs the words over a host.
-pub fn run<R: Threads + Sync + AllocGlobal, H: Host>(
+pub fn run<R: Threads + Wait + Sync + AllocGlobal, H: Host>(
     rt: &R,
     words: &[&str],
     host: &mut H,
@@ -43,33 +59,33 @@ pub fn run<R: Threads + Sync + AllocGlobal, H: Host>(
 ) -> Result<Status, Fail>
     requires { H.lent host.old < 900 }
 {
-    let list = list_of(rt.alloc(), words)?;
-    Ok(jackd(rt, rt.alloc(), &list, host, out, guests, &FreeGate))
+    run_under(rt, words, host, out, guests, &FreeGate)
 }
 
-/// Runs the words over a host with a script, in pieces, and a capture, and with guests.
-pub fn play_with<R: Threads + Sync + AllocGlobal>(
+/// Runs the words over a host with a script, in pieces, and a capture, with guests, under a gate.
+pub fn play_with<R: Threads + Wait + Sync + AllocGlobal, K: Gate>(
     rt: &R,
     words: &[&str],
     script: &[&str],
     capture: &[u8],
     guests: Vec<AnyGuest>,
+    gate: &K,
 ) -> Result<Played, Fail> {
     let script = text(rt.alloc(), script)?;
     let mut host = host_with(rt.alloc(), script.as_bytes(), capture)?;
     let mut out = MemorySink::new(rt.alloc());
-    let status = run(rt, words, &mut host, &mut out, guests)?;
+    let status = run_under(rt, words, &mut host, &mut out, guests, gate)?;
     Ok(Played { status, host, out })
 }
 
 /// Runs the words over a host with a script, in pieces, and a capture.
-pub fn play<R: Threads + Sync + AllocGlobal>(
+pub fn play<R: Threads + Wait + Sync + AllocGlobal>(
     rt: &R,
     words: &[&str],
     script: &[&str],
     capture: &[u8],
 ) -> Result<Played, Fail> {
-    play_with(rt, words, script, capture, Vec::new(rt.alloc()))
+    play_with(rt, words, script, capture, Vec::new(rt.alloc()), &FreeGate)
 }
 
 /// Compares a file.
@@ -89,7 +105,7 @@ pub fn has_out(rt: &impl Abort, played: &Played, text: &str) {
 }
 
 /// A script is refused with this status and line, and no file is made.
-pub fn refuses<R: Threads + Sync + AllocGlobal + Abort>(
+pub fn refuses<R: Threads + Wait + Sync + AllocGlobal + Abort>(
     rt: &R,
     script: &[&str],
     capture: &[u8],

@@ -1,17 +1,21 @@
 //! A guest that fails.
 
 use crate::building::{MONO, failing_guest, wave};
+use crate::overruns::{FOUR_WORKERS, ONE_WORKER, SERIAL};
 use crate::running::{PLAY, has_file, play_with};
 use jack_control::Status;
+use jack_host::FreeGate;
 use std::test::Fail;
 
-const FAILING: &str = "\
+const DEVICE: &str = "\
 jackd 1
 rate 48000
 period 4
 capture 1
 playback 1 16
-mode serial
+";
+
+const FAILING: &str = "\
 do open g guest 0
 do register g:in in audio
 do register g:out out audio
@@ -38,9 +42,12 @@ fn a_guest_that_failed_is_silent_until_it_is_opened_again(rt: HostRuntime) -> Re
         1, 2, 3, 4, 5, 6, 7, 8, 0, 0, 0, 0, 0, 0, 0, 0, 17, 18, 19, 20,
     ];
     let capture = wave(rt.alloc(), MONO, &samples)?;
-    let guests = failing_guest(rt.alloc())?;
-    let played = play_with(&rt, &PLAY, &[FAILING], &capture, guests)?;
-    assert_eq!(rt; played.status, Status::Ok);
-    has_file(&rt, &played, "p", &wave(rt.alloc(), MONO, &heard)?);
+    for mode in [SERIAL, ONE_WORKER, FOUR_WORKERS] {
+        let guests = failing_guest(rt.alloc())?;
+        let script = [DEVICE, mode, FAILING];
+        let played = play_with(&rt, &PLAY, &script, &capture, guests, &FreeGate)?;
+        assert_eq!(rt; played.status, Status::Ok, "{mode}");
+        has_file(&rt, &played, "p", &wave(rt.alloc(), MONO, &heard)?);
+    }
     Ok(())
 }

@@ -5,6 +5,7 @@ use crate::running::refuses;
 use jack_control::Status;
 use jack_types::{Cause, ScriptFault};
 use std::process::Abort;
+use std::sync::Wait;
 use std::test::Fail;
 use std::thread::Threads;
 
@@ -16,7 +17,7 @@ playback 1 16
 ";
 
 /// A script is refused on this line for its version.
-fn has_version_3<R: Threads + Sync + AllocGlobal + Abort>(
+fn has_version_3<R: Threads + Wait + Sync + AllocGlobal + Abort>(
     rt: &R,
     script: &[&str],
     line: u32,
@@ -38,7 +39,7 @@ fn version_3_is_refused_on_its_line(rt: HostRuntime) -> Result<(), Fail> {
     let behind = [
         "# a session\n\njackd 3\n",
         DEVICE,
-        "  # no threads yet\n \t \nmode threads 2\n",
+        "  # two workers\n \t \nmode threads 2\n",
     ];
     has_version_3(&rt, &behind, 3, "fault 5 script 3 Choice\n")
 }

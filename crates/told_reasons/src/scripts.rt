@@ -140,7 +140,7 @@ fn say_unknown(alloc: Global, reason: &mut Reason, faulty: &Faulty<'_>) -> Resul
 // A word is one that stands elsewhere, or in another version.
 fn say_elsewhere(reason: &mut Reason, faulty: &Faulty<'_>) -> Result<(), AllocError> {
     if faulty.place < HEADER.len() {
-        return say_unplayed_mode(reason, word_at(faulty.line, 1));
+        return say_new_mode(reason, word_at(faulty.line, 1));
     }
     let name = word_at(faulty.line, 0);
     if is_optional(name) {
@@ -162,13 +162,11 @@ fn is_optional(name: &[u8]) -> bool {
     false
 }
 
-fn say_unplayed_mode(reason: &mut Reason, mode: &[u8]) -> Result<(), AllocError> {
-    for form in MODES {
-        if name_of(form) == mode {
-            reason.say("mode ")?;
-            reason.quote(mode)?;
-            return reason.say(" is not played yet; \"serial\" is");
-        }
+fn say_new_mode(reason: &mut Reason, mode: &[u8]) -> Result<(), AllocError> {
+    if name_of(MODES[2]) == mode {
+        reason.say("mode ")?;
+        reason.quote(mode)?;
+        return reason.say(" is of version 3");
     }
     reason.say("a word is not known here")
 }

@@ -1,31 +1,32 @@
 use Rattle.std.proofs.Common.{◌≡◌, List, ℕ, ◌∙◌, arith, sym, ap, subst, take}
 use Rattle.jack_host.specs.Bytes.{Gains}
 use Rattle.wave_pcm.specs.Readings.{Reading}
+use Rattle.run_laws.specs.Sessions.{printed_of}
 use Rattle.run_laws.specs.Told.{text_in}
-use Rattle.session_run.specs.Parts.{session_of, stores_in}
+use Rattle.session_threads.specs.Parts.{session_of, stores_in}
 use Rattle.jack_control.specs.Plays.{made_by}
 use Rattle.jack_control.proofs.CauseLemmas.{err-any, ok-behind, ok-known, rose-handed, rose-written}
 use Rattle.jack_control.proofs.CutLemmas.{apart-front, apart-take, cut, explained, others-kept}
 use Rattle.jack_control.proofs.playing.play_session.Goals as goal
 
-pub perform-performed-requires-clause-apart : goal.perform-performed-requires-clause-apart
-perform-performed-requires-clause-apart g c κs within = apart-front (made_by c.args.names.now) c.args.names.now.disks c.requires.apart.1.1
+pub perform-session-requires-clause-apart : goal.perform-session-requires-clause-apart
+perform-session-requires-clause-apart g c κs within = apart-front (made_by c.args.names.now) c.args.names.now.disks c.requires.apart.1.1
 
 pub hand_back-handed-requires-clause-out : goal.hand_back-handed-requires-clause-out
 hand_back-handed-requires-clause-out g c κs within =
-    (take c.perform-performed.ensures.made.made (made_by c.args.names.now), c.perform-performed.ensures.made.out, apart-take c.perform-performed.ensures.made.made (made_by c.args.names.now) (apart-front (made_by c.args.names.now) c.args.names.now.disks c.requires.apart.1.1))
+    (take c.perform-session.ensures.made.made (made_by c.args.names.now), c.perform-session.ensures.made.out, apart-take c.perform-session.ensures.made.made (made_by c.args.names.now) (apart-front (made_by c.args.names.now) c.args.names.now.disks c.requires.apart.1.1))
 
 pub conclude-reported-requires-clause-ended : goal.conclude-reported-requires-clause-ended
-conclude-reported-requires-clause-ended g c = ok-behind c.perform-performed.result c.hand_back-handed.ensures.ended c.perform-performed.ensures.ended
+conclude-reported-requires-clause-ended g c = ok-behind c.perform-session.result.1 c.hand_back-handed.ensures.ended c.perform-session.ensures.ended
 
 pub returns-clause-played : goal.returns-clause-played
 returns-clause-played g c =
     ok-behind c.conclude-reported.result
     (λ put files scores first is.
-    explained scores c.args.names.now c.args.session (stores_in c.perform-performed.new.session) files (g.H.Host.files c.args.host.now) (g.H.Host.files c.perform-performed.new.host) (g.H.Host.files c.hand_back-handed.new.host) (g.H.Host.files c.back.new.self)
-    (g.K.Sink.content c.args.out.now) (g.K.Sink.content c.conclude-reported.new.out) (text_in (session_of c.perform-performed.new.session)) first c.perform-performed.ensures.others
+    explained scores c.args.names.now c.args.session (printed_of (session_of c.perform-session.result.0)) (stores_in c.perform-session.result.0) files (g.H.Host.files c.args.host.now) (g.H.Host.files c.perform-session.new.host) (g.H.Host.files c.hand_back-handed.new.host) (g.H.Host.files c.back.new.self)
+    (g.K.Sink.content c.args.out.now) (g.K.Sink.content c.conclude-reported.new.out) (text_in (session_of c.perform-session.result.0)) first c.perform-session.ensures.others
     (apart-front (made_by c.args.names.now) c.args.names.now.disks c.requires.apart.1.1) c.hand_back-handed.ensures.stand c.back.ensures.files is
-    (ok-known c.perform-performed.result _ put.0 c.perform-performed.ensures.whole) (ok-known c.perform-performed.result _ put.0 c.perform-performed.ensures.explained)
+    (ok-known c.perform-session.result.1 _ put.0 c.perform-session.ensures.whole) (ok-known c.perform-session.result.1 _ put.0 c.perform-session.ensures.explained) (ok-known c.perform-session.result.1 _ put.0 c.perform-session.ensures.serial)
     (subst (λ (report : List ℕ). Gains (g.K.Sink.content c.args.out.now) (g.K.Sink.content c.conclude-reported.new.out) report) c.hand_back-handed.ensures.report put.2))
     c.conclude-reported.ensures.put
 
@@ -33,39 +34,39 @@ pub returns-clause-cut : goal.returns-clause-cut
 returns-clause-cut g c =
     err-any c.conclude-reported.result
     (λ files scores first is.
-    cut scores c.args.names.now c.args.session (stores_in c.perform-performed.new.session) files (g.H.Host.files c.args.host.now) (g.H.Host.files c.perform-performed.new.host) (g.H.Host.files c.hand_back-handed.new.host) (g.H.Host.files c.back.new.self) first
-    (apart-front (made_by c.args.names.now) c.args.names.now.disks c.requires.apart.1.1) c.perform-performed.ensures.made c.hand_back-handed.ensures.stand c.back.ensures.files is c.perform-performed.ensures.fronts)
+    cut scores c.args.names.now c.args.session (printed_of (session_of c.perform-session.result.0)) (stores_in c.perform-session.result.0) files (g.H.Host.files c.args.host.now) (g.H.Host.files c.perform-session.new.host) (g.H.Host.files c.hand_back-handed.new.host) (g.H.Host.files c.back.new.self) first
+    (apart-front (made_by c.args.names.now) c.args.names.now.disks c.requires.apart.1.1) c.perform-session.ensures.made c.hand_back-handed.ensures.stand c.back.ensures.files is c.perform-session.ensures.fronts)
 
 pub returns-clause-read : goal.returns-clause-read
 returns-clause-read g c is =
     let fault = c.conclude-reported.ensures.read is in (
-      rose-handed c.args.session.gear.capture.reading.faults c.perform-performed.new.session.gear.capture.reading.faults (g.H.Host.read_faults c.hand_back-handed.new.host) (g.H.In.Source.faults c.into_source.result) (g.H.Host.read_faults c.back.new.self) (g.H.Host.read_faults c.args.host.now) (c.perform-performed.ensures.read fault.0)
+      rose-handed c.args.session.gear.capture.reading.faults c.perform-session.result.0.gear.capture.reading.faults (g.H.Host.read_faults c.hand_back-handed.new.host) (g.H.In.Source.faults c.into_source.result) (g.H.Host.read_faults c.back.new.self) (g.H.Host.read_faults c.args.host.now) (c.perform-session.ensures.read fault.0)
           (sym (c.into_source.ensures ∙ ap (λ (r : Reading). r.faults) c.into_capture.ensures.reading ∙ ap (λ capture. capture.reading.faults) c.hand_back-handed.ensures.capture)) c.back.ensures.reads
-          (c.hand_back-handed.ensures.reads ∙ c.perform-performed.ensures.reads),
+          (c.hand_back-handed.ensures.reads ∙ c.perform-session.ensures.reads),
       fault.1,
     )
 
 pub returns-clause-write : goal.returns-clause-write
 returns-clause-write g c is =
-    rose-written c.hand_back-handed.result (stores_in c.perform-performed.new.session) c.is_ok.result _ _ _ _ _ _ _ c.is_ok.ensures.value c.perform-performed.ensures.later c.hand_back-handed.ensures.cause c.hand_back-handed.ensures.faults
-    c.back.ensures.writes c.perform-performed.ensures.write (c.conclude-reported.ensures.write is)
+    rose-written c.hand_back-handed.result (stores_in c.perform-session.result.0) c.is_ok.result _ _ _ _ _ _ _ c.is_ok.ensures.value c.perform-session.ensures.later c.hand_back-handed.ensures.cause c.hand_back-handed.ensures.faults
+    c.back.ensures.writes c.perform-session.ensures.write (c.conclude-reported.ensures.write is)
 
 pub returns-clause-others : goal.returns-clause-others
 returns-clause-others g c =
-    others-kept (g.H.Host.files c.args.host.now) (g.H.Host.files c.perform-performed.new.host) (g.H.Host.files c.hand_back-handed.new.host) (g.H.Host.files c.back.new.self) (made_by c.args.names.now) (stores_in c.perform-performed.new.session)
-    (apart-front (made_by c.args.names.now) c.args.names.now.disks c.requires.apart.1.1) c.perform-performed.ensures.made c.hand_back-handed.ensures.stand c.back.ensures.files
+    others-kept (g.H.Host.files c.args.host.now) (g.H.Host.files c.perform-session.new.host) (g.H.Host.files c.hand_back-handed.new.host) (g.H.Host.files c.back.new.self) (made_by c.args.names.now) (stores_in c.perform-session.result.0)
+    (apart-front (made_by c.args.names.now) c.args.names.now.disks c.requires.apart.1.1) c.perform-session.ensures.made c.hand_back-handed.ensures.stand c.back.ensures.files
 
 -- no read of the session failed, and the host took up a count of nothing
 pub returns-clause-reads : goal.returns-clause-reads
 returns-clause-reads g c =
     ok-behind c.conclude-reported.result
     (λ put fresh.
-    let same = ok-known c.perform-performed.result _ put.0 c.perform-performed.ensures.capture in
-    let ended = c.hand_back-handed.ensures.ended (ok-known c.perform-performed.result _ put.0 c.perform-performed.ensures.ended) in
-    let back : c.into_capture.result ≡ c.perform-performed.new.session.gear.capture.reading = c.into_capture.ensures.reading ∙ ap (λ capture. capture.reading) c.hand_back-handed.ensures.capture in
+    let same = ok-known c.perform-session.result.1 _ put.0 c.perform-session.ensures.capture in
+    let ended = c.hand_back-handed.ensures.ended (ok-known c.perform-session.result.1 _ put.0 c.perform-session.ensures.ended) in
+    let back : c.into_capture.result ≡ c.perform-session.result.0.gear.capture.reading = c.into_capture.ensures.reading ∙ ap (λ capture. capture.reading) c.hand_back-handed.ensures.capture in
     let kept = same.kept (sym (ap (λ (r : Reading). r.failed) back) ∙ c.into_capture.ensures.sound ended.sound) in
     let none : g.H.In.Source.faults c.into_source.result ≡ 0 = c.into_source.ensures ∙ ap (λ (r : Reading). r.faults) back ∙ kept.1 ∙ fresh in
-    let before = c.hand_back-handed.ensures.reads ∙ c.perform-performed.ensures.reads in
+    let before = c.hand_back-handed.ensures.reads ∙ c.perform-session.ensures.reads in
     let later = c.back.ensures.reads.later in
     let no_more = c.back.ensures.no_more in
     omega (arith, before, later, no_more, none))
@@ -75,5 +76,5 @@ pub returns-clause-writes : goal.returns-clause-writes
 returns-clause-writes g c =
     ok-behind c.conclude-reported.result
     (λ put.
-    c.back.ensures.writes ∙ ok-known c.hand_back-handed.result _ (sym c.is_ok.ensures.value ∙ put.1) c.hand_back-handed.ensures.cause.kept ∙ ok-known c.perform-performed.result _ put.0 c.perform-performed.ensures.kept)
+    c.back.ensures.writes ∙ ok-known c.hand_back-handed.result _ (sym c.is_ok.ensures.value ∙ put.1) c.hand_back-handed.ensures.cause.kept ∙ ok-known c.perform-session.result.1 _ put.0 c.perform-session.ensures.kept)
     c.conclude-reported.ensures.put

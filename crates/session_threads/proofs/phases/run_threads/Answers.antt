@@ -6,6 +6,7 @@ returns g c = record {
   ran = c.run_phases.ensures.ran;
   at_end = c.run_phases.ensures.at;
   stands = c.run_phases.ensures.fault;
+  legal = c.run_phases.ensures.legal;
   stays = c.run_phases.ensures.stays;
   read = c.run_phases.ensures.read;
   write = c.run_phases.ensures.write;

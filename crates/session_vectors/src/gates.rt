@@ -1,0 +1,103 @@
+//! A gate that holds threads.
+
+use jack_host::Gate;
+use std::hint;
+use std::sync::atomic::{AtomicU64, Ordering};
+
+// For how many turns a thread is held at most.
+const MOST_TURNS: u64 = 10_000_000;
+
+/// Which threads are held, and until when.
+#[derive(Clone, Copy, Debug, PartialEq, Eq)]
+pub enum Held {
+    /// Cycle 3, until a call was made.
+    Cycle,
+    /// The lanes, until cycle 5 comes.
+    Lanes,
+    /// Each cycle, until a recorder's thread looked twice more for a block.
+    EachCycle,
+    /// A recorder's thread before its first look, until cycle 10 comes.
+    Recorder,
+    /// Each client, until two of a cycle are about to play.
+    Clients,
+}
+
+/// Holds threads at one of its calls until others of its calls came, and tells how often it gave that up.
+#[derive(Drop)]
+pub struct HoldingGate {
+    held: Held,
+    cycles: AtomicU64,
+    calls: AtomicU64,
+    blocks: AtomicU64,
+    clients: AtomicU64,
+    given_up: AtomicU64,
+}
+
+impl HoldingGate {
+    pub fn new(held: Held) -> HoldingGate {
+        HoldingGate {
+            held,
+            cycles: AtomicU64::new(0),
+            calls: AtomicU64::new(0),
+            blocks: AtomicU64::new(0),
+            clients: AtomicU64::new(0),
+            given_up: AtomicU64::new(0),
+        }
+    }
+
+    /// How often a thread was held for all turns.
+    pub fn given_up(&self) -> u64 {
+        self.given_up.load(Ordering::SeqCst)
+    }
+
+    // Holds this thread until a count has come so far.
+    fn hold(&self, count: &AtomicU64, least: u64) {
+        for _ in 0..MOST_TURNS {
+            if count.load(Ordering::SeqCst) >= least {
+                return;
+            }
+            hint::spin_loop();
+        }
+        self.given_up.fetch_add(1, Ordering::SeqCst);
+    }
+}
+
+impl Gate for HoldingGate {
+    fn before_cycle(&self, cycle: u32) {
+        self.cycles.store(u64::from(cycle), Ordering::SeqCst);
+        match self.held {
+            Held::Cycle if cycle == 3 => self.hold(&self.calls, 1),
+            Held::EachCycle => {
+                let looks = self.blocks.load(Ordering::SeqCst);
+                self.hold(&self.blocks, looks.saturating_add(2));
+            }
+            _ => (),
+        }
+    }
+
+    fn before_call(&self, _lane: u8, _index: u32) {
+        if self.held == Held::Lanes {
+            self.hold(&self.cycles, 5);
+        }
+    }
+
+    fn after_call(&self, _lane: u8, _index: u32) {
+        self.calls.fetch_add(1, Ordering::SeqCst);
+    }
+
+    fn before_client(&self, _worker: u32, _node: u32) {
+        self.clients.fetch_add(1, Ordering::SeqCst);
+        if self.held == Held::Clients {
+            self.hold(&self.clients, 2);
+        }
+    }
+
+    fn before_block(&self, _recorder: u8) {
+        let looks = self.blocks.fetch_add(1, Ordering::SeqCst);
+        if self.held == Held::Recorder && looks == 0 {
+            self.hold(&self.cycles, 10);
+        }
+    }
+
+    fn before_turn(&self, _disk: u8) {}
+}
