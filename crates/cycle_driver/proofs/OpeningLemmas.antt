@@ -4,6 +4,7 @@
 --     zeros-few      nothing was put
 --     no-memories      nobody has played
 --     made-scores, made-own      the scores are those that the stage has
+--     made-rings      a driver of these rings has those of the script
 --     works-made      the works of what was made
 --     IsGear-new, IsNew-gear      the parts of a new driver
 use Rattle.std.proofs.Common.{◌≡◌, ℕ, zero, suc, ◌*◌, ◌<◌, ◌≤◌, false, List, [], ◌∷◌, length, map, replicate, slice_get, sum_by, take, ◌++◌, All, Option, Some, None, refl, sym, ◌∙◌, ap, subst, arith}
@@ -80,7 +81,7 @@ opened-at : (out : Option Getting) (P : Getting → Type 0) → MatchOption out 
 opened-at None P never = absurd never
 opened-at (Some getting) P holds = (getting, holds)
 
--- the scores are those that the stage has
+-- the scores are those that the stage has, and a driver of its rings has those of the script
 module _ {G : Type 0} (script : Script) (scores : List Score) (made : Made G) (is : IsMade script scores made) where
   pub made-scores : made.stage.staged.owned.scores ≡ scores
   made-scores = ap (λ (o : Owned). o.scores) is.stage.owned
@@ -88,9 +89,13 @@ module _ {G : Type 0} (script : Script) (scores : List Score) (made : Made G) (i
   pub made-own : IsMade script made.stage.staged.owned.scores made
   made-own = subst (λ own. IsMade script own made) (sym made-scores) is
 
+  pub made-rings : {E : Type 0} (result : Result Gear E) → IfOk result (λ gear. gear.rings ≡ made.outfit.outlets.rings) → IfOk result (λ gear. AreNewRings script gear.rings)
+  made-rings (Ok gear) same = subst (AreNewRings script) (sym same) is.outfit.outlets.rings
+  made-rings (Err e) same = tt
+
 -- the works of what was made
 abbrev pub works-made : {S G : Type 0} → Reading × Planned → Captured → Made G → ℕ → Works S G
-works-made reader capture made set = record { reader = reader; stage = made.stage; capture = capture; transport = made.transport; rings = made.outlets.rings; numbers = made.lists.numbers; moments = made.lists.moments; set = set }
+works-made reader capture made set = record { reader = reader; stage = made.stage; capture = capture; transport = made.outfit.transport; rings = made.outfit.outlets.rings; numbers = made.outfit.lists.numbers; moments = made.outfit.lists.moments; set = set }
 
 module _ (gear : Gear) (scores : List Score) (served : IsServed gear.script) (stage : IsNewStage gear.script scores gear.stage) (guests : guests_needed gear.script ≤ length scores)
     (transport : IsNewTransport gear.script gear.transport) (rings : AreNewRings gear.script gear.rings) (numbers : gear.numbers ≡ []) (moments : gear.moments ≡ []) (capture : IsUnread gear.script gear.capture) where

@@ -7,6 +7,7 @@
 --     IsNewTransport script transport      a transport before the first cycle
 --     IsRoom script items room      an empty list with room for an item of each cycle
 --     AreNewLists script lists      one for numbers and one for moments
+--     IsNewOutfit script outfit      all that stands around the stage
 --     IsMade script scores made      all of a driver's memory but the capture's
 --     IsUnread script capture      a capture of the script's channels
 use Rattle.std.specs.Prelude.{◌≡◌, ℕ, ◌*◌, ◌≤◌, List, [], length, map, replicate, false, Some, None}
@@ -26,6 +27,7 @@ use Rattle.task_laws.specs.Calls.{open_kinds}
 use Rattle.client_stage.specs.Standing.{OnStage, StandsOn}
 use Rattle.cycle_driver.specs.declared.opening.Lists.{Lists}
 use Rattle.cycle_driver.specs.declared.opening.Made.{Made}
+use Rattle.cycle_driver.specs.declared.opening.Outfit.{Outfit}
 use Rattle.cycle_driver.specs.declared.opening.Outlets.{Outlets}
 
 -- of the script's channels
@@ -65,11 +67,14 @@ pub record AreNewLists (script : Script) (lists : Lists) : Type 0 where
   pub numbers : IsRoom script lists.numbers.items (vec_capacity lists.numbers)
   pub moments : IsRoom script lists.moments.items (vec_capacity lists.moments)
 
+pub record IsNewOutfit (script : Script) (outfit : Outfit) : Type 0 where
+  pub transport : IsNewTransport script outfit.transport
+  pub outlets : AreNewOutlets script outfit.outlets
+  pub lists : AreNewLists script outfit.lists
+
 pub record IsMade {G : Type 0} (script : Script) (scores : List Score) (made : Made G) : Type 0 where
   pub stage : IsNewStage script scores made.stage
-  pub transport : IsNewTransport script made.transport
-  pub outlets : AreNewOutlets script made.outlets
-  pub lists : AreNewLists script made.lists
+  pub outfit : IsNewOutfit script made.outfit
 
 -- with room for the greatest period; nothing failed yet
 pub record IsUnread (script : Script) (capture : Captured) : Type 0 where

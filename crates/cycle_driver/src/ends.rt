@@ -122,7 +122,6 @@ impl<S: Source, W: Store, G: Guest> Driver<S, W, G> {
         ensures reading { result ≡ self.capture.reading }
         ensures sound { self.failed ≡ false → result.failed ≡ false }
     {
-        let works = self.works;
-        works.capture.into_wave()
+        self.works.into_wave()
     }
 }

@@ -1,11 +1,11 @@
 //! How a driver is made.
 
-ghost use Rattle.std.specs.Prelude.{◌≡◌, ◌<◌, ◌≤◌, IfOk, [], ◌∷◌, length, map};
+ghost use Rattle.std.specs.Prelude.{◌≡◌, ◌<◌, ◌≤◌, IfErr, IfOk, [], ◌∷◌, false, length, map};
 ghost use Rattle.std.specs.Vec.{vec_capacity};
 ghost use Rattle.driver_laws.specs.Openings.{IsNew};
 ghost use Rattle.task_laws.specs.Calls.{guests_needed};
 ghost use Rattle.cycle_laws.specs.Gears.{IsServed, driver_of};
-ghost use Rattle.cycle_driver.specs.Makings.{AreNewLists, AreNewOutlets, AreNewRings, IsMade, IsNewMix, IsNewStage, IsNewTransport, IsOpeningPlan, IsRoom, IsUnread};
+ghost use Rattle.cycle_driver.specs.Makings.{AreNewLists, AreNewOutlets, AreNewRings, IsMade, IsNewMix, IsNewOutfit, IsNewStage, IsNewTransport, IsOpeningPlan, IsRoom, IsUnread};
 
 use crate::driver::Driver;
 use crate::works::Works;
@@ -40,13 +40,19 @@ struct Lists {
     moments: Vec<Moment>,
 }
 
+/// What stands around a driver's stage.
+#[derive(Drop)]
+struct Outfit {
+    transport: PlanTransport,
+    outlets: Outlets,
+    lists: Lists,
+}
+
 /// All of a driver's memory but the capture's.
 #[derive(Drop)]
 struct Made<G: Guest> {
     stage: Stage<G>,
-    transport: PlanTransport,
-    outlets: Outlets,
-    lists: Lists,
+    outfit: Outfit,
 }
 
 /// No number yet, with room for one of each cycle of a script.
@@ -153,20 +159,27 @@ fn make_transport(script: &Script) -> PlanTransport
     PlanTransport::new(script.header().rate)
 }
 
+/// What stands around the stage of a script's clients, before the first cycle.
+fn make_outfit(alloc: Global, script: &Script) -> Result<Outfit, Memory>
+    ensures { IfOk result (IsNewOutfit script.now) }
+{
+    let outlets = make_outlets(alloc, script)?;
+    let lists = make_lists(alloc, script)?;
+    Ok(Outfit {
+        transport: make_transport(script),
+        outlets,
+        lists,
+    })
+}
+
 /// Takes all memory of a script's driver but the capture's.
 fn make<G: Guest>(alloc: Global, script: &Script, guests: Vec<G>) -> Result<Made<G>, Memory>
     requires served { IsServed script.now }
     ensures { IfOk result (IsMade script.now (map G.score guests.items)) }
 {
     let stage = make_stage(alloc, script, guests)?;
-    let outlets = make_outlets(alloc, script)?;
-    let lists = make_lists(alloc, script)?;
-    Ok(Made {
-        stage,
-        transport: make_transport(script),
-        outlets,
-        lists,
-    })
+    let outfit = make_outfit(alloc, script)?;
+    Ok(Made { stage, outfit })
 }
 
 /// A script, noted for proofs.
@@ -191,18 +204,23 @@ fn assemble<S: Source, W: Store, G: Guest>(
     ensures new { IsNew script.now made.stage.staged.owned.scores (driver_of result) }
     ensures capture { result.capture ≡ capture }
     ensures reader { result.reading ≡ reader.0 }
-    ensures rings { result.rings ≡ made.outlets.rings }
+    ensures rings { result.rings ≡ made.outfit.outlets.rings }
 {
     let header = script.header();
-    let Outlets { rings, mix } = made.outlets;
-    let Lists { numbers, moments } = made.lists;
+    let Outfit {
+        transport,
+        outlets,
+        lists,
+    } = made.outfit;
+    let Outlets { rings, mix } = outlets;
+    let Lists { numbers, moments } = lists;
     Driver {
         script: note(script),
         works: Works {
             reader,
             stage: made.stage,
             capture,
-            transport: made.transport,
+            transport,
             rings,
             numbers,
             moments,
@@ -216,6 +234,31 @@ fn assemble<S: Source, W: Store, G: Guest>(
         },
         playback: None,
         failed: false,
+    }
+}
+
+/// A driver of its parts over a file, before the first cycle; the file comes back where its channels find no memory.
+fn over<S: Source, W: Store, G: Guest>(
+    alloc: Global,
+    script: &Script,
+    reader: Reader<Plan>,
+    capture: Wave<S>,
+    made: Made<G>,
+) -> Result<Driver<S, W, G>, (Wave<S>, Memory)>
+    requires served { IsServed script.now }
+    requires rows { reader.0.rows ≡ [] }
+    requires capture { (capture.format.channels ≡ script.now.header.capture) × (capture.failed ≡ false) }
+    requires made { IsMade script.now made.stage.staged.owned.scores made }
+    requires guests { guests_needed script.now ≤ length made.stage.staged.owned.scores }
+    ensures new { IfOk result (λ driver. IsNew script.now made.stage.staged.owned.scores (driver_of driver)) }
+    ensures capture { IfOk result (λ driver. driver.capture.reading ≡ capture) }
+    ensures reader { IfOk result (λ driver. driver.reading ≡ reader.0) }
+    ensures rings { IfOk result (λ driver. driver.rings ≡ made.outfit.outlets.rings) }
+    ensures back { IfErr result (λ refused. refused.0 ≡ capture) }
+{
+    match Capture::new(alloc, capture, greatest_period(script)) {
+        Ok(capture) => Ok(assemble(script, reader, capture, made)),
+        Err(refused) => Err(refused),
     }
 }
 
@@ -247,13 +290,9 @@ impl<S: Source, W: Store, G: Guest> Driver<S, W, G> {
         ensures rings { IfOk result (λ driver. AreNew script.now.header.recorders script.now.header.ring (greatest_period script.now) (length (turns script.now) * length script.now.header.recorders) driver.rings) }
         ensures back { IfErr result (λ refused. refused.0 ≡ capture) }
     {
-        let made = match make(alloc, script, guests) {
-            Ok(made) => made,
-            Err(memory) => return Err((capture, memory)),
-        };
-        match Capture::new(alloc, capture, greatest_period(script)) {
-            Ok(capture) => Ok(assemble(script, reader, capture, made)),
-            Err(refused) => Err(refused),
+        match make(alloc, script, guests) {
+            Ok(made) => over(alloc, script, reader, capture, made),
+            Err(memory) => Err((capture, memory)),
         }
     }
 }

@@ -9,6 +9,7 @@ use jack_host::Source;
 use jack_types::Moment;
 use plan_transport::PlanTransport;
 use recorder_rings::RecorderRings;
+use wave_pcm::Wave;
 
 /// The end of the publication that reads plans; the stage on which their clients play; the capture, the transport and the
 /// recorders' rings; of each cycle so far the number that it took, and what the transport showed; and the period of the next.
@@ -22,4 +23,15 @@ pub(crate) struct Works<S: Source, G: Guest> {
     pub numbers: Vec<u32>,
     pub moments: Vec<Moment>,
     pub set: u32,
+}
+
+impl<S: Source, G: Guest> Works<S, G> {
+    ghost use Rattle.std.specs.Prelude.{◌≡◌};
+
+    /// The file of the capture.
+    pub fn into_wave(self) -> Wave<S>
+        ensures { result ≡ self.capture.reading }
+    {
+        self.capture.into_wave()
+    }
 }
