@@ -33,7 +33,9 @@ pub const SERIAL: &str = "mode serial\n";
 
 /// That of threads with so many workers.
 pub const ONE_WORKER: &str = "mode threads 1\n";
+
 pub const TWO_WORKERS: &str = "mode threads 2\n";
+
 pub const FOUR_WORKERS: &str = "mode threads 4\n";
 
 // The header's optional lines, with a ring that is drained in each cycle.

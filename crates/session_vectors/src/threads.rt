@@ -2,9 +2,7 @@
 
 use crate::building::{MONO, wave};
 use crate::gates::{Held, HoldingGate};
-use crate::overruns::{
-    FORMAT, ONE_WORKER, SAMPLES, TWO_WORKERS, drained_host, play_under,
-};
+use crate::overruns::{FORMAT, ONE_WORKER, SAMPLES, TWO_WORKERS, drained_host, play_under};
 use crate::running::{PLAY, Played, has_file, has_out, play, play_with};
 use jack_control::Status;
 use jack_host::MemorySink;

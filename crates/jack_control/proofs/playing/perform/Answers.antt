@@ -54,9 +54,11 @@ returns-in-Err-clause-fronts g c given is none =
     c.run-session.result.0 c.run-session.ensures.stores c.run-session.ensures.recorders c.run-session.ensures.script given (is.own.script ∙ sym (ap (λ (gear : Gear). gear.script) c.make_files.ensures.same.gear))
     (λ serial. at-err c.run-session.result.1 _ c.in-Err.is (c.run-session.ensures.fault serial) given (given-made c.args.session c.make_files.new.session c.make_files.ensures.same.gear given is))
     (λ threads.
-    let far = at-err c.run-session.result.1 _ c.in-Err.is (c.run-session.ensures.so_far threads) in
-    (subst (λ (s : Script). LegalSoFar s c.run-session.result.0.desk.history) c.run-session.ensures.script (at-err c.run-session.result.1 _ c.in-Err.is (c.run-session.ensures.legal threads)),
-    far.0, far.1 given (given-made c.args.session c.make_files.new.session c.make_files.ensures.same.gear given is)))
+    let far = at-err c.run-session.result.1 _ c.in-Err.is (c.run-session.ensures.so_far threads) in (
+      subst (λ (s : Script). LegalSoFar s c.run-session.result.0.desk.history) c.run-session.ensures.script (at-err c.run-session.result.1 _ c.in-Err.is (c.run-session.ensures.legal threads)),
+      far.0,
+      far.1 given (given-made c.args.session c.make_files.new.session c.make_files.ensures.same.gear given is),
+    ))
 
 pub returns-in-Err-clause-made : goal.returns-in-Err-clause-made
 returns-in-Err-clause-made g c =

@@ -57,6 +57,9 @@ pub returns-clause-so_far : goal.returns-clause-so_far
 returns-clause-so_far g c threads =
     on_err_weaker c.run_threads-rig.result.1 (threads-fail {S = g.row.S.Denot} {W = g.row.W.Denot} {G = g.row.G.Denot} c.args.self c.self.inside.rig.works _ _ c.self.view_is c.requires threads c.run_threads-rig.result.0.works c.run_threads-rig.ensures.stays c.a_new_session_is_at_rest.ensures.at) c.run_threads-rig.ensures.stands
 
+pub returns-clause-legal : goal.returns-clause-legal
+returns-clause-legal g c threads = c.run_threads-rig.ensures.legal
+
 pub returns-clause-ran : goal.returns-clause-ran
 returns-clause-ran g c =
     on-ok_both c.run_threads-rig.result.1 (threads-ran {S = g.row.S.Denot} {W = g.row.W.Denot} {G = g.row.G.Denot} c.args.self c.self.inside.rig.works _ _ c.self.view_is c.requires (with-threads {S = g.row.S.Denot} {W = g.row.W.Denot} {G = g.row.G.Denot} c.args.self c.self.inside.rig.works _ _ c.self.view_is c.requires c.self.inside.is_serial c.self.invariant.3 c.if-is_serial.false) c.run_threads-rig.result.0.works c.run_threads-rig.ensures.stays) c.run_threads-rig.ensures.sound c.run_threads-rig.ensures.ran
