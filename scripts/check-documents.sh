@@ -2,7 +2,7 @@
 # Each result that README.md and docs/*.md print is what the program gives. In these documents a fenced block whose first
 # line has two words, as in ```text first.session, is a file of that name; a ```console block is commands behind `$ `, each
 # with what it prints. A document's blocks are run in their order, in a folder of their own, with `jackd` on the path.
-# A block that needs a tool that is missing is passed over.
+# A command that needs a tool that is missing is passed over.
 set -u
 # shellcheck source=scripts/program.sh
 . "$(dirname "$0")/program.sh" python3
@@ -10,7 +10,7 @@ python3 - "$jackd" README.md examples/README.md docs/*.md <<'PY'
 import os, re, shutil, subprocess, sys, tempfile
 
 program, documents = os.path.abspath(sys.argv[1]), sys.argv[2:]
-tools = ['sox', 'ffprobe', 'man']
+missing = [it for it in ('sox', 'ffprobe', 'man') if not shutil.which(it)]
 block = re.compile(r'^```(\S+)(?: (\S+))?\n(.*?)^```$', re.M | re.S)
 faults = commands = 0
 
@@ -43,12 +43,16 @@ for document in documents:
             if name:
                 open(f'{place}/{name}', 'w').write(text)
             elif language == 'console':
-                wanted = calls(text)
-                missing = [it for it in tools if re.search(rf'(^|[|$] *){it} ', text, re.M) and not shutil.which(it)]
-                if missing:
-                    print(f'check-documents: {document}: passed over, no {missing[0]}: {wanted[0][0][:60]}')
-                    continue
+                wanted = []
+                for command, result in calls(text):
+                    lacking = [it for it in missing if re.search(rf'(^|\|) *{it} ', command)]
+                    if lacking:
+                        print(f'check-documents: {document}: passed over, no {lacking[0]}: {command[:60]}')
+                    else:
+                        wanted.append((command, result))
                 printed = run([it for it, _ in wanted], place, path)
+                if len(printed) != len(wanted) + 1:
+                    raise SystemExit(f'check-documents: {document}: {len(printed) - 1} of {len(wanted)} commands ran: {wanted[0][0][:60]}')
                 for (command, result), got in zip(wanted, printed):
                     commands += 1
                     if got != result:

@@ -106,6 +106,8 @@ longer, same = play(800, 0)
 faults = []
 if whole[0] or longer[0]:
     faults.append(f'with ample memory it ended with {whole[0]} and {longer[0]}: {whole[1][-80:]}')
+if count == 0:
+    faults.append('no allocation was counted')
 if count != same:
     faults.append(f'{count} allocations for 8 cycles, and {same} for 800')
 harmless = 0

@@ -7,7 +7,7 @@ set -u
 folder=$(mktemp -d)
 trap 'rm -rf "$folder"' EXIT
 python3 - "$jackd" "$folder" <<'PY'
-import hashlib, os, resource, shutil, signal, struct, subprocess, sys
+import hashlib, os, re, resource, shutil, signal, struct, subprocess, sys
 
 program, folder = os.path.abspath(sys.argv[1]), sys.argv[2]
 faults, tried = [], 0
@@ -335,8 +335,11 @@ case('a refused call of a lane', PLAY, 0, report(['call 0 1 ok 1', 'call 3 1 lat
         'lane 3\tat 1   disconnect system:capture_1  system:playback_1')}, made=['p'])
 
 # The help and the version.
-where = case('the version', ['--version'], 0, b'jackd 0.1.0\n', '')
-case('the version, short', ['-V'], 0, b'jackd 0.1.0\n', '')
+version = subprocess.run([program, '--version'], stdout=subprocess.PIPE).stdout
+if not re.fullmatch(rb'jackd \d+\.\d+\.\d+\n', version):
+    faults.append(f'the version is {version!r}')
+case('the version', ['--version'], 0, version, '')
+case('the version, short', ['-V'], 0, version, '')
 help_text = subprocess.run([program, '--help'], stdout=subprocess.PIPE).stdout
 if b'jackd play SCRIPT CAPTURE PLAYBACK' not in help_text or b'docs/FORMATS.md' not in help_text:
     faults.append('the help does not name play and the formats')
