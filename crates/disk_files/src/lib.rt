@@ -1,0 +1,8 @@
+//! The reader of a disk file in a session: its player, and the meetings of the ring's two ends.
+#![tactic(auto)]
+
+mod reader;
+#[cfg(test)]
+mod tests;
+
+pub use reader::DiskReader;

@@ -1,0 +1,91 @@
+//! The reader of a disk file.
+
+use disk_player::DiskPlayer;
+use jack_host::{ReadFailed, Source};
+use jack_types::Memory;
+use record_ring::{Block, Consumer, Producer};
+use std::alloc::Global;
+use std::marker::Model;
+use wave_pcm::Wave;
+
+/// The reader of a disk file in a session: it puts the file's blocks into a ring, and the ring's two ends
+/// meet where it did.
+///
+/// Contracts see a `Playing`. No call but `new` takes memory.
+#[derive(Drop)]
+pub struct DiskReader<S: Source> {
+    player: DiskPlayer<S>,
+}
+
+impl<S: Source> Model for DiskReader<S> {
+    ghost use Rattle.disk_player.specs.Playing.{Playing};
+
+    ghost Value = { Playing };
+
+    ghost view = { λ r. r.player };
+}
+
+impl<S: Source> DiskReader<S> {
+    ghost use Rattle.std.specs.Prelude.{◌≡◌, ◌%◌, ◌^◌, ◌<◌, ◌≤◌, [], IfErr, IfOk, None, OnErr, OnOk, false, is_err};
+    ghost use Rattle.jack_host.specs.Causes.{HasCause};
+    ghost use Rattle.record_ring.specs.Rings.{IsPair};
+    ghost use Rattle.wave_pcm.specs.Readings.{IsReadable};
+    ghost use Rattle.disk_files.specs.Readers.{BreaksAhead, ReadsAhead, TellsAhead};
+
+    /// The reader of a file of which no sample was read, over a new ring of blocks of so many samples, which
+    /// are whole frames. Where memory lacks, the file comes back.
+    pub fn new(
+        alloc: Global,
+        wave: Wave<S>,
+        producer: Producer,
+        samples: u32,
+    ) -> Result<DiskReader<S>, (Wave<S>, Memory)>
+        requires fresh { (wave.given ≡ 0) × (wave.failed ≡ false) }
+        requires readable { IsReadable wave.format }
+        requires empty { (producer.put ≡ []) × (producer.ended ≡ false) }
+        requires most { 2 ^ 33 ≤ producer.most }
+        requires samples { producer.samples ≡ samples }
+        requires frames { (0 < samples) × (samples % wave.format.channels ≡ 0) }
+        ensures made { IfOk result (λ reader. reader ≡ record { format = wave.format; sending = producer; left = wave.left; waiting = None; over = false; failed = false; faults = wave.faults }) }
+        ensures back { IfErr result (λ refused. refused.0 ≡ wave) }
+    {
+        match Block::new(alloc, samples) {
+            Ok(block) => Ok(DiskReader {
+                player: DiskPlayer::new(wave, producer, block),
+            }),
+            Err(_) => Err((wave, Memory)),
+        }
+    }
+
+    /// Puts at most so many blocks of the file into the ring, and ends it behind the last; then the ring's
+    /// ends meet, also where a read failed. After that only `tell` and `into_source` may be called.
+    pub fn read_ahead(&mut self, consumer: &mut Consumer, most: u32) -> Result<(), ReadFailed>
+        requires going { self.old.failed ≡ false }
+        requires pair { IsPair self.old.sending consumer.old }
+        ensures ok { OnOk result (ReadsAhead most self.old consumer.old self.new consumer.new) }
+        ensures err { OnErr result (BreaksAhead most self.old consumer.old self.new consumer.new) }
+        ensures failed { self.new.failed ≡ is_err result }
+        ensures cause { HasCause self.old.faults self.new.faults result }
+    {
+        let turned = self.player.turn(most);
+        self.player.tell(consumer);
+        turned?;
+        Ok(())
+    }
+
+    /// Lets the ring's ends meet: each learns how far the other has come, and the one that gets whether the
+    /// end stands.
+    pub fn tell(&mut self, consumer: &mut Consumer)
+        requires { IsPair self.old.sending consumer.old }
+        ensures { TellsAhead self.old consumer.old self.new consumer.new }
+    {
+        self.player.tell(consumer);
+    }
+
+    /// Hands the file's source back.
+    pub fn into_source(self) -> S
+        ensures { S.faults result ≡ self.faults }
+    {
+        self.player.into_source()
+    }
+}

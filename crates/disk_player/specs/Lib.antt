@@ -1,0 +1,4 @@
+pub mod Playing
+pub mod Turning
+pub mod Files
+pub mod Insides
