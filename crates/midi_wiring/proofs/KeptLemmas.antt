@@ -1,7 +1,7 @@
 -- What feedback edges give of MIDI is told by the births of their ports.
 --     births-apart      births of MIDI outputs tell them apart
 --     KeepsEvents-wired      of two plans, of which one goes on from the other, it is what the outputs of these births carried
-use Rattle.std.proofs.Common.{◌≡◌, ℕ, zero, suc, ◌-◌, ◌<◌, ◌≤◌, Bool, true, false, cond, not, ◌&&◌, ◌==◌, List, [], ◌∷◌, length, find, get_or, position, replicate, take, Contains, Option, Some, None, is_some, refl, sym, ◌∙◌, ap, ap₂, subst, arith, true≢false, eq-eqb, eqb-true}
+use Rattle.std.proofs.Common.{◌≡◌, ℕ, zero, suc, ◌-◌, ◌<◌, ◌≤◌, Bool, true, false, cond, not, ◌&&◌, ◌==◌, List, [], ◌∷◌, length, find, get_or, take, Contains, Option, Some, None, is_some, refl, sym, ◌∙◌, ap, ap₂, subst, arith, true≢false, eq-eqb, eqb-true}
 use Rattle.std.specs.List.{position_or_len}
 use Rattle.std.specs.Option.{option_map, option_map_or}
 use Rattle.std.specs.Str.{bytes_eq}
@@ -23,7 +23,6 @@ use Rattle.session_laws.proofs.PlanLemmas.{find-one}
 use Rattle.session_laws.proofs.SoundLemmas.{Apart-same}
 use Rattle.port_registry.specs.Registered.{open_client, open_clients}
 use Rattle.cycle_plan.specs.Plans.{IsPlanned, Planned, opening_of, state_of_plan}
-use Rattle.cycle_plan.proofs.NetworkLemmas.{fails}
 use Rattle.client_wiring.specs.Keeping.{GoesOn}
 use Rattle.client_wiring.specs.Wirings.{source_birth}
 use Rattle.client_wiring.proofs.OverLemmas.{name-of_place}

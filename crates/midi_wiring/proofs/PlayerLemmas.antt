@@ -1,7 +1,7 @@
 -- Events come from clients that play.
 --     played-lower      over a direct edge from a lower node
 --     always-played      each connection into a MIDI input comes from one
-use Rattle.std.proofs.Common.{◌≡◌, ℕ, ◌<◌, Bool, true, false, cond, not, ◌⊎◌, inl, inr, List, [], ◌∷◌, ◌++◌, find, map, Contains, Option, Some, None, is_none, refl, sym, ◌∙◌, ap, arith, subst, true≢false}
+use Rattle.std.proofs.Common.{◌≡◌, ℕ, ◌<◌, Bool, true, false, cond, not, ◌⊎◌, inl, inr, List, [], ◌∷◌, find, map, Contains, Option, Some, None, is_none, refl, sym, ◌∙◌, ap, arith, subst, true≢false}
 use Rattle.std.specs.Str.{bytes_eq}
 use Rattle.jack_types.specs.Names.{client_part}
 use Rattle.jack_types.specs.declared.commands.Change.{Change}

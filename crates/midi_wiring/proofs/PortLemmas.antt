@@ -12,7 +12,6 @@ use Rattle.std.proofs.lemmas.List.Sorted.{Contains-permutation, IsPermutation-sy
 use Rattle.jack_types.specs.Names.{client_part}
 use Rattle.jack_types.specs.declared.ports.Client.{Client}
 use Rattle.jack_types.specs.declared.ports.Edge.{Edge}
-use Rattle.jack_types.specs.declared.ports.Mark.{Mark}
 use Rattle.jack_types.specs.declared.ports.Node.TheVariants.{Client as ClientNode}
 use Rattle.jack_types.specs.declared.ports.Port.{Port}
 use Rattle.jack_types.specs.declared.ports.PortId.{PortId}
@@ -23,10 +22,10 @@ use Rattle.jack_types.specs.declared.ports.Way.TheVariants.{In, Out}
 use Rattle.session_model.specs.Benches.{place_in, port_place}
 use Rattle.session_model.specs.Commands.{is_audio, is_input, ports_of}
 use Rattle.session_model.specs.Courses.{players}
-use Rattle.session_model.specs.Cycles.{midi_inputs, midi_outputs}
-use Rattle.session_model.specs.Ids.{connection, connections, name_with, open_port, open_ports, same_id_node, way_of}
+use Rattle.session_model.specs.Cycles.{midi_inputs}
+use Rattle.session_model.specs.Ids.{connection, name_with, open_port, open_ports, same_id_node, way_of}
 use Rattle.session_model.specs.Soundness.{Apart}
-use Rattle.session_model.specs.State.{Connection, OpenClient, OpenPort, State, is_system, port_named}
+use Rattle.session_model.specs.State.{OpenClient, OpenPort, is_system, port_named}
 use Rattle.session_laws.proofs.CycleLemmas.{bytes_same, filter-passes}
 use Rattle.session_laws.proofs.ListLemmas.{filter-twice}
 use Rattle.session_laws.proofs.LoopLemmas.{Contains-first, Contains-later, and_parts}
@@ -36,15 +35,12 @@ use Rattle.session_laws.proofs.SoundLemmas.{Apart-same, contains-map, map-contai
 use Rattle.connection_set.specs.Connections.{IsIdOf, no_edge}
 use Rattle.feedback_edges.specs.Marking.{AreAmong, IsEndOf}
 use Rattle.feedback_edges.proofs.NameLemmas.{same_id_node-is}
-use Rattle.port_registry.specs.Registered.{IsRegistered, is_of, open_client, open_clients, system_entry}
+use Rattle.port_registry.specs.Registered.{IsRegistered, open_client, open_clients, system_entry}
 use Rattle.cycle_plan.specs.Graphs.{state_of}
 use Rattle.cycle_plan.specs.Plans.{IsPlanned, Planned, state_of_plan}
 use Rattle.cycle_plan.proofs.NetworkLemmas.{AreAmong-network, at_client, bool-same, fails}
 use Rattle.client_wiring.specs.Tables.{node_place}
-use Rattle.client_wiring.specs.Wirings.{source_birth}
 use Rattle.midi_wiring.specs.declared.joints.MidiFrom.{MidiFrom}
-use Rattle.midi_wiring.specs.declared.joints.MidiGiven.{MidiGiven}
-use Rattle.midi_wiring.specs.declared.joints.MidiJoint.{MidiJoint}
 use Rattle.midi_wiring.specs.declared.joints.MidiWidths.{MidiWidths}
 use Rattle.midi_wiring.specs.Ends.{IsPortAt, from_by, given_from, given_with, is_midi_by, is_midi_of, joint_from, joint_with, widths_by}
 use Rattle.midi_wiring.specs.Wirings.{midi_from, midi_from_of, midi_given_at, midi_given_of, midi_joint_into, midi_joint_of, midi_widths_of}

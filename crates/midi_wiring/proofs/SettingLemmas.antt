@@ -1,7 +1,6 @@
 -- A plan's MIDI wiring says what the MIDI inputs of its clients' work get.
 --     SetsEvents-wired      so does the wiring of every plan
-use Rattle.std.proofs.Common.{◌≡◌, ℕ, ◌<◌, ◌≤◌, Bool, true, false, not, ◌&&◌, ◌==◌, List, [], length, map, filter, filter_map, get_or, Contains, Option, Some, None, refl, sym, ◌∙◌, ap, ap₂, subst, arith, true≢false, eq-eqb, eqb-true}
-use Rattle.std.specs.List.{position_or_len}
+use Rattle.std.proofs.Common.{◌≡◌, ℕ, ◌<◌, Bool, true, false, not, ◌&&◌, ◌==◌, List, [], length, map, get_or, Contains, Option, Some, None, refl, sym, ◌∙◌, ap, ap₂, subst, arith, true≢false, eq-eqb, eqb-true}
 use Rattle.std.specs.Str.{bytes_eq}
 use Rattle.std.proofs.lemmas.List.{get_or-map, get_or_default, length-map}
 use Rattle.std.proofs.lemmas.List.Quantifiers.{position-Some}
@@ -13,7 +12,7 @@ use Rattle.jack_types.specs.declared.ports.Mark.TheVariants.{Direct, Feedback}
 use Rattle.session_model.specs.Benches.{Part, Signal, direct_part, marked_part, merged, midi_part, node_at, place_in, port_place, task_of}
 use Rattle.session_model.specs.Commands.{is_audio, is_input, ports_of}
 use Rattle.session_model.specs.Courses.{Course}
-use Rattle.session_model.specs.Cycles.{Settled, edges_into, midi_inputs, midi_outputs}
+use Rattle.session_model.specs.Cycles.{Settled, edges_into, midi_inputs}
 use Rattle.session_model.specs.Events.{merge}
 use Rattle.session_model.specs.Samples.{below}
 use Rattle.session_model.specs.Soundness.{Apart, IsEnd, IsSound}
@@ -34,9 +33,9 @@ use Rattle.client_wiring.proofs.PlaybackLemmas.{inside-plan, sound-plan, wired-p
 use Rattle.client_wiring.proofs.TaskLemmas.{passes, same-made}
 use Rattle.midi_wiring.specs.declared.joints.MidiJoint.{MidiJoint}
 use Rattle.midi_wiring.specs.declared.joints.MidiWidths.{MidiWidths}
-use Rattle.midi_wiring.specs.Hearings.{Heard, brought, carried_at, heard_at, heard_by, inputs_at, played_at}
+use Rattle.midi_wiring.specs.Hearings.{Heard, brought, heard_at, heard_by}
 use Rattle.midi_wiring.specs.Setting.{HandsOver, SetsEvents}
-use Rattle.midi_wiring.specs.Wirings.{midi_from, midi_from_of, midi_joint_into, midi_joint_of, midi_joints_at, midi_widths_of, midi_wired_of}
+use Rattle.midi_wiring.specs.Wirings.{midi_from, midi_from_of, midi_joint_into, midi_joint_of, midi_widths_of, midi_wired_of}
 use Rattle.midi_wiring.proofs.ListLemmas.{map-twice, same-places}
 use Rattle.midi_wiring.proofs.PortLemmas.{bytes-turned}
 use lib.Pointwise.{bytes_decides}

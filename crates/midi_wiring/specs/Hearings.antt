@@ -21,7 +21,6 @@ use Rattle.midi_wiring.specs.declared.joints.MidiFrom.{MidiFrom}
 use Rattle.midi_wiring.specs.declared.joints.MidiFrom.TheVariants.{Played, Kept, Nothing}
 use Rattle.midi_wiring.specs.declared.joints.MidiGiven.{MidiGiven}
 use Rattle.midi_wiring.specs.declared.joints.MidiJoint.{MidiJoint}
-use Rattle.midi_wiring.specs.declared.joints.MidiWidths.{MidiWidths}
 use Rattle.midi_wiring.specs.Wirings.{MidiWired, midi_joints_at, midi_wired_of}
 
 -- the events that the MIDI output of this birth carries

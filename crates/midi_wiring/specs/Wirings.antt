@@ -2,7 +2,7 @@
 --     MidiWired      of each node its widths, the connections into MIDI inputs, and the MIDI outputs
 --     midi_wired state nodes, midi_wired_of plan      the wiring of a plan, by names
 --     midi_joints_at wiring n input      the connections into an input of a node
-use Rattle.std.specs.Prelude.{ℕ, Bool, not, ◌&&◌, ◌==◌, List, filter, filter_map, length, map, Option, Some, None, if◌then◌else◌}
+use Rattle.std.specs.Prelude.{ℕ, not, ◌&&◌, ◌==◌, List, filter, filter_map, length, map, Option, Some, None, if◌then◌else◌}
 use Rattle.std.specs.Option.{option_map}
 use Rattle.jack_types.specs.Names.{client_part}
 use Rattle.jack_types.specs.declared.ports.Mark.{Mark}

@@ -1,4 +1,4 @@
-use Rattle.std.proofs.Common.{◌<◌, ◌≤◌, ◌++◌, ◌∙◌, [], ap, ap₂, arith, List, filter_map, length, subst, sym}
+use Rattle.std.proofs.Common.{◌<◌, ◌++◌, ◌∙◌, [], ap, ap₂, arith, List, filter_map, length, subst, sym}
 use Rattle.std.specs.List.{cons_option}
 use Rattle.jack_types.specs.declared.ports.Edge.{Edge}
 use Rattle.session_model.specs.Ids.{connection, connections}
