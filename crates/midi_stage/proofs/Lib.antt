@@ -1,0 +1,4 @@
+mod HeardLemmas
+mod HearLemmas
+mod StableLemmas
+mod ViewLemmas
