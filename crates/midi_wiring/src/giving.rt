@@ -1,6 +1,6 @@
 //! The MIDI outputs of nodes.
 
-ghost use Rattle.std.specs.Prelude.{◌≡◌, ◌≤◌};
+ghost use Rattle.std.specs.Prelude.{◌≡◌, ◌≤◌, length};
 ghost use Rattle.std.specs.Vec.{vec_capacity};
 ghost use Rattle.midi_wiring.specs.Ends.{given_from};
 ghost use Rattle.midi_wiring.specs.Wirings.{midi_wired_of};
@@ -29,6 +29,7 @@ fn given_of(nodes: &[Client], port: &Port) -> Option<MidiGiven>
 pub(crate) fn give_outputs(given: &mut Vec<MidiGiven>, plan: &Plan)
     requires { 2064 ≤ vec_capacity given.old }
     ensures given { given.new.items ≡ (midi_wired_of plan.now).given }
+    ensures few { length given.new.items ≤ 2064 }
     ensures room { vec_capacity given.old ≤ vec_capacity given.new }
 {
     given.clear();

@@ -1,6 +1,6 @@
 //! The MIDI wiring of a plan.
 
-ghost use Rattle.std.specs.Prelude.{◌≡◌, ◌≤◌, [], IfOk};
+ghost use Rattle.std.specs.Prelude.{◌≡◌, ◌≤◌, [], IfOk, length};
 ghost use Rattle.std.specs.Vec.{vec_capacity};
 ghost use Rattle.midi_wiring.specs.Ends.{widths_by};
 ghost use Rattle.midi_wiring.specs.Setting.{SetsEvents};
@@ -31,7 +31,7 @@ pub struct MidiWiring {
 }
 
 impl Model for MidiWiring {
-    ghost use Rattle.std.specs.Prelude.{◌≤◌};
+    ghost use Rattle.std.specs.Prelude.{◌≤◌, length};
     ghost use Rattle.std.specs.Vec.{vec_capacity};
     ghost use Rattle.midi_wiring.specs.Wirings.{MidiWired};
 
@@ -39,7 +39,7 @@ impl Model for MidiWiring {
 
     ghost view = { λ w. record { widths = w.widths.items; joints = w.joints.items; given = w.given.items } };
 
-    ghost invariant = { λ w. (64 ≤ vec_capacity w.widths) × (512 ≤ vec_capacity w.joints) × (2064 ≤ vec_capacity w.given) };
+    ghost invariant = { λ w. (64 ≤ vec_capacity w.widths) × (512 ≤ vec_capacity w.joints) × (2064 ≤ vec_capacity w.given) × (length w.given.items ≤ 2064) };
 }
 
 /// How many MIDI inputs and outputs a client has.
@@ -111,9 +111,10 @@ impl MidiWiring {
         &self.joints
     }
 
-    /// The MIDI outputs of the nodes' clients, in order of birth.
+    /// The MIDI outputs of the nodes' clients, in order of birth: at most 2,064.
     pub fn given(&self) -> &[MidiGiven]
-        ensures { result.now ≡ self.now.given }
+        ensures given { result.now ≡ self.now.given }
+        ensures few { length result.now ≤ 2064 }
     {
         &self.given
     }

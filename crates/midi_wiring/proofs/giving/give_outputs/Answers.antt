@@ -34,3 +34,8 @@ returns-clause-given c =
     ∙ ap (λ (ps : List Port). filter_map (midi_given_of (open_clients c.args.plan.now.nodes)) (open_ports ps))
     (taken-whole c.ports-ports.result.now c.args.plan.now.network.held.ports c.loop-port.port-index c.ports-ports.ensures.value c.loop-port-test.false c.loop-port.auto.port-index-end)
     ∙ ap (λ (state : State). filter_map (midi_given_of (open_clients c.args.plan.now.nodes)) state.ports) c.ports-ports.ensures.planned.state
+
+pub returns-clause-few : goal.returns-clause-few
+returns-clause-few c =
+    let few : length c.ports-ports.result.now ≤ 2064 = ports-few c.args.plan.now c.ports-ports.ensures.planned c.ports-ports.result.now c.ports-ports.ensures.value in
+    omega (arith, few, c.loop-port.invariant.few, c.loop-port.auto.port-index-end)
