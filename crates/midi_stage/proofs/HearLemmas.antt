@@ -2,9 +2,11 @@
 --     find-first, find-none      the first that passes, and none
 --     heard-step      one connection more, into this input or not
 --     inputs-more      one input more
-use Rattle.std.proofs.Common.{◌≡◌, ℕ, zero, suc, ◌+◌, ◌<◌, Bool, true, false, cond, List, [], ◌∷◌, ◌++◌, length, map, filter, take, get_or, find, Some, None, refl, sym, ◌∙◌, ap, arith}
+--     made-more      one element more that is made into another, or into none
+use Rattle.std.proofs.Common.{◌≡◌, ℕ, zero, suc, ◌+◌, ◌<◌, Bool, true, false, cond, List, [], ◌∷◌, ◌++◌, length, map, filter, filter_map, take, get_or, find, Option, Some, None, refl, sym, ◌∙◌, ap, arith}
 use Rattle.std.proofs.lemmas.List.{append-nil, map-append, take_more}
-use Rattle.std.proofs.lemmas.List.Elements.{filter-append}
+use Rattle.std.specs.List.{cons_option}
+use Rattle.std.proofs.lemmas.List.Elements.{filter-append, filter_map-append}
 use Rattle.jack_types.specs.declared.events.Event.{Event}
 use Rattle.session_model.specs.Events.{merge}
 use Rattle.session_model.specs.Samples.{below}
@@ -54,3 +56,7 @@ inputs-more heard n =
     merge-merge (map heard (below n)) (heard n ∷ [])
     ∙ ap merge (sym (map-append heard (below n) (n ∷ [])))
     ∙ ap (λ k. merge (map heard (below k))) (let next : suc n ≡ n + 1 = omega arith in next)
+
+-- one element more of those that are made into others, where that makes something
+pub made-more : {X Y : Type 0} (f : X → Option Y) (xs : List X) (i : ℕ) (d : X) → i < length xs → filter_map f (take (i + 1) xs) ≡ filter_map f (take i xs) ++ cons_option (f (get_or xs i d)) []
+made-more f xs i d h = ap (filter_map f) (take_more xs i d h) ∙ filter_map-append f (take i xs) (get_or xs i d ∷ [])

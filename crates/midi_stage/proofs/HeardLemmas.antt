@@ -22,8 +22,8 @@ use Rattle.midi_wiring.specs.declared.joints.MidiGiven.{MidiGiven}
 use Rattle.midi_wiring.specs.Hearings.{AreCarried, Carried, HearsPlan, PlaysHeard, carried_at, heard_by, listed_for, log_at, played_at}
 use Rattle.midi_wiring.specs.Wirings.{midi_wired_of}
 use Rattle.midi_stage.specs.declared.sounds.Output.{Output}
-use Rattle.midi_stage.specs.Sounding.{Sounded, bench_born, events_at, seat_at}
-use Rattle.midi_stage.specs.Stages.{IsSeating, MidiStaged, PlaysMidi, carried_by, heard_in, output_of, output_on, owner_at, standing_at}
+use Rattle.midi_stage.specs.Sounding.{Sounded, bench_born, events_at, output_on, seat_at}
+use Rattle.midi_stage.specs.Stages.{IsSeating, MidiStaged, PlaysMidi, carried_by, heard_in, output_of, owner_at, standing_at}
 use Rattle.midi_stage.proofs.ViewLemmas.{carried-is, heard-is, log-none, log-some, played-is}
 
 nothing-some : {X : Type 0} (x : X) → None ≡ Some x → ⊥

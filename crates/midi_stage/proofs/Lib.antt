@@ -1,4 +1,5 @@
 mod HeardLemmas
 mod HearLemmas
+mod SeatLemmas
 mod StableLemmas
 mod ViewLemmas

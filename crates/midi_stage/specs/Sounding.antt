@@ -16,6 +16,7 @@ use Rattle.session_model.specs.Samples.{below}
 use Rattle.midi_player.specs.Standings.{Standing}
 use Rattle.midi_wiring.specs.declared.joints.MidiFrom.{MidiFrom}
 use Rattle.midi_wiring.specs.declared.joints.MidiFrom.TheVariants.{Played, Kept, Nothing}
+use Rattle.midi_wiring.specs.declared.joints.MidiGiven.{MidiGiven}
 use Rattle.midi_wiring.specs.declared.joints.MidiJoint.{MidiJoint}
 use Rattle.midi_wiring.specs.Hearings.{inputs_at, listed_for}
 use Rattle.midi_wiring.specs.Wirings.{MidiWired}
@@ -38,6 +39,13 @@ sounded sounds = record { seats = sounds.seats.items; gives = sounds.gives.items
 abbrev pub events_at : List (List Event) → Option ℕ → List Event
 events_at events None = []
 events_at events (Some bench) = slice_index_or events bench []
+
+-- a MIDI output of a client that has a bench
+abbrev pub output_on : MidiGiven → ℕ → Output
+output_on given bench = record { birth = given.birth; bench = bench }
+
+abbrev pub output_from : List (Option ℕ) → MidiGiven → Option Output
+output_from seats given = option_map (output_on given) (slice_index_or seats given.node None)
 
 abbrev pub bench_born : List Output → ℕ → Option ℕ
 bench_born outputs birth = option_map (λ (output : Output). output.bench) (find (λ (output : Output). output.birth == birth) outputs)

@@ -3,7 +3,7 @@
 --     heard_in staged      what was heard, read from the benches
 --     IsSeating staged      what stays true of benches and owners
 --     PlaysMidi old plan moment period new      each MIDI client of the plan has its bench, and played on it
-use Rattle.std.specs.Prelude.{◌≡◌, ℕ, ◌<◌, ◌≤◌, ◌==◌, ◌⊎◌, List, [], ◌∷◌, filter_map, length, map, slice_index_or, Option, Some, None, option_map, if◌then◌else◌}
+use Rattle.std.specs.Prelude.{◌≡◌, ℕ, ◌<◌, ◌≤◌, ◌==◌, ◌⊎◌, List, [], ◌∷◌, filter_map, length, map, slice_index_or, Option, Some, None, if◌then◌else◌}
 use Rattle.jack_types.specs.declared.events.Event.{Event}
 use Rattle.jack_types.specs.declared.moments.Moment.{Moment}
 use Rattle.session_model.specs.Benches.{node_at}
@@ -14,7 +14,7 @@ use Rattle.midi_wiring.specs.declared.joints.MidiGiven.{MidiGiven}
 use Rattle.midi_wiring.specs.Hearings.{BornLog, Carried, Heard}
 use Rattle.midi_wiring.specs.Wirings.{midi_wired_of}
 use Rattle.midi_stage.specs.declared.sounds.Output.{Output}
-use Rattle.midi_stage.specs.Sounding.{HavePlayed, Sounded, events_at, no_standing, seat_at}
+use Rattle.midi_stage.specs.Sounding.{HavePlayed, Sounded, events_at, no_standing, output_from, seat_at}
 
 -- `owners` has of each bench the birth of the client that owns it, if one does
 pub record MidiStaged : Type 0 where
@@ -56,12 +56,8 @@ pub record IsSeating (staged : MidiStaged) : Type 0 where
   pub apart : (b c birth : ℕ) → owner_at staged b ≡ Some birth → owner_at staged c ≡ Some birth → b ≡ c
   pub free : (b : ℕ) → owner_at staged b ≡ None → (standing_at staged b).log ≡ []
 
--- a MIDI output of a client that has a seat
-abbrev pub output_on : MidiGiven → ℕ → Output
-output_on given bench = record { birth = given.birth; bench = bench }
-
 abbrev pub output_of : Sounded → MidiGiven → Option Output
-output_of sounds given = option_map (output_on given) (seat_at sounds given.node)
+output_of sounds given = output_from sounds.seats given
 
 -- who had a bench has it yet, and who has a new one is a client of the plan; each MIDI client of the plan has the seat at its bench, and played on what it hears; all other
 -- benches stay; feedback edges have what outputs carried in the last cycle, where that had the same period
