@@ -1,0 +1,5 @@
+mod HeardLemmas
+mod HearLemmas
+mod SeatLemmas
+mod StableLemmas
+mod ViewLemmas

@@ -1,0 +1,6 @@
+mod FollowLemmas
+mod KeptLemmas
+mod ListLemmas
+mod PlayerLemmas
+mod PortLemmas
+mod SettingLemmas

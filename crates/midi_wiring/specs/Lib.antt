@@ -1,0 +1,5 @@
+pub mod Ends
+pub mod Hearings
+pub mod Keeping
+pub mod Setting
+pub mod Wirings
