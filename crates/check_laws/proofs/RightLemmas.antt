@@ -3,7 +3,6 @@
 use Rattle.std.proofs.Common.{◌≡◌, ℕ, zero, suc, ◌+◌, ◌-◌, ◌<◌, ◌≤◌, Bool, true, false, nat_lt, ◌==◌, List, [], ◌∷◌, ◌++◌, length, map, filter, flat_map, take, get_or, slice_get, slice_index_or, All, codes, IsSome, IsNone, Option, Some, None, option_map, refl, sym, ◌∙◌, ap, subst, arith, take_all}
 use Rattle.std.proofs.lemmas.Bool.Decides.{nat_tests}
 use Rattle.std.specs.List.Sorted.{IsStrictlyIncreasing, IsNonDecreasing}
-use Rattle.jack_types.specs.declared.replies.Overrun.{Overrun}
 use Rattle.jack_types.specs.declared.replies.Part.{Part}
 use Rattle.jack_types.specs.declared.replies.Part.TheVariants.{Call as WrongCall, Cycle as WrongCycle, Meter as WrongMeter, Midi as WrongMidi, Recorder as WrongRecorder, Overrun as WrongOverrun, Disk as WrongDisk, Underrun as WrongUnderrun, Record as WrongRecord, Playback as WrongPlayback}
 use Rattle.jack_types.specs.declared.replies.Underrun.{Underrun}
@@ -11,7 +10,7 @@ use Rattle.session_model.specs.Courses.{Course, turn, no_turn, number, underruns
 use Rattle.session_model.specs.Disks.{Played, IsMissed, IsBehindRing, turned_underruns}
 use Rattle.session_model.specs.Explanations.{Given, Printed, Written, Explained, course_of, overruns_of, record_text}
 use Rattle.session_model.specs.Histories.{Legal, LegalSoFar, Cycles, IsWithinPhase, KeepsAsked, accepted}
-use Rattle.session_model.specs.Recorders.{Lost, IsOverrun, IsAfterSegment}
+use Rattle.session_model.specs.Recorders.{Lost}
 use Rattle.session_model.specs.Reports.{Report, PrintedCycle, PrintedRecorder, PrintedDisk, report_of, report_lines, printed_call, printed_cycle, printed_recorder, printed_disk, call_line, cycle_line, meter_line, event_line, recorder_lines, disk_lines, line}
 use Rattle.session_model.specs.Samples.{below}
 use Rattle.session_model.specs.Scripts.{Script, Turn, turns, planned}
@@ -19,8 +18,9 @@ use Rattle.session_laws.proofs.ActivationLemmas.{length-map_below, length-below}
 use Rattle.session_laws.proofs.HistoryLemmas.{LegalSoFar-none}
 use Rattle.session_laws.proofs.ListLemmas.{Each, slice_get-map}
 use Rattle.session_laws.proofs.TextLemmas.{joined_lines}
-use Rattle.session_model.specs.Checking.{IsForm, IsRight, AllRight, IsRecorderLine, IsDiskLine, IsOverrunLine, IsUnderrunLine, printed_of, history_of, ended_lines, all_overruns, all_underruns, all_turned, recorder_blocks, disk_blocks}
+use Rattle.session_model.specs.Checking.{IsForm, IsRight, AllRight, IsDiskLine, IsUnderrunLine, printed_of, history_of, ended_lines, all_underruns, all_turned, recorder_blocks, disk_blocks}
 use Rattle.check_laws.proofs.KnownLemmas.{calls-back, same-all, Keyed, Keyed-from, keyed-part}
+use Rattle.check_laws.proofs.OverrunLemmas.{recorder-lost, slice-some, lost as overruns-lost}
 use Rattle.check_laws.proofs.PlaceLists.{none-some, some-same, slice-past, slice-inside, get-of, slice-ext, All-from_get, All-get, slice-map, length-map, flat-place, slice-below, strictly-from, nondecreasing-from}
 use Rattle.check_laws.proofs.SameLemmas.{Each-from_all}
 use Rattle.check_laws.proofs.TextBack.{joined-ended}
@@ -30,11 +30,6 @@ get-past : {X : Type 0} (xs : List X) (i : ℕ) (d : X) → length xs ≤ i → 
 get-past [] i d h = refl
 get-past (x ∷ xs) zero d h = absurd (omega (arith, h))
 get-past (x ∷ xs) (suc i) d h = get-past xs i d (omega (arith, h))
-
-slice-some : {X : Type 0} (xs : List X) (i : ℕ) → i < length xs → (x : X) × (slice_get xs i ≡ Some x)
-slice-some [] i h = absurd (omega (arith, h))
-slice-some (x ∷ xs) zero h = (x, refl)
-slice-some (x ∷ xs) (suc i) h = slice-some xs i (omega (arith, h))
 
 empty-list : {X : Type 0} (xs : List X) → length xs ≡ 0 → xs ≡ []
 empty-list [] h = refl
@@ -147,69 +142,8 @@ module _ (given : Given) (written : Written) (report : Report) (form : IsForm gi
 
   -- ---- recorders
 
-  abbrev overruns-of : PrintedRecorder → List Overrun
-  overruns-of = λ (recorder : PrintedRecorder). recorder.overruns
-
-  recorder-lost : (r : ℕ) (recorder : PrintedRecorder) → slice_get report.recorders r ≡ Some recorder → overruns_of printed r ≡ recorder.overruns
-  recorder-lost r recorder e = get-of (map overruns-of report.recorders) r recorder.overruns [] (slice-map overruns-of report.recorders r ∙ ap (option_map overruns-of) e)
-
-  module _ (r : ℕ) (recorder : PrintedRecorder) (here : slice_get report.recorders r ≡ Some recorder) where
-    abbrev recorder-off : ℕ
-    recorder-off = length (flat_map overruns-of (take r report.recorders))
-
-    recorder-at : (j n : ℕ) (o : Overrun) → slice_get recorder.overruns j ≡ Some o → n ≡ recorder-off + j → slice_get (all_overruns report) n ≡ Some o
-    recorder-at j n o e q = ap (slice_get (all_overruns report)) q ∙ flat-place overruns-of report.recorders r j recorder o here e
-
-    recorder-line : IsRecorderLine script r recorder
-    recorder-line = form.recorder_each r recorder here
-
-    recorder-number : (j : ℕ) (o : Overrun) → slice_get recorder.overruns j ≡ Some o → o.recorder ≡ r
-    recorder-number j o e = (All-get (IsOverrunLine r) recorder.overruns j o (recorder-line).each e).recorder_is
-
-    recorder-follows : (j : ℕ) (o p : Overrun) → slice_get recorder.overruns j ≡ Some o → slice_get recorder.overruns (suc j) ≡ Some p → (o.cycle < p.cycle) × (o.taken ≤ p.taken)
-    recorder-follows j o p e f =
-        let n : ℕ = suc (recorder-off + suc j) in
-        ((right WrongOverrun n (omega arith)).follows o p (omega arith) (recorder-at j (n - 2) o e (omega arith)) (recorder-at (suc j) (n - 1) p f (omega arith)))
-        (recorder-number j o e ∙ sym (recorder-number (suc j) p f))
-
-    recorder-is_one : (j : ℕ) (o : Overrun) → slice_get recorder.overruns j ≡ Some o → IsOverrun course (overruns_of printed r) r o
-    recorder-is_one j o e =
-        let n : ℕ = suc (recorder-off + j) in
-        subst (λ k. IsOverrun course (overruns_of printed k) k o) (recorder-number j o e) ((right WrongOverrun n (omega arith)).is_one o (recorder-at j (n - 1) o e (omega arith)))
-
-    recorder-rises : IsStrictlyIncreasing (map (λ (o : Overrun). o.cycle) recorder.overruns)
-    recorder-rises =
-        strictly-from (map (λ (o : Overrun). o.cycle) recorder.overruns)
-        (λ k x y p q.
-        let a = slice_get-map (λ (o : Overrun). o.cycle) recorder.overruns k x p in
-        let b = slice_get-map (λ (o : Overrun). o.cycle) recorder.overruns (suc k) y q in
-        omega (arith, a.2, b.2, (recorder-follows k a.0 b.0 a.1 b.1).0))
-
-    recorder-taken : IsNonDecreasing (map (λ (o : Overrun). o.taken) recorder.overruns)
-    recorder-taken =
-        nondecreasing-from (map (λ (o : Overrun). o.taken) recorder.overruns)
-        (λ k x y p q.
-        let a = slice_get-map (λ (o : Overrun). o.taken) recorder.overruns k x p in
-        let b = slice_get-map (λ (o : Overrun). o.taken) recorder.overruns (suc k) y q in
-        omega (arith, a.2, b.2, (recorder-follows k a.0 b.0 a.1 b.1).1))
-
-    recorder-after : IsSome script.header.threads → (j : ℕ) (o : Overrun) → slice_get recorder.overruns j ≡ Some o → IsAfterSegment course (overruns_of printed r) r o
-    recorder-after threads j o e =
-        let n : ℕ = suc (recorder-off + j) in
-        subst (λ k. IsAfterSegment course (overruns_of printed k) k o) (recorder-number j o e) ((right WrongOverrun n (omega arith)).in_threads threads o (recorder-at j (n - 1) o e (omega arith)))
-
-    lost-here : Lost course (overruns_of printed r) r
-    lost-here =
-        let q : recorder.overruns ≡ overruns_of printed r = sym (recorder-lost r recorder here) in
-        record {
-          by_cycle = subst (λ os. IsStrictlyIncreasing (map (λ (o : Overrun). o.cycle) os)) q recorder-rises;
-          overruns = subst (λ os. All (IsOverrun course (overruns_of printed r) r) os) q (All-from_get (IsOverrun course (overruns_of printed r) r) recorder.overruns recorder-is_one);
-          taken_rises = subst (λ os. IsNonDecreasing (map (λ (o : Overrun). o.taken) os)) q recorder-taken;
-          in_threads = λ threads. subst (λ os. All (IsAfterSegment course (overruns_of printed r) r) os) q (All-from_get (IsAfterSegment course (overruns_of printed r) r) recorder.overruns (recorder-after threads));
-        }
-
   lost : (r : ℕ) → r < length script.header.recorders → Lost course (overruns_of printed r) r
-  lost r h = let w = slice-some report.recorders r (omega (arith, h, form.recorders)) in lost-here r w.0 w.1
+  lost r h = overruns-lost given report form (right WrongOverrun) r h
 
   record_file : (r : ℕ) → r < length script.header.recorders → slice_index_or written.records r [] ≡ record_text given printed r
   record_file r h =
@@ -327,7 +261,7 @@ module _ (given : Given) (written : Written) (report : Report) (form : IsForm gi
           let count : recorder.blocks ≡ (printed_recorder course printed.overruns i).blocks =
           some-same recorder.blocks (printed_recorder course printed.overruns i).blocks
           (sym (slice-map own report.recorders i ∙ ap (option_map own) e) ∙ ap (λ bs. slice_get bs i) blocks ∙ slice-map own whole.recorders i ∙ ap (option_map own) there) in
-          let lost_is : recorder.overruns ≡ overruns_of printed i = sym (recorder-lost i recorder e) in
+          let lost_is : recorder.overruns ≡ overruns_of printed i = sym (recorder-lost given report form i recorder e) in
           let one : recorder ≡ printed_recorder course printed.overruns i = (λ k. record { recorder = number k; blocks = count k; overruns = lost_is k }) in
           e ∙ ap Some one ∙ sym there
 
@@ -383,7 +317,7 @@ module _ (given : Given) (written : Written) (report : Report) (form : IsForm gi
   right-explained = record {
     legal = legal;
     cycles = cycles;
-    overruns = length-map overruns-of report.recorders ∙ form.recorders;
+    overruns = length-map (λ (recorder : PrintedRecorder). recorder.overruns) report.recorders ∙ form.recorders;
     records = many;
     recorders = λ r h. record { lost = lost r h; file = record_file r h };
     underruns = length-map underruns-of report.disks ∙ form.disks;

@@ -1,12 +1,13 @@
 //! The checker's answers against what explains files.
 
-ghost use Rattle.std.specs.Prelude.{◌≡◌, length};
+ghost use Rattle.std.specs.Prelude.{◌≡◌, ◌<◌, ◌↔◌, ℕ, length};
 ghost use Rattle.jack_types.specs.declared.replies.Part.{Part};
 ghost use Rattle.jack_types.specs.declared.replies.Row.{Row};
-ghost use Rattle.session_model.specs.Explanations.{Given, Printed, Written, Explained, course_of};
+ghost use Rattle.session_model.specs.Explanations.{Given, Printed, Written, Explained, course_of, overruns_of};
 ghost use Rattle.session_model.specs.Grammar.{IsScript};
+ghost use Rattle.session_model.specs.Recorders.{Lost};
 ghost use Rattle.session_model.specs.Reports.{Report, report_lines, report_of};
-ghost use Rattle.session_model.specs.Checking.{IsForm, IsRight, AllRight, IsFirstWrong, printed_of, ended_lines};
+ghost use Rattle.session_model.specs.Checking.{IsForm, IsOverrunRight, IsRight, AllRight, IsFirstWrong, printed_of, ended_lines};
 
 /// A report of the form, with all its parts right, explains the files, by what it says itself.
 pub fn right_is_explained()
@@ -35,4 +36,11 @@ pub fn one_first_wrong()
 pub fn explained_or_wrong()
     ensures { (given : Given) → IsScript given.script → (written : Written) → length written.records ≡ length given.script.header.recorders
         → ((printed : Printed) → Explained given printed written → ⊥) → ((row : Row) → IsFirstWrong given written row → ⊥) → ⊥ }
+{}
+
+/// The overruns of a report of the form are right at each place exactly where those of each recorder are ones that can be.
+pub fn overruns_by_places()
+    ensures { (given : Given) (report : Report) → IsForm given.script report
+        → AllRight (IsOverrunRight (course_of given (printed_of given.script report)) (printed_of given.script report) report)
+        ↔ ((recorder : ℕ) → recorder < length given.script.header.recorders → Lost (course_of given (printed_of given.script report)) (overruns_of (printed_of given.script report) recorder) recorder) }
 {}

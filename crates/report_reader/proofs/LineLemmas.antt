@@ -225,7 +225,7 @@ bar-word (Some p) =
     ∙ append_assoc (decimal p.bar ++ codes "|") (decimal p.beat) (124 ∷ decimal p.tick)
     ∙ append_assoc (decimal p.bar) (codes "|") (decimal p.beat ++ 124 ∷ decimal p.tick)
 
-text-words : (x : Line) → line_text x ≡ line (words_of x)
+pub text-words : (x : Line) → line_text x ≡ line (words_of x)
 text-words Report = refl
 text-words (Call x) = go x.reply
   where

@@ -1,27 +1,40 @@
 //! The bytes of a source, one after the other.
 
-ghost use Rattle.std.specs.Prelude.{◌≡◌, ◌≤◌, [], IfOk, length};
-ghost use Rattle.std.specs.Io.KnownBytes.{Consumes, IsAtEnd};
+ghost use Rattle.std.specs.Prelude.{◌≡◌, IfOk, OnErr};
+ghost use Rattle.std.specs.Io.KnownBytes.{Keeps};
 ghost use Rattle.jack_host.specs.Causes.{HasCause};
-ghost use Rattle.report_reader.specs.Lefts.{TakesByte, bytes_left};
+ghost use Rattle.report_reader.specs.Lefts.{TakesByte};
+ghost use Rattle.report_reader.specs.Nexts.{LeavesEnd};
 
 use jack_host::{ReadFailed, Source};
+use std::marker::Model;
 
 /// A source, with the bytes that were read from it and not taken yet.
 #[derive(Drop)]
-pub struct Bytes<S> {
+pub struct Bytes<S: Source> {
     source: S,
     buffer: [u8; 4096],
     at: usize,
     filled: usize,
-    ghost in_range: { (at ≤ filled) × (filled ≤ 4096) },
+}
+
+impl<S: Source> Model for Bytes<S> {
+    ghost use Rattle.std.specs.Prelude.{◌≤◌};
+    ghost use Rattle.report_reader.specs.Lefts.{bytes_left};
+    ghost use Rattle.report_reader.specs.Nexts.{Unread};
+
+    ghost Value = { Unread };
+
+    ghost view = { λ b. record { left = bytes_left b.at b.filled b.buffer (S.left b.source); faults = S.faults b.source } };
+
+    ghost invariant = { λ b. (b.at ≤ b.filled) × (b.filled ≤ 4096) };
 }
 
 impl<S: Source> Bytes<S> {
     /// The bytes of a source.
     pub fn of(source: S) -> Bytes<S>
-        ensures left { bytes_left result.at result.filled result.buffer (S.left result.source) ≡ bytes_left 0 0 result.buffer (S.left source) }
-        ensures source { result.source ≡ source }
+        ensures left { result.left ≡ S.left source }
+        ensures faults { result.faults ≡ S.faults source }
     {
         Bytes {
             source,
@@ -33,41 +46,34 @@ impl<S: Source> Bytes<S> {
 
     /// The source. What was read from it and not taken is gone.
     pub fn into_source(self) -> S
-        ensures { result ≡ self.source }
+        ensures left { LeavesEnd self.left (S.left result) }
+        ensures faults { S.faults result ≡ self.faults }
     {
         self.source
     }
 
-    // Reads where nothing is left of what was read.
-    fn refill(&mut self) -> Result<(), ReadFailed>
-        ensures left { IfOk result (λ u. Consumes (bytes_left self.old.at self.old.filled self.old.buffer (S.left self.old.source)) (bytes_left self.new.at self.new.filled self.new.buffer (S.left self.new.source)) []) }
-        ensures some { IfOk result (λ u. self.new.at ≡ self.new.filled → IsAtEnd (S.left self.new.source)) }
-        ensures cause { HasCause (S.faults self.old.source) (S.faults self.new.source) result }
+    /// The next byte, or none at the end. A read that fails takes none.
+    pub fn take(&mut self) -> Result<Option<u8>, ReadFailed>
+        ensures byte { IfOk result (λ b. TakesByte self.old.left self.new.left b) }
+        ensures kept { OnErr result (Keeps self.old.left self.new.left) }
+        ensures cause { HasCause self.old.faults self.new.faults result }
     {
         if self.at < self.filled {
-            return Ok(());
+            let byte = self.buffer[self.at];
+            self.at += 1;
+            return Ok(Some(byte));
         }
-        match self.source.read(&mut self.buffer) {
+        self.at = 0;
+        self.filled = 0;
+        let read = self.source.read(&mut self.buffer);
+        match read {
+            Ok(0) => Ok(None),
             Ok(count) => {
-                self.at = 0;
                 self.filled = count;
-                Ok(())
+                self.at = 1;
+                Ok(Some(self.buffer[0]))
             }
             Err(_) => Err(ReadFailed),
         }
-    }
-
-    /// The next byte, or none at the end.
-    pub fn take(&mut self) -> Result<Option<u8>, ReadFailed>
-        ensures byte { IfOk result (λ b. TakesByte (bytes_left self.old.at self.old.filled self.old.buffer (S.left self.old.source)) (bytes_left self.new.at self.new.filled self.new.buffer (S.left self.new.source)) b) }
-        ensures cause { HasCause (S.faults self.old.source) (S.faults self.new.source) result }
-    {
-        self.refill()?;
-        if self.at == self.filled {
-            return Ok(None);
-        }
-        let byte = self.buffer[self.at];
-        self.at += 1;
-        Ok(Some(byte))
     }
 }

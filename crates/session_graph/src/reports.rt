@@ -32,7 +32,7 @@ pub(crate) fn cycles_of(script: &Script) -> u64 {
 
 /// Lines of a report, and the number of the last one.
 #[derive(Drop)]
-struct Counted<'a, S> {
+struct Counted<'a, S: Source> {
     lines: &'a mut Lines<S>,
     number: u32,
 }

@@ -1,0 +1,5 @@
+pub mod WalkLemmas
+pub mod ReadLemmas
+pub mod RestLemmas
+pub mod ReportLemmas
+pub mod StepLemmas

@@ -1,0 +1,10 @@
+//! How far a report was read, line by line: what may come next, and when it is whole.
+#![tactic(auto)]
+
+pub mod laws;
+mod places;
+#[cfg(test)]
+mod tests;
+mod walking;
+
+pub use places::{Limits, Place};
