@@ -5,7 +5,7 @@ _sagbufe_jackd()
     local word=${COMP_WORDS[COMP_CWORD]}
     COMPREPLY=()
     if ((COMP_CWORD == 1)); then
-        mapfile -t COMPREPLY < <(compgen -W 'play --help --version' -- "$word")
+        mapfile -t COMPREPLY < <(compgen -W 'play rehearse --help --version' -- "$word")
         return
     fi
     [[ ${COMP_WORDS[1]} == play ]] || return

@@ -15,6 +15,7 @@ end
 
 complete -c $name -f
 complete -c $name -n __sagbufe_jackd_first -a play -d 'Plays a session, and prints its report'
+complete -c $name -n __sagbufe_jackd_first -a rehearse -d 'Plays a large session made from a number, and sums it up'
 complete -c $name -n __sagbufe_jackd_first -l help -d 'Print how the program is called'
 complete -c $name -n __sagbufe_jackd_first -l version -d 'Print the version'
 # SCRIPT, CAPTURE and PLAYBACK, and then at most four pairs of --record and PATH.

@@ -72,8 +72,10 @@ try() {
   [ "$got" = "$wanted" ] || fault "bash offers '$got' behind '$*', not '$wanted'"
 }
 for name in jackd sagbufe-jackd; do
-  try 'play --help --version' $name ''
+  try 'play rehearse --help --version' $name ''
   try 'play' $name p
+  try 'rehearse' $name r
+  try '' $name rehearse ''
   try 'one.session' $name play ''
   try 'one.session' $name play a b o
   try '--record' $name play a b c ''
@@ -92,7 +94,7 @@ fi
 if command -v fish >/dev/null; then
   for name in jackd sagbufe-jackd; do
     got=$(cd "$folder/files" && fish --no-config -c "source $folder/free/share/fish/vendor_completions.d/$name.fish; complete -C '$name '; complete -C '$name play a '; complete -C '$name play a b c --'" | cut -f 1 | tr '\n' ' ')
-    [ "$got" = 'play one.session --record ' ] || fault "fish offers '$got'"
+    [ "$got" = 'play rehearse one.session --record ' ] || fault "fish offers '$got'"
   done
 else
   over fish

@@ -113,6 +113,11 @@ words_case('an empty name', ['play', 's', 'c', ''], 'jackd: word 4 is empty, and
 words_case('a name like an option', ['play', '-s', 'c', 'p'], 'jackd: word 2 begins with "-"; a file is named ./-s')
 words_case('an option first', ['play', '--record', 'r', 's', 'c', 'p'], 'jackd: "--record" comes behind SCRIPT, CAPTURE and PLAYBACK')
 words_case('a record behind a disk', [*PLAY, '--disk', 'd', '--record', 'r'], 'jackd: "--record" stands before "--disk"')
+words_case('rehearse alone', ['rehearse'], 'jackd: rehearse needs a NUMBER from 0 to 4294967295')
+words_case('a misspelt rehearsal', ['rehears', '7'], 'jackd: no command "rehears"; is "rehearse" meant?')
+for number in ('x', '-1', '', '4294967296', '00000000007'):
+    words_case('no number', ['rehearse', number], f'jackd: "{number}" is no number of one to ten digits, 4294967295 at most')
+words_case('two numbers', ['rehearse', '7', '8'], 'jackd: word 3 is one too many: "8"')
 words_case('a word that is no UTF-8', ['play', 's', b'c\xff', 'p'], 'jackd: word 3 is no UTF-8: c\\xff')
 words_case('a word that steers a terminal', ['pl\x1b[2Jay'], 'jackd: no command "pl\\x1b[2Jay"')
 words_case('a very long word', ['x' * 5000], 'jackd: no command "' + 'x' * 64 + '..."')
@@ -283,6 +288,8 @@ if os.path.exists('/dev/full'):
             faults.append('a full standard output: the playback is not whole')
         case('a fault line that finds no room', ['play', 's'], 2, None,
             'jackd: play needs SCRIPT, CAPTURE and PLAYBACK; CAPTURE is missing\n' + HELP, stdout=full)
+        case('a rehearsal and a full standard output', ['rehearse', '7'], 6, None,
+            'jackd: standard output: No space left on device; the lines are cut\n', stdout=full)
 case('a closed standard output', PLAY, 6, None, 'jackd: standard output: Bad file descriptor' + CUT, made=['p'], stdout=subprocess.DEVNULL,
     before=lambda: os.close(1))
 case('a fault line without standard output', ['plya'], 2, None, 'jackd: no command "plya"; is "play" meant?\n' + HELP,

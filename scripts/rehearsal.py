@@ -3,7 +3,7 @@
 
 rehearsal.py NUMBER..            prints each number's summary
 rehearsal.py --files NUMBER S C  writes the script and the capture of a number
-rehearsal.py --played S P R OUT  prints the summary's lines, but for the first, of a play: its playback, record file and report
+rehearsal.py --played P R OUT    prints the summary's lines, but for the first, of a play: its playback, record file and report
 
 It is a second computation of all that `jackd rehearse` does: the draws of PCG32 (XSH RR, O'Neill 2014), the calls and their
 refusals, feedback, and every sample of every client.

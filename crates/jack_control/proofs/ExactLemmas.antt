@@ -24,7 +24,7 @@ use Rattle.jack_control.proofs.OpeningLemmas.{differs}
 -- ---- a script
 
 -- bytes spell one script
-one_script : (bytes : List ℕ) (a b : Script) → Spells bytes a → Spells bytes b → a ≡ b
+pub one_script : (bytes : List ℕ) (a b : Script) → Spells bytes a → Spells bytes b → a ≡ b
 one_script bytes a b ha hb = cc (read bytes a ha, read bytes b hb)
 
 -- and then have no fault

@@ -13,3 +13,4 @@ pub mod CauseLemmas
 pub mod ExplainedLemmas
 pub mod CutLemmas
 pub mod PlayingLemmas
+pub mod RehearsalLemmas

@@ -1,12 +1,17 @@
 -- What a status says of the files of a play.
 --     IsEarly status      it comes before any file is made
 --     HasLine status      a line of the fault is put out
+--     HasOwnFault status      what a refusal tells is a fault of the bytes, and no want of memory and no read that failed
 --     PlayStatus files scores play status      what the bytes of the script and the capture have where it is answered
 --     IfInput files scores play      where the files are told, they give what a play is given
 --     HasInput, HasRefusal      where the host tells its files: what a play must answer
 --     LacksInput files play      a name that a step opens is not there
-use Rattle.std.specs.Prelude.{◌≡◌, ◌⊎◌, ℕ, List, length, ⊤, Option, Some, None}
+use Rattle.std.specs.Prelude.{◌≡◌, ◌≢◌, ◌⊎◌, ℕ, List, length, ⊤, Option, Some, None}
+use Rattle.jack_types.specs.declared.files.WaveFault.{WaveFault}
+use Rattle.jack_types.specs.declared.files.WaveFault.TheVariants.{Read}
 use Rattle.jack_types.specs.declared.kinds.Score.{Score}
+use Rattle.jack_types.specs.declared.scripts.Cause.TheVariants.{Memory}
+use Rattle.jack_types.specs.declared.scripts.ScriptFault.{ScriptFault}
 use Rattle.jack_host.specs.Files.{IsThere}
 use Rattle.session_model.specs.Explanations.{Given}
 use Rattle.session_model.specs.Scripts.{Script}
@@ -37,6 +42,23 @@ HasLine (BadScript fault) = ⊤
 HasLine WriteFault = ⊥
 HasLine (Differs difference) = ⊤
 HasLine (Wrong row) = ⊥
+
+abbrev pub IsScriptFault : ScriptFault → Type 0
+IsScriptFault fault = fault.cause ≢ Memory
+
+abbrev pub IsWaveFault : WaveFault → Type 0
+IsWaveFault fault = fault ≢ Read
+
+abbrev pub HasOwnFault : Status → Type 0
+HasOwnFault Ok = ⊤
+HasOwnFault NoMemory = ⊤
+HasOwnFault Words = ⊤
+HasOwnFault ReadFault = ⊤
+HasOwnFault (BadWave fault) = IsWaveFault fault
+HasOwnFault (BadScript fault) = IsScriptFault fault
+HasOwnFault WriteFault = ⊤
+HasOwnFault (Differs difference) = ⊤
+HasOwnFault (Wrong row) = ⊤
 
 -- the script of a play is played, and this holds of it
 abbrev pub IfScript : Option Files → Play → (Script → Type 0) → Type 0

@@ -8,3 +8,5 @@ pub mod Captures
 pub mod Openings
 pub mod Files
 pub mod Performances
+pub mod Rehearsals
+pub mod Rehearsing

@@ -3,15 +3,21 @@
 --     HaveFronts front stores      a store that tells its bytes has a front at its place
 --     HaveCut given printed stores      so all have behind a fault, in each mode
 --     Explain given printed stores report      whatever bytes the stores have, what is printed explains them and the report
+--     HasHistory files play history      in serial mode the history is that of serial mode, of the script that the files give
 --     MadeSome old new names stores      so many of the names were made
 use Rattle.std.specs.Prelude.{◌≡◌, ℕ, zero, suc, List, ◌∷◌, map, take, slice_get, Option, Some, IsNone, IsSome}
+use Rattle.jack_types.specs.declared.replies.Entry.{Entry}
+use Rattle.play_words.specs.Words.{Play}
 use Rattle.session_model.specs.Explanations.{Explained, Given, Printed}
+use Rattle.session_model.specs.Scripts.{Script}
+use Rattle.session_model.specs.Serial.{serial}
 use Rattle.serial_laws.specs.Faults.{playback_front, record_front}
 use Rattle.recorder_files.specs.Recorders.{Stored}
 use Rattle.session_threads.specs.declared.faults.SessionFault.{SessionFault}
 use Rattle.session_threads.specs.declared.faults.SessionFault.TheVariants.{Read, Write}
 use Rattle.jack_control.specs.declared.status.Status.{Status}
 use Rattle.jack_control.specs.declared.status.Status.TheVariants.{ReadFault, WriteFault}
+use Rattle.jack_control.specs.Answers.{IfScript}
 use Rattle.jack_control.specs.Files.{AreOut}
 use Rattle.jack_control.specs.Inputs.{Files}
 use Rattle.jack_control.specs.Plays.{CameTo, PlaybackSoFar, RecordSoFar, TouchesOnly}
@@ -45,6 +51,10 @@ abbrev pub Explain : Given → Printed → List Stored → List ℕ → Type 0
 Explain given printed stores report =
     (playback : List ℕ) (records : List (List ℕ)) → map (λ (store : Stored). store.bytes) stores ≡ Some playback ∷ map Some records
     → Explained given printed (record { playback = playback; records = records; report = report })
+
+-- where the files are told
+abbrev pub HasHistory : Option Files → Play → List Entry → Type 0
+HasHistory files play history = IfScript files play (λ (script : Script). IsNone script.header.threads → history ≡ (serial script).history)
 
 -- the first so many names were made, and their stores are out; no other name is touched
 pub record MadeSome (old new : Option Files) (names : List (List ℕ)) (stores : List Stored) : Type 0 where

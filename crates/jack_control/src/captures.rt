@@ -3,6 +3,7 @@
 ghost use Rattle.std.specs.Prelude.{◌≡◌, ◌+◌, ◌<◌, ◌≤◌, ◌⊎◌, IfErr, IfOk, IsErrOf, OnErr, OnOk, false};
 ghost use Rattle.jack_host.specs.Causes.{Rose};
 ghost use Rattle.jack_host.specs.Files.{IsThere, SameFiles};
+ghost use Rattle.jack_control.specs.Answers.{HasOwnFault};
 ghost use Rattle.jack_control.specs.Captures.{CaptureStatus, IsOpened, status_of_wave};
 
 use crate::Status;
@@ -13,7 +14,8 @@ use wave_pcm::Wave;
 
 // The status of a fault that the reading of a header met.
 fn status_of(fault: WaveFault) -> Status
-    ensures { result ≡ status_of_wave fault }
+    ensures status { result ≡ status_of_wave fault }
+    ensures own { HasOwnFault result }
 {
     match fault {
         WaveFault::Read => Status::ReadFault,
@@ -31,6 +33,7 @@ pub(crate) fn open_capture<H: Host>(
     ensures opened { IfOk result (λ wave. IsOpened (H.files host.old) name.now header.now wave.left) }
     ensures format { IfOk result (λ wave. (wave.format.channels ≡ header.now.capture) × (wave.failed ≡ false)) }
     ensures fault { IfErr result (CaptureStatus (H.files host.old) name.now header.now) }
+    ensures own { IfErr result HasOwnFault }
     ensures read { IsErrOf result Status.ReadFault →
         Rose (H.read_faults host.old) (H.read_faults host.new) ⊎ ¬ IsThere (H.files host.old) name.now }
 

@@ -8,6 +8,7 @@ mod files;
 mod opening;
 mod playing;
 mod reading;
+mod rehearsing;
 mod scripts;
 mod status;
 mod top;

@@ -3,7 +3,7 @@
 ghost use Rattle.std.specs.Prelude.{◌≡◌, ◌+◌, ◌<◌, ◌≤◌, ◌⊎◌, IfErr, IfOk, IsErrOf, OnErr, OnOk, map};
 ghost use Rattle.jack_host.specs.Causes.{Rose};
 ghost use Rattle.jack_host.specs.Files.{SameFiles};
-ghost use Rattle.jack_control.specs.Answers.{LacksInput};
+ghost use Rattle.jack_control.specs.Answers.{HasOwnFault, LacksInput};
 ghost use Rattle.jack_control.specs.Openings.{IsSessionOf, OpeningStatus};
 
 use crate::Status;
@@ -27,6 +27,7 @@ pub(crate) fn open_session<H: Host, G: Guest>(
     requires { H.lent host.old < 900 }
     ensures opened { IfOk result (λ session. IsSessionOf (H.files host.old) (map G.score guests.items) names.now session) }
     ensures fault { IfErr result (OpeningStatus (H.files host.old) (map G.score guests.items) names.now) }
+    ensures own { IfErr result HasOwnFault }
     ensures read { IsErrOf result Status.ReadFault →
         Rose (H.read_faults host.old) (H.read_faults host.new) ⊎ LacksInput (H.files host.old) (map G.score guests.items) names.now }
 

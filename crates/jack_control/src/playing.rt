@@ -7,7 +7,7 @@ ghost use Rattle.jack_host.specs.Causes.{Rose};
 ghost use Rattle.jack_host.specs.Files.{SameFiles};
 ghost use Rattle.session_model.specs.Explanations.{Given};
 ghost use Rattle.session_model.specs.Soundness.{Apart};
-ghost use Rattle.session_model.specs.Serial.{serial_printed};
+ghost use Rattle.session_model.specs.Serial.{serial, serial_printed};
 ghost use Rattle.run_laws.specs.Sessions.{IsGiven, printed_of};
 ghost use Rattle.wave_pcm.specs.Readings.{SameReading};
 ghost use Rattle.jack_control.specs.Files.{AreOut, OneFailed};
@@ -41,8 +41,8 @@ fn status_of(fault: SessionFault) -> Status
     }
 }
 
-// Makes the files, runs the session and ends it. However that goes, the stores that are out have fronts of their files.
-fn perform<H: Host, G: Guest + Send, T: Threads + Sync, R: Wait + Sync, A: Gate>(
+/// Makes the files, runs the session and ends it. However that goes, the stores that are out have fronts of their files.
+pub(crate) fn perform<H: Host, G: Guest + Send, T: Threads + Sync, R: Wait + Sync, A: Gate>(
     threads: &T,
     wait: &R,
     gate: &A,
@@ -57,6 +57,7 @@ fn perform<H: Host, G: Guest + Send, T: Threads + Sync, R: Wait + Sync, A: Gate>
     ensures ended { OnOk result.1 (HasEnded result.0) }
     ensures explained { OnOk result.1 ((given : Given) → IsGiven (session_of session) given → given.disks ≡ [] → Explain given (printed_of (session_of result.0)) (stores_in result.0) (text_in (session_of result.0))) }
     ensures serial { OnOk result.1 ((given : Given) → IsGiven (session_of session) given → given.disks ≡ [] → IsNone given.script.header.threads → printed_of (session_of result.0) ≡ serial_printed given) }
+    ensures history { OnOk result.1 (IsNone session.gear.script.header.threads → result.0.desk.history ≡ (serial session.gear.script).history) }
     ensures whole { OnOk result.1 (AreOut (H.files host.new) (made_by names.now) (stores_in result.0)) }
     ensures fronts { (given : Given) → IsGiven (session_of session) given → given.disks ≡ [] → HaveCut given (printed_of (session_of result.0)) (stores_in result.0) }
     ensures made { MadeSome (H.files host.old) (H.files host.new) (made_by names.now) (stores_in result.0) }

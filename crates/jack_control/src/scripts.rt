@@ -4,6 +4,7 @@ ghost use Rattle.std.specs.Prelude.{◌≡◌, ◌<◌, ◌≤◌, ◌⊎◌, If
 ghost use Rattle.jack_host.specs.Causes.{Rose};
 ghost use Rattle.jack_host.specs.Files.{IsThere, SameFiles};
 ghost use Rattle.jack_types.specs.declared.scripts.ScriptFault.{ScriptFault as FaultValue};
+ghost use Rattle.jack_control.specs.Answers.{HasOwnFault, IsScriptFault};
 ghost use Rattle.jack_control.specs.Inputs.{IfBytes, IsFaulty, IsPlayed, IsScriptOf, line_at, unplayable};
 ghost use Rattle.jack_control.specs.Scripts.{IsRead, ScriptStatus, status_of_script};
 
@@ -47,7 +48,8 @@ fn line_at(text: &[u8], place: usize) -> u32
 // The fault of a script that is not played, which these bytes spell.
 fn fault_of(bytes: &[u8]) -> ScriptFault
     requires { length bytes.now ≤ 1048576 }
-    ensures { result ≡ unplayable bytes.now }
+    ensures fault { result ≡ unplayable bytes.now }
+    ensures own { IsScriptFault result }
 {
     ScriptFault {
         line: line_at(bytes, VERSION_PLACE),
@@ -57,7 +59,8 @@ fn fault_of(bytes: &[u8]) -> ScriptFault
 
 // The status of a fault that the reading of a script met.
 fn status_of(fault: ScriptFault) -> Status
-    ensures { result ≡ status_of_script fault }
+    ensures status { result ≡ status_of_script fault }
+    ensures own { HasOwnFault result }
 {
     match fault.cause {
         Cause::Memory => Status::NoMemory,
@@ -69,6 +72,7 @@ fn status_of(fault: ScriptFault) -> Status
 fn script_in(alloc: Global, bytes: &[u8]) -> Result<Script, Status>
     ensures script { IfOk result (λ script. IsRead bytes.now script) }
     ensures fault { IfErr result (λ status. (status ≡ Status.NoMemory) ⊎ ((fault : FaultValue) × (status ≡ Status.BadScript fault) × IsFaulty bytes.now fault)) }
+    ensures own { IfErr result HasOwnFault }
 {
     match Script::read(alloc, bytes) {
         Ok(script) => {
@@ -92,6 +96,7 @@ pub(crate) fn read_script<H: Host>(
     ensures script { IfOk result (λ script. IfBytes (H.files host.old) name.now (λ bytes. IsScriptOf bytes script)) }
     ensures played { IfOk result (λ script. IsPlayed script) }
     ensures fault { IfErr result (ScriptStatus (H.files host.old) name.now) }
+    ensures own { IfErr result HasOwnFault }
     ensures read { IsErrOf result Status.ReadFault →
         Rose (H.read_faults host.old) (H.read_faults host.new) ⊎ ¬ IsThere (H.files host.old) name.now }
 

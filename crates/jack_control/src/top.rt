@@ -4,10 +4,12 @@ ghost use Rattle.std.specs.Prelude.{◌≡◌, ◌≢◌, ◌<◌, ◌≤◌, �
 ghost use Rattle.jack_host.specs.Causes.{Rose};
 ghost use Rattle.jack_host.specs.Files.{SameFiles};
 ghost use Rattle.session_model.specs.Soundness.{Apart};
+ghost use Rattle.play_words.specs.Rehearsals.{IsCommand, IsRehearse};
 ghost use Rattle.play_words.specs.Words.{IsPlay, Play, names_of};
-ghost use Rattle.jack_control.specs.Answers.{HasInput, HasLine, HasRefusal, IfInput, IsEarly, LacksInput, PlayStatus};
+ghost use Rattle.jack_control.specs.Answers.{HasInput, HasLine, HasOwnFault, HasRefusal, IfInput, IsEarly, LacksInput, PlayStatus};
 ghost use Rattle.jack_control.specs.FaultLines.{PutsFault};
 ghost use Rattle.jack_control.specs.Plays.{IsCut, IsExplained, IsOutCut, TouchesOnly, made_by};
+ghost use Rattle.jack_control.specs.Rehearsals.{IsRehearsed};
 ghost use Rattle.jack_control.specs.declared.status.Status.{Status as StatusValue};
 
 use crate::Status;
@@ -16,8 +18,9 @@ use crate::opening::open_session;
 use crate::playing::play_session;
 use client_kinds::Guest;
 use jack_host::{Gate, Host, Sink};
-use play_words::laws::words_name_one_play;
-use play_words::{Names, play_names};
+use crate::rehearsing::rehearse;
+use play_words::laws::{words_name_one_command, words_name_one_play};
+use play_words::{Names, play_names, rehearsal_number};
 use std::alloc::Global;
 use std::sync::Wait;
 use std::thread::Threads;
@@ -37,6 +40,7 @@ fn play<T: Threads + Sync, R: Wait + Sync, H: Host, K: Sink, G: Guest + Send, A:
     requires apart { Apart (λ (name : List ℕ). name) (names_of names.now) }
     ensures played { OnOk result (IsExplained (H.files host.old) (H.files host.new) (K.content out.old) (K.content out.new) (map G.score guests.items) names.now) }
     ensures fault { IfErr result (PlayStatus (H.files host.old) (map G.score guests.items) names.now) }
+    ensures own { IfErr result HasOwnFault }
     ensures read { IsErrOf result Status.ReadFault →
         Rose (H.read_faults host.old) (H.read_faults host.new) ⊎ LacksInput (H.files host.old) (map G.score guests.items) names.now }
     ensures write { IsErrOf result Status.WriteFault →
@@ -61,10 +65,12 @@ fn play<T: Threads + Sync, R: Wait + Sync, H: Host, K: Sink, G: Guest + Send, A:
 ///
 /// `play SCRIPT CAPTURE PLAYBACK`, with a pair `--record PATH` for each recorder of the script, plays a script over a capture,
 /// writes the playback file and the recorders', and puts the report out. The names differ, are not empty and do not begin with
-/// `-`. Any other words are refused. `guests` are the clients that a script opens by number. A fault of the words, the script
-/// or the capture, or of reading them, puts out one line that tells of it.
+/// `-`. `guests` are the clients that a script opens by number. A fault of the words, the script or the capture, or of reading
+/// them, puts out one line that tells of it. With a script in threads mode it waits for threads, and all this holds if it
+/// returns.
 ///
-/// With a script in threads mode it waits for threads, and all this holds if it returns.
+/// `rehearse N` makes a session of 10,000 cycles from a number below 2^32, plays it in memory, and puts out six lines on it.
+/// Any other words are refused.
 pub fn jackd<T: Threads + Sync, R: Wait + Sync, H: Host, K: Sink, G: Guest + Send, A: Gate>(
     threads: &T,
     wait: &R,
@@ -81,12 +87,22 @@ pub fn jackd<T: Threads + Sync, R: Wait + Sync, H: Host, K: Sink, G: Guest + Sen
     ensures played { result ≡ Status.Ok → (play : Play) → IsPlay (map string_bytes words.now) play →
         IsExplained (H.files host.old) (H.files host.new) (K.content out.old) (K.content out.new) (map G.score guests.items) play }
 
-    ensures words { result ≡ Status.Words → (play : Play) → ¬ IsPlay (map string_bytes words.now) play }
+    // What is put out of a rehearsal is told of the history and the playback that serial mode gives for its number's session.
+    // The host is not called.
+    ensures rehearsed { (n : ℕ) → IsRehearse (map string_bytes words.now) n → IsRehearsed n (K.content out.old) (K.content out.new) (K.faults out.old) (K.faults out.new) result }
+    ensures untouched { (n : ℕ) → IsRehearse (map string_bytes words.now) n → host.new ≡ host.old }
+    ensures finished { (n : ℕ) → IsRehearse (map string_bytes words.now) n →
+        ¬ Rose (K.faults out.old) (K.faults out.new) → (result ≡ Status.Ok) ⊎ (result ≡ Status.NoMemory) }
+
+    ensures words { result ≡ Status.Words → ¬ IsCommand (map string_bytes words.now) }
     ensures uncalled { result ≡ Status.Words → host.new ≡ host.old }
-    ensures lawful { result ≢ Status.Words → (play : Play) × IsPlay (map string_bytes words.now) play }
+    ensures lawful { result ≢ Status.Words → IsCommand (map string_bytes words.now) }
 
     // A refusal of the script or of the capture is one that their bytes have.
     ensures fault { (play : Play) → IsPlay (map string_bytes words.now) play → result ≢ Status.Ok → PlayStatus (H.files host.old) (map G.score guests.items) play result }
+
+    // Whatever the host tells, want of memory is no fault of a script, and a read that failed none of a capture.
+    ensures own { HasOwnFault result }
 
     ensures read { result ≡ Status.ReadFault → (play : Play) → IsPlay (map string_bytes words.now) play →
         Rose (H.read_faults host.old) (H.read_faults host.new) ⊎ LacksInput (H.files host.old) (map G.score guests.items) play }
@@ -125,9 +141,9 @@ pub fn jackd<T: Threads + Sync, R: Wait + Sync, H: Host, K: Sink, G: Guest + Sen
         ¬ Rose (K.faults out.old) (K.faults out.new) → (result ≡ Status.Ok) ⊎ (result ≡ Status.NoMemory) }
 {
     words_name_one_play();
+    words_name_one_command();
     let Some(names) = play_names(words) else {
-        put_fault(out, Status::Words);
-        return Status::Words;
+        return rehearse_named::<T, R, K, G, A>(threads, wait, alloc, words, out, gate);
     };
     match play(threads, wait, alloc, &names, host, out, guests, gate) {
         Ok(()) => Status::Ok,
@@ -136,6 +152,34 @@ pub fn jackd<T: Threads + Sync, R: Wait + Sync, H: Host, K: Sink, G: Guest + Sen
             status
         }
     }
+}
+
+// Rehearses the number that the words name, or refuses them.
+fn rehearse_named<T: Threads + Sync, R: Wait + Sync, K: Sink, G: Guest + Send, A: Gate>(
+    threads: &T,
+    wait: &R,
+    alloc: Global,
+    words: &[String],
+    out: &mut K,
+    gate: &A,
+) -> Status
+    ensures rehearsed { (n : ℕ) → IsRehearse (map string_bytes words.now) n → IsRehearsed n (K.content out.old) (K.content out.new) (K.faults out.old) (K.faults out.new) result }
+    ensures words { result ≡ Status.Words → (n : ℕ) → ¬ IsRehearse (map string_bytes words.now) n }
+    ensures lawful { result ≢ Status.Words → (n : ℕ) × IsRehearse (map string_bytes words.now) n }
+    ensures own { HasOwnFault result }
+    ensures write { result ≡ Status.WriteFault → Rose (K.faults out.old) (K.faults out.new) }
+    ensures out_cut { result ≡ Status.WriteFault → IsOutCut (K.content out.old) (K.content out.new) (K.faults out.old) (K.faults out.new) }
+    ensures line { HasLine result → PutsFault (K.content out.old) (K.content out.new) (K.faults out.old) (K.faults out.new) result }
+    ensures silent { result ≡ Status.NoMemory → out.new ≡ out.old }
+    ensures later { K.faults out.old ≤ K.faults out.new }
+    ensures puts { result ≡ Status.Ok → K.faults out.new ≡ K.faults out.old }
+{
+    words_name_one_command();
+    let Some(number) = rehearsal_number(words) else {
+        put_fault(out, Status::Words);
+        return Status::Words;
+    };
+    rehearse::<T, R, K, G, A>(threads, wait, alloc, number, out, gate)
 }
 
 // Puts out the line of a fault, where it has one.

@@ -33,8 +33,9 @@ fn words(rt: &(impl Env + AllocGlobal)) -> io::Result<Vec<String>> {
 fn ask_help(words: &[String]) -> bool {
     match words {
         [only] => { only.as_str() == "--help" || only.as_str() == "-h" || only.as_str() == "help" }
-        [play, help] => {
-            play.as_str() == "play" && (help.as_str() == "--help" || help.as_str() == "-h")
+        [command, help] => {
+            (command.as_str() == "play" || command.as_str() == "rehearse")
+                && (help.as_str() == "--help" || help.as_str() == "-h")
         }
         _ => false,
     }

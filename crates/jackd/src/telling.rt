@@ -3,7 +3,7 @@
 use jack_control::{Difference, Status, What};
 use jack_host::{FailureKind, FileHost, WriterSink};
 use jack_types::{ScriptFault, WaveFault};
-use play_words::{Names, play_names};
+use play_words::{Names, play_names, rehearsal_number};
 use refused_calls::Notes;
 use report_listener::ListeningSink;
 use std::alloc::{AllocError, Global};
@@ -13,8 +13,8 @@ use std::os::unix::fs::MetadataExt;
 use std::{fs, io};
 use told_reasons::{
     Reason, of_channels, of_disks, of_foreign_word, of_guests, of_input, of_making, of_open_output,
-    of_rate, of_records, of_refusals, of_report, of_script, of_wave, of_words, of_writing,
-    read_again, standing_in,
+    of_rate, of_records, of_refusals, of_report, of_script, of_summary, of_wave, of_words,
+    of_writing, read_again, standing_in,
 };
 
 /// The reason of exit code 1.
@@ -70,10 +70,13 @@ fn reason_of<R: Files<File = File> + Env + AllocGlobal + Eprint, W>(
         let _ = rt.eprint(NO_MEMORY);
         return Ok(None);
     }
+    let alloc = rt.alloc();
+    if rehearsal_number(words).is_some() {
+        return reason_of_summary(alloc, out.inner());
+    }
     let Some(names) = play_names(words) else {
         return reason_of_words(rt, words);
     };
-    let alloc = rt.alloc();
     match status {
         Status::Ok => reason_of_refusals(rt, alloc, &names, out.notes()),
         Status::ReadFault => reason_of_reading(alloc, host),
@@ -186,6 +189,14 @@ fn reason_of_output<R: Files<File = File>, W>(
     }
     match out.last_failure() {
         Some(error) => Ok(Some(of_report(alloc, error)?)),
+        None => Ok(None),
+    }
+}
+
+// A failure of standard output, behind a rehearsal.
+fn reason_of_summary<W>(alloc: Global, out: &WriterSink<W>) -> Told {
+    match out.last_failure() {
+        Some(error) => Ok(Some(of_summary(alloc, error)?)),
         None => Ok(None),
     }
 }

@@ -6,15 +6,19 @@ use std::io;
 
 // The lists of words that are taken.
 const USAGE: &str = "jackd play SCRIPT CAPTURE PLAYBACK [--record PATH]..
+       jackd rehearse NUMBER
        jackd --help
        jackd --version";
 
-// What the words of a play name, and the exit codes.
+// What the words of a command are, and the exit codes.
 const NAMES: &str =
     "SCRIPT is a session's script, CAPTURE the WAVE file that stands for the sound card's input, and
 PLAYBACK the WAVE file that is made, which stands for its output. Each recorder of the script
 makes one PATH, in their order. The report goes to standard output. What is wrong, and which calls
 of the script were refused, goes to standard error.
+
+NUMBER, from 0 to 4294967295, makes a session of 10,000 cycles, which is played in memory. Six lines
+on it go to standard output.
 
 Exit codes: 0 played, 1 no memory, 2 other words, 3 a file could not be read, 4 the capture is no
 WAVE file that is read, 5 the script can't be played, 6 a file could not be written, 7 the script
@@ -25,6 +29,9 @@ The sources have the formats of scripts and reports in docs/FORMATS.md, and sess
 // How the program is called.
 fn program<'a>(alloc: Global) -> Result<Command<'a>, AllocError> {
     let play = Command::new(alloc, "play").about("Plays a session, and prints its report");
+    let rehearse = Command::new(alloc, "rehearse").about(
+        "Plays a large session made from a number, and sums it up",
+    );
     let help = Arg::new(alloc, "help")
         .long("help")
         .action(ArgAction::SetTrue)
@@ -44,6 +51,7 @@ fn program<'a>(alloc: Global) -> Result<Command<'a>, AllocError> {
         .disable_help_flag(true)
         .disable_version_flag(true)
         .subcommand(play)?
+        .subcommand(rehearse)?
         .arg(help)?
         .arg(version)
 }

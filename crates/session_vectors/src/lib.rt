@@ -14,6 +14,8 @@ mod overruns;
 #[cfg(test)]
 mod recorders;
 #[cfg(test)]
+mod rehearsing;
+#[cfg(test)]
 mod running;
 #[cfg(test)]
 mod scores;

@@ -37,7 +37,7 @@ pub fn of_foreign_word(alloc: Global, number: u64, word: &[u8]) -> Result<Reason
     Ok(reason)
 }
 
-// The number of a word, by its place behind `play`.
+// The number of a word, by its place behind the command.
 fn number_of(place: usize) -> u64 {
     (place as u64).saturating_add(2)
 }
@@ -68,17 +68,35 @@ fn say_words(alloc: Global, reason: &mut Reason, words: &[String]) -> Result<(),
     let [command, rest @ ..] = words else {
         return reason.say("no command is given");
     };
-    if command.as_str() != "play" {
-        let kind = if command.as_str().as_bytes().first() == Some(&b'-') {
-            "no option "
-        } else {
-            "no command "
-        };
-        reason.say(kind)?;
-        reason.quote(command.as_bytes())?;
-        return say_meant(alloc, reason, command.as_bytes(), &PROGRAM);
+    match command.as_str() {
+        "play" => say_play(alloc, reason, rest),
+        "rehearse" => say_rehearsal(reason, rest),
+        _ => say_no_command(alloc, reason, command),
     }
-    say_play(alloc, reason, rest)
+}
+
+// Why a first word is none.
+fn say_no_command(alloc: Global, reason: &mut Reason, word: &String) -> Result<(), AllocError> {
+    let kind = if word.as_bytes().first() == Some(&b'-') {
+        "no option "
+    } else {
+        "no command "
+    };
+    reason.say(kind)?;
+    reason.quote(word.as_bytes())?;
+    say_meant(alloc, reason, word.as_bytes(), &PROGRAM)
+}
+
+// Why the words behind `rehearse` are no rehearsal.
+fn say_rehearsal(reason: &mut Reason, words: &[String]) -> Result<(), AllocError> {
+    match words {
+        [] => reason.say("rehearse needs a NUMBER from 0 to 4294967295"),
+        [number] => {
+            reason.quote(number.as_bytes())?;
+            reason.say(" is no number of one to ten digits, 4294967295 at most")
+        }
+        [_, more, ..] => say_one_too_many(reason, more, 1),
+    }
 }
 
 // Why the words behind `play` are no play.
@@ -210,11 +228,16 @@ fn say_no_option(
         reason.quote(word.as_bytes())?;
         return say_meant(alloc, reason, word.as_bytes(), &OPTIONS);
     }
+    say_one_too_many(reason, word, place)?;
+    say_meant(alloc, reason, word.as_bytes(), &OPTIONS)
+}
+
+// Tells of a word behind the last one.
+fn say_one_too_many(reason: &mut Reason, word: &String, place: usize) -> Result<(), AllocError> {
     reason.say("word ")?;
     reason.number(number_of(place))?;
     reason.say(" is one too many: ")?;
-    reason.quote(word.as_bytes())?;
-    say_meant(alloc, reason, word.as_bytes(), &OPTIONS)
+    reason.quote(word.as_bytes())
 }
 
 // Tells which two words name one file.

@@ -142,10 +142,25 @@ pub fn of_open_output(
 pub fn of_report(alloc: Global, error: io::Error) -> Result<Reason, AllocError>
     ensures { IfOk result IsReason }
 {
+    of_sink(alloc, error, "the report is cut, the files are whole")
+}
+
+/// Why the lines of a rehearsal could not be put out.
+pub fn of_summary(alloc: Global, error: io::Error) -> Result<Reason, AllocError>
+    ensures { IfOk result IsReason }
+{
+    of_sink(alloc, error, "the lines are cut")
+}
+
+// Why standard output could not be written, and what came of that.
+fn of_sink(alloc: Global, error: io::Error, end: &str) -> Result<Reason, AllocError>
+    ensures { IfOk result IsReason }
+{
     let mut reason = Reason::new(alloc)?;
     reason.say("standard output: ")?;
     say_system(alloc, &mut reason, error)?;
-    reason.say("; the report is cut, the files are whole")?;
+    reason.say("; ")?;
+    reason.say(end)?;
     reason.end_line()?;
     Ok(reason)
 }

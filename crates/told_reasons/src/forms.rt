@@ -82,7 +82,15 @@ pub const SIDES: [&str; 2] = ["capture", "playback"];
 pub const AT: [&str; 1] = ["at"];
 
 /// The program's commands and options.
-pub const PROGRAM: [&str; 6] = ["play", "help", "--help", "--version", "-h", "-V"];
+pub const PROGRAM: [&str; 7] = [
+    "play",
+    "rehearse",
+    "help",
+    "--help",
+    "--version",
+    "-h",
+    "-V",
+];
 
 /// The options of a play.
 pub const OPTIONS: [&str; 2] = ["--record PATH", "--disk PATH"];

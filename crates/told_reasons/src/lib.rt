@@ -18,7 +18,9 @@ mod waves;
 
 pub use command_line::{of_foreign_word, of_words};
 pub use differing::{of_channels, of_disks, of_guests, of_rate, of_records};
-pub use failures::{of_input, of_making, of_open_output, of_report, of_writing, standing_in};
+pub use failures::{
+    of_input, of_making, of_open_output, of_report, of_summary, of_writing, standing_in,
+};
 pub use reason::Reason;
 pub use refusals::of_refusals;
 pub use rereading::read_again;

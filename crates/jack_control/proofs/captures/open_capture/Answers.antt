@@ -7,7 +7,7 @@ use Rattle.jack_control.proofs.captures.open_capture.Goals as goal
 
 pub returns-in-Err-clause-fault : goal.returns-in-Err-clause-fault
 returns-in-Err-clause-fault g c =
-    wave-fault-told (g.H.Host.files c.args.host.now) c.args.name.now _ c.args.header.now c.in-Err.fault c.status_of.result c.in-Ok.ensures.bytes c.in-Err.ensures.fault c.status_of.ensures
+    wave-fault-told (g.H.Host.files c.args.host.now) c.args.name.now _ c.args.header.now c.in-Err.fault c.status_of.result c.in-Ok.ensures.bytes c.in-Err.ensures.fault c.status_of.ensures.status
 
 pub returns-in-None-clause-opened : goal.returns-in-None-clause-opened
 returns-in-None-clause-opened g c =

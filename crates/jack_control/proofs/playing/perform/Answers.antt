@@ -3,6 +3,7 @@ use Rattle.jack_types.specs.declared.replies.Entry.{Entry}
 use Rattle.jack_host.specs.Causes.{Rose}
 use Rattle.session_model.specs.Histories.{LegalSoFar}
 use Rattle.session_model.specs.Scripts.{Script, phases}
+use Rattle.session_model.specs.Serial.{serial}
 use Rattle.wave_pcm.specs.Readings.{Reading, SameReading}
 use Rattle.control_desk.specs.Desks.{Desk}
 use Rattle.cycle_laws.specs.Gears.{Gear, driver_of}
@@ -112,3 +113,10 @@ returns-clause-capture g c =
 
 pub returns-clause-kept : goal.returns-clause-kept
 returns-clause-kept g c = ok_of c.make_files.result (sym c.if-is_err.ensures.value) c.make_files.ensures.kept
+
+-- the history of the run, whose script was opened
+pub returns-clause-history : goal.returns-clause-history
+returns-clause-history g c serial_mode =
+    ap (λ (d : Desk). d.history) c.end.ensures.desk
+    ∙ (at-ok c.run-session.result.1 _ c.in_default.is c.run-session.ensures.runs).serial_history (subst (λ (gear : Gear). IsNone gear.script.header.threads) (sym c.make_files.ensures.same.gear) serial_mode)
+    ∙ ap (λ (gear : Gear). (serial gear.script).history) c.make_files.ensures.same.gear

@@ -1,10 +1,11 @@
-use Rattle.std.proofs.Common.{◌⊎◌, ap, Err, map, subst, sym}
+use Rattle.std.proofs.Common.{◌⊎◌, ap, Err, inl, inr, map, refl, subst, sym}
 use Rattle.jack_host.specs.Causes.{Rose}
 use Rattle.play_words.specs.Words.{Play}
 use Rattle.jack_control.specs.Answers.{HasInput, HasRefusal, IfInput, LacksInput, PlayStatus}
 use Rattle.jack_control.specs.Plays.{IsCut, IsExplained, TouchesOnly, made_by}
 use Rattle.jack_control.proofs.ExactLemmas.{complete-err, exact-err, exact-ok}
 use Rattle.jack_control.proofs.InputLemmas.{rose-later}
+use Rattle.jack_control.proofs.RehearsalLemmas.{finished-of}
 use Rattle.jack_control.proofs.top.jackd.Goals as goal
 
 pub returns-in-Ok-clause-played : goal.returns-in-Ok-clause-played
@@ -66,3 +67,67 @@ returns-in-Err-clause-complete g c = λ play is h no_read no_write no_put.
     (sym (c.words_name_one_play.ensures _ c.in-Some.names play c.in-Some.ensures.lawful is)) h)
     c.in-Err.ensures.fault (λ e. c.in-Err.ensures.read (ap Err e)) (λ e. c.in-Err.ensures.write (ap Err e)) no_read no_write
     (λ rose. no_put (rose-later (g.K.Sink.faults c.args.out.now) (g.K.Sink.faults c.play.new.out) (g.K.Sink.faults c.put_line.new.out) rose c.put_line.ensures.later))
+
+-- ---- the words are those of no play
+
+pub returns-in_default-clause-played : goal.returns-in_default-clause-played
+returns-in_default-clause-played g c = λ ok play is. absurd (c.in_default.ensures.unlawful refl play is)
+
+pub returns-in_default-clause-fault : goal.returns-in_default-clause-fault
+returns-in_default-clause-fault g c = λ play is other. absurd (c.in_default.ensures.unlawful refl play is)
+
+pub returns-in_default-clause-read : goal.returns-in_default-clause-read
+returns-in_default-clause-read g c = λ e play is. absurd (c.in_default.ensures.unlawful refl play is)
+
+pub returns-in_default-clause-input : goal.returns-in_default-clause-input
+returns-in_default-clause-input g c = λ e play is. absurd (c.in_default.ensures.unlawful refl play is)
+
+pub returns-in_default-clause-cut : goal.returns-in_default-clause-cut
+returns-in_default-clause-cut g c = λ when play is. absurd (c.in_default.ensures.unlawful refl play is)
+
+pub returns-in_default-clause-others : goal.returns-in_default-clause-others
+returns-in_default-clause-others g c = λ play is. absurd (c.in_default.ensures.unlawful refl play is)
+
+pub returns-in_default-clause-exact : goal.returns-in_default-clause-exact
+returns-in_default-clause-exact g c = λ play is status h none. absurd (c.in_default.ensures.unlawful refl play is)
+
+pub returns-in_default-clause-complete : goal.returns-in_default-clause-complete
+returns-in_default-clause-complete g c = λ play is h no_read no_write no_put. absurd (c.in_default.ensures.unlawful refl play is)
+
+pub returns-in_default-clause-words : goal.returns-in_default-clause-words
+returns-in_default-clause-words g c = λ same command. elim command [ inl named ↦ c.in_default.ensures.unlawful refl named.0 named.1 | inr named ↦ c.rehearse_named.ensures.words same named.0 named.1 ]
+
+pub returns-in_default-clause-lawful : goal.returns-in_default-clause-lawful
+returns-in_default-clause-lawful g c = λ other. inr (c.rehearse_named.ensures.lawful other)
+
+pub returns-in_default-clause-rehearsed : goal.returns-in_default-clause-rehearsed
+returns-in_default-clause-rehearsed g c = c.rehearse_named.ensures.rehearsed
+
+pub returns-in_default-clause-finished : goal.returns-in_default-clause-finished
+returns-in_default-clause-finished g c = λ n is none. finished-of n _ _ _ _ c.rehearse_named.result (c.rehearse_named.ensures.rehearsed n is) none
+
+-- ---- the words are those of a play, and so of no rehearsal
+
+pub returns-in-Ok-clause-rehearsed : goal.returns-in-Ok-clause-rehearsed
+returns-in-Ok-clause-rehearsed g c = λ n is. absurd (c.words_name_one_command.ensures.apart _ c.in-Some.names n c.in-Some.ensures.lawful is)
+
+pub returns-in-Ok-clause-untouched : goal.returns-in-Ok-clause-untouched
+returns-in-Ok-clause-untouched g c = λ n is. absurd (c.words_name_one_command.ensures.apart _ c.in-Some.names n c.in-Some.ensures.lawful is)
+
+pub returns-in-Ok-clause-finished : goal.returns-in-Ok-clause-finished
+returns-in-Ok-clause-finished g c = λ n is none. absurd (c.words_name_one_command.ensures.apart _ c.in-Some.names n c.in-Some.ensures.lawful is)
+
+pub returns-in-Ok-clause-lawful : goal.returns-in-Ok-clause-lawful
+returns-in-Ok-clause-lawful g c = λ other. inl (c.in-Some.names, c.in-Some.ensures.lawful)
+
+pub returns-in-Err-clause-rehearsed : goal.returns-in-Err-clause-rehearsed
+returns-in-Err-clause-rehearsed g c = λ n is. absurd (c.words_name_one_command.ensures.apart _ c.in-Some.names n c.in-Some.ensures.lawful is)
+
+pub returns-in-Err-clause-untouched : goal.returns-in-Err-clause-untouched
+returns-in-Err-clause-untouched g c = λ n is. absurd (c.words_name_one_command.ensures.apart _ c.in-Some.names n c.in-Some.ensures.lawful is)
+
+pub returns-in-Err-clause-finished : goal.returns-in-Err-clause-finished
+returns-in-Err-clause-finished g c = λ n is none. absurd (c.words_name_one_command.ensures.apart _ c.in-Some.names n c.in-Some.ensures.lawful is)
+
+pub returns-in-Err-clause-lawful : goal.returns-in-Err-clause-lawful
+returns-in-Err-clause-lawful g c = λ other. inl (c.in-Some.names, c.in-Some.ensures.lawful)
