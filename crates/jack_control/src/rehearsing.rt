@@ -31,8 +31,11 @@ use std::thread::Threads;
 
 /// The names of its files in memory.
 const SCRIPT: &str = "script";
+
 const CAPTURE: &str = "capture";
+
 const PLAYBACK: &str = "playback";
+
 const RECORD: &str = "record";
 
 // A word more.
