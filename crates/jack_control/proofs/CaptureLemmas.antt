@@ -11,7 +11,6 @@ use Rattle.session_model.specs.WaveOpening.{Opened, opened, wave_in}
 use Rattle.wave_pcm.specs.Readings.{AreBytes}
 use Rattle.jack_control.specs.declared.status.Difference.{Difference}
 use Rattle.jack_control.specs.declared.status.Status.{Status}
-use Rattle.jack_control.specs.Answers.{HasOwnFault}
 use Rattle.jack_control.specs.Captures.{CaptureStatus, IsOpened, status_of_wave}
 use Rattle.jack_control.specs.Inputs.{difference_in, Files, IfBytes, IsBadWave, IsDifferent}
 
@@ -73,13 +72,3 @@ wave-fault-told files name left header NoData status g h e = subst (CaptureStatu
 wave-fault-told files name left header (Ends place) status g h e = subst (CaptureStatus files name header) (sym e) (bad-told files name left (Ends place) g (h (λ same. cc same)))
 wave-fault-told files name left header Read status g h e = subst (CaptureStatus files name header) (sym e) tt
 wave-fault-told files name left header TooManyChunks status g h e = subst (CaptureStatus files name header) (sym e) (bad-told files name left TooManyChunks g (h (λ same. cc same)))
-
-pub own_wave : (fault : WaveFault) → HasOwnFault (status_of_wave fault)
-own_wave NotRiff = λ read. cc
-own_wave NotWave = λ read. cc
-own_wave NoFormat = λ read. cc
-own_wave (BadFormat field value) = λ read. cc
-own_wave NoData = λ read. cc
-own_wave (Ends place) = λ read. cc
-own_wave Read = tt
-own_wave TooManyChunks = λ read. cc

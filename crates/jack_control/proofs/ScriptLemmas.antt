@@ -1,16 +1,13 @@
 -- The script that was read of a file, or the status that it has.
-use Rattle.std.proofs.Common.{◌≡◌, ◌⊎◌, ℕ, List, Ok, Err, inl, inr, refl, subst, sym, take}
+use Rattle.std.proofs.Common.{◌≡◌, ◌⊎◌, ℕ, List, Ok, Err, inl, inr, subst, sym, take}
 use Rattle.std.specs.Prelude.{IfErr, IfOk, Option, Result}
-use Rattle.jack_types.specs.declared.scripts.Cause.{Cause}
-use Rattle.jack_types.specs.declared.scripts.Cause.TheVariants as kind
 use Rattle.jack_types.specs.declared.scripts.ScriptFault.{ScriptFault}
 use Rattle.session_model.specs.Grammar.{Spells}
 use Rattle.session_model.specs.Scripts.{Script}
 use Rattle.jack_control.specs.declared.status.Status.{Status}
 use Rattle.jack_control.specs.declared.status.Status.TheVariants.{BadScript, NoMemory}
-use Rattle.jack_control.specs.Answers.{HasOwnFault}
 use Rattle.jack_control.specs.Inputs.{Files, IfBytes, IsBadScript, IsFaulty, IsScriptOf}
-use Rattle.jack_control.specs.Scripts.{IsRead, ScriptStatus, status_of_cause, status_of_script}
+use Rattle.jack_control.specs.Scripts.{IsRead, ScriptStatus}
 use Rattle.jack_control.proofs.InputLemmas.{if_bytes_map}
 
 -- what the first bytes of a file spell is the file's script
@@ -34,21 +31,3 @@ fault-told (Err status) files name bytes h (inl none) = subst (ScriptStatus file
 fault-told (Err status) files name bytes h (inr told) =
     subst (ScriptStatus files name) (sym told.1)
     (if_bytes_map files name (λ whole. bytes ≡ take 1048577 whole) (λ whole. IsBadScript whole told.0) (λ whole e. subst (λ (read : List ℕ). IsFaulty read told.0) e told.2) h)
-
--- ---- a fault of the bytes
-
-own-of : (cause : Cause) (fault : ScriptFault) → fault.cause ≡ cause → HasOwnFault (status_of_cause cause fault)
-own-of kind.Header fault is = λ memory. cc
-own-of kind.Unknown fault is = λ memory. cc
-own-of kind.Words fault is = λ memory. cc
-own-of kind.Number fault is = λ memory. cc
-own-of (kind.Range given least most) fault is = λ memory. cc
-own-of (kind.Name name) fault is = λ memory. cc
-own-of (kind.Choice given) fault is = λ memory. cc
-own-of (kind.Lane before given) fault is = λ memory. cc
-own-of (kind.TooMany many limit) fault is = λ memory. cc
-own-of kind.TooLong fault is = λ memory. cc
-own-of kind.Memory fault is = tt
-
-pub own_script : (fault : ScriptFault) → HasOwnFault (status_of_script fault)
-own_script fault = own-of fault.cause fault refl

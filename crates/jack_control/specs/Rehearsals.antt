@@ -1,6 +1,6 @@
 -- What a rehearsal answers.
 --     IsRehearsed n out out_after faults faults_after status      what stands on the sink
-use Rattle.std.specs.Prelude.{ℕ, ◌≤◌, List, [], length, take, ⊤, Option}
+use Rattle.std.specs.Prelude.{ℕ, ◌≤◌, List, [], length, take, Option}
 use Rattle.jack_host.specs.Bytes.{Gains}
 use Rattle.jack_host.specs.Causes.{Rose}
 use Rattle.rehearsal_model.specs.Rehearsals.{summary_text}

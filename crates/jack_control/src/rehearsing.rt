@@ -29,7 +29,7 @@ use std::alloc::{AllocError, Global};
 use std::sync::Wait;
 use std::thread::Threads;
 
-/// The names of its files in memory.
+// The names of its files: the script, the capture, the playback and the recorder's.
 const SCRIPT: &str = "script";
 
 const CAPTURE: &str = "capture";
