@@ -4,7 +4,7 @@
 --     looks-filled      a block was read
 --     looks-found      the file's end was found
 --     looks-over      or had been
-use Rattle.std.proofs.Common.{◌≡◌, ◌⊎◌, inl, inr, ℕ, ◌+◌, ◌*◌, ◌<◌, true, false, Bool, nat_lt, List, [], ◌∷◌, ◌++◌, length, drop, ℤ, Option, Some, None, refl, sym, ◌∙◌, ap, arith, true≢false, append-nil}
+use Rattle.std.proofs.Common.{◌≡◌, ◌⊎◌, inl, inr, ℕ, ◌*◌, ◌<◌, true, false, Bool, nat_lt, List, [], ◌∷◌, ◌++◌, length, drop, ℤ, Option, Some, None, refl, sym, ◌∙◌, ap, arith, true≢false, append-nil}
 use Rattle.std.specs.Prelude.{is_none, if◌then◌else◌}
 use Rattle.std.proofs.lemmas.Bool.{lt-ltb, ltb-true}
 use Rattle.std.proofs.lemmas.List.{drop_all, nil_from_length}

@@ -1,4 +1,4 @@
-use Rattle.std.proofs.Common.{◌<◌, ◌∙◌, false, true, inl, inr, sym, ap, arith, subst}
+use Rattle.std.proofs.Common.{◌<◌, ◌∙◌, true, inl, inr, sym, ap, arith, subst}
 use Rattle.record_ring.specs.Rings.{Sending}
 use Rattle.disk_player.specs.Insides.{LooksAhead, seen_of}
 use Rattle.disk_player.specs.Playing.{Playing}

@@ -1,4 +1,4 @@
-use Rattle.std.proofs.Common.{false, true, ◌∙◌, refl, sym, ap, arith}
+use Rattle.std.proofs.Common.{◌∙◌, refl, sym, ap, arith}
 use Rattle.disk_player.specs.Playing.{Playing}
 use Rattle.disk_player.proofs.StepLemmas.{breaks, breaks-first, goes-on, on-err, starts}
 use Rattle.disk_player.proofs.player.DiskPlayer.turn.Goals as goal
