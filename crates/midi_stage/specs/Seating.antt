@@ -4,6 +4,7 @@
 --     seat_for birth code benches      the bench for a client of this birth and kind
 --     with_owner birth place benches      the benches where the client owns that one
 --     SeatsAll nodes count seats before after      each MIDI client of the first so many nodes has its bench
+--     SeatsSome nodes seats before after      so it is up to a client that can have none
 use Rattle.std.specs.Prelude.{◌≡◌, ◌⊎◌, ◌<◌, ℕ, ◌+◌, Bool, false, ◌&&◌, ◌==◌, is_none, List, length, position, slice_index_or, slice_set, Option, Some, None, if◌then◌else◌}
 use Rattle.jack_types.specs.declared.kinds.Kind.{Kind}
 use Rattle.jack_types.specs.declared.kinds.Kind.TheVariants.{Midiplay, Midithru, Midilog}
@@ -54,6 +55,9 @@ abbrev pub HasSeat : List Owned → List Owned → Client → Option ℕ → Typ
 HasSeat before after client None = (midi_code client.kind ≡ None) × (after ≡ before)
 HasSeat before after client (Some place) = (code : ℕ) × (midi_code client.kind ≡ Some code) × (seat_for client.birth code before ≡ Some place) × (after ≡ with_owner client.birth (Some place) before)
 
+abbrev pub HasNoSeat : List Owned → Client → Type 0
+HasNoSeat benches client = (code : ℕ) × (midi_code client.kind ≡ Some code) × (seat_for client.birth code benches ≡ None)
+
 -- it owns it, and it is for its kind; all owners keep their benches, new ones have seats, and no client owns two
 pub record SeatsAll (nodes : List Client) (count : ℕ) (seats : List (Option ℕ)) (before after : List Owned) : Type 0 where
   pub as_many : length seats ≡ count
@@ -64,3 +68,10 @@ pub record SeatsAll (nodes : List Client) (count : ℕ) (seats : List (Option �
   pub seated : (b birth : ℕ) → owner_of after b ≡ Some birth → (owner_of before b ≡ Some birth) ⊎ ((owner_of before b ≡ None) × (n : ℕ) × (slice_index_or seats n None ≡ Some b))
   pub apart : ((b c birth : ℕ) → owner_of before b ≡ Some birth → owner_of before c ≡ Some birth → b ≡ c) → (b c birth : ℕ) → owner_of after b ≡ Some birth → owner_of after c ≡ Some birth → b ≡ c
   pub codes : (b : ℕ) → (slice_index_or after b no_owned).code ≡ (slice_index_or before b no_owned).code
+
+-- those before a client that can have no bench
+pub record SeatsSome (nodes : List Client) (seats : List (Option ℕ)) (before after : List Owned) : Type 0 where
+  pub count : ℕ
+  pub within : count < length nodes
+  pub seated : SeatsAll nodes count seats before after
+  pub refused : HasNoSeat after (client_at nodes count)

@@ -1,8 +1,8 @@
 //! Which bench plays which client.
 
-ghost use Rattle.std.specs.Prelude.{◌≡◌, ◌<◌, ◌≤◌, IfOk, IfSome, OnOk, length, position};
+ghost use Rattle.std.specs.Prelude.{◌≡◌, ◌<◌, ◌≤◌, IfOk, IfSome, IsErr, OnErr, OnOk, length, position};
 ghost use Rattle.std.specs.Vec.{vec_capacity};
-ghost use Rattle.midi_stage.specs.Seating.{HasSeat, SeatsAll, is_free, is_owned_by, midi_code, seat_for, with_owner};
+ghost use Rattle.midi_stage.specs.Seating.{HasNoSeat, HasSeat, SeatsAll, SeatsSome, is_free, is_owned_by, midi_code, seat_for, with_owner};
 
 use jack_types::{Client, Kind};
 
@@ -88,7 +88,9 @@ pub fn seat(benches: &mut [Owned], birth: u32, code: u32) -> Option<usize>
 
 /// The seat of a client: none for one that is no MIDI client.
 fn seat_client(benches: &mut [Owned], client: &Client) -> Result<Option<usize>, NoBench>
-    ensures { IfOk result (λ seat. HasSeat benches.old benches.new client.now seat) }
+    ensures ok { IfOk result (λ seat. HasSeat benches.old benches.new client.now seat) }
+    ensures refused { IsErr result → HasNoSeat benches.old client.now }
+    ensures err { OnErr result (benches.new ≡ benches.old) }
 {
     let Some(code) = code_of(client.kind) else {
         return Ok(None);
@@ -99,7 +101,7 @@ fn seat_client(benches: &mut [Owned], client: &Client) -> Result<Option<usize>, 
     }
 }
 
-/// Gives each MIDI client of these nodes its bench. There is room for all.
+/// Gives each MIDI client of these nodes its bench, up to one that can have none. There is room for all.
 pub fn seat_all(
     seats: &mut Vec<Option<usize>>,
     benches: &mut [Owned],
@@ -107,6 +109,7 @@ pub fn seat_all(
 ) -> Result<(), NoBench>
     requires { length nodes.now ≤ vec_capacity seats.old }
     ensures ok { OnOk result (SeatsAll nodes.now (length nodes.now) seats.new.items benches.old benches.new) }
+    ensures refused { IsErr result → SeatsSome nodes.now seats.new.items benches.old benches.new }
     ensures room { vec_capacity seats.new ≡ vec_capacity seats.old }
 {
     seats.clear();

@@ -15,7 +15,7 @@ pub loop-client-preserved : goal.loop-client-preserved
 loop-client-preserved c = record {
   seated = subst (λ items. SeatsAll c.args.nodes.now (c.loop-client.client-index + 1) items c.args.benches.now c.seat_client.new.benches) (sym c.push_reserved.ensures.items)
       (seats-more c.args.nodes.now c.loop-client.client-index c.loop-client.seats.items c.args.benches.now c.loop-client.benches c.seat_client.new.benches c.client-item.result
-      (c.client-item.is ∙ get_or_default c.args.nodes.now c.loop-client.client-index c.client-item.result system_entry c.loop-client-test.true) c.loop-client.invariant.seated c.in_ok-seat.seat c.in_ok-seat.ensures);
+      (c.client-item.is ∙ get_or_default c.args.nodes.now c.loop-client.client-index c.client-item.result system_entry c.loop-client-test.true) c.loop-client.invariant.seated c.in_ok-seat.seat c.in_ok-seat.ensures.ok);
   room = c.push_reserved.ensures.capacity ∙ c.loop-client.invariant.room;
 }
 
