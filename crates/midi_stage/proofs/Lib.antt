@@ -1,5 +1,6 @@
 mod HeardLemmas
 mod HearLemmas
 mod SeatLemmas
+mod SeatsLemmas
 mod StableLemmas
 mod ViewLemmas

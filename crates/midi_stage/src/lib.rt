@@ -11,5 +11,5 @@ pub mod sounds;
 #[cfg(test)]
 mod tests;
 
-pub use seating::Owned;
+pub use seating::{NoBench, Owned};
 pub use sounds::{Output, Sounds};

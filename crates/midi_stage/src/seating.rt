@@ -1,9 +1,10 @@
 //! Which bench plays which client.
 
-ghost use Rattle.std.specs.Prelude.{◌≡◌, ◌<◌, IfSome, length, position};
-ghost use Rattle.midi_stage.specs.Seating.{is_free, is_owned_by, midi_code, seat_for, with_owner};
+ghost use Rattle.std.specs.Prelude.{◌≡◌, ◌<◌, ◌≤◌, IfOk, IfSome, IsErr, OnErr, OnOk, length, position};
+ghost use Rattle.std.specs.Vec.{vec_capacity};
+ghost use Rattle.midi_stage.specs.Seating.{HasNoSeat, HasSeat, SeatsAll, SeatsSome, is_free, is_owned_by, midi_code, seat_for, with_owner};
 
-use jack_types::Kind;
+use jack_types::{Client, Kind};
 
 /// A bench: the number of the kind that it is for, and the birth of the client that owns it.
 #[derive(Clone, Copy, PartialEq, Eq, Debug)]
@@ -11,6 +12,10 @@ pub struct Owned {
     pub code: u32,
     pub owner: Option<u32>,
 }
+
+/// A client can have no bench.
+#[derive(Clone, Copy, PartialEq, Eq, Debug)]
+pub struct NoBench;
 
 /// The number of a MIDI kind.
 pub fn code_of(kind: Kind) -> Option<u32>
@@ -79,4 +84,38 @@ pub fn seat(benches: &mut [Owned], birth: u32, code: u32) -> Option<usize>
     let place = seat_for(benches, birth, code)?;
     benches[place].owner = Some(birth);
     Some(place)
+}
+
+/// The seat of a client: none for one that is no MIDI client.
+fn seat_client(benches: &mut [Owned], client: &Client) -> Result<Option<usize>, NoBench>
+    ensures ok { IfOk result (λ seat. HasSeat benches.old benches.new client.now seat) }
+    ensures refused { IsErr result → HasNoSeat benches.old client.now }
+    ensures err { OnErr result (benches.new ≡ benches.old) }
+{
+    let Some(code) = code_of(client.kind) else {
+        return Ok(None);
+    };
+    match seat(benches, client.birth, code) {
+        Some(place) => Ok(Some(place)),
+        None => Err(NoBench),
+    }
+}
+
+/// Gives each MIDI client of these nodes its bench, up to one that can have none. There is room for all.
+pub fn seat_all(
+    seats: &mut Vec<Option<usize>>,
+    benches: &mut [Owned],
+    nodes: &[Client],
+) -> Result<(), NoBench>
+    requires { length nodes.now ≤ vec_capacity seats.old }
+    ensures ok { OnOk result (SeatsAll nodes.now (length nodes.now) seats.new.items benches.old benches.new) }
+    ensures refused { IsErr result → SeatsSome nodes.now seats.new.items benches.old benches.new }
+    ensures room { vec_capacity seats.new ≡ vec_capacity seats.old }
+{
+    seats.clear();
+    for client in nodes {
+        let seat = seat_client(benches, client)?;
+        seats.push_reserved(seat);
+    }
+    Ok(())
 }
