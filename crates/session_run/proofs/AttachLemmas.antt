@@ -236,7 +236,7 @@ module _ (parts : Parts) (is : IsAttaching parts) where
         next-recorder = record {
           attaching = λ e. record {
             served = is.served;
-              new = new_still;
+            new = new_still;
             fresh = record { rings = is.fresh.rings; getting = subst (All (λ (got : Getting). got.least ≡ 0)) (sym getting_same) is.fresh.getting };
             formats = map-kept (λ (q : Recording). q.format) parts.recorders i r started here refl ∙ is.formats;
             playback = record { begun = λ h. is.playback.begun (omega (arith, next)); none = λ h. absurd (omega (arith, h)) };

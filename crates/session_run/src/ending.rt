@@ -1,7 +1,6 @@
 //! How a session ends, and how its stores and its capture come out.
 
 use crate::closing::{close_playback, close_recorders, take_recorded};
-use session_threads::SessionFault;
 use crate::session::Session;
 use client_kinds::Guest;
 use control_desk::Desk;
@@ -9,6 +8,7 @@ use cycle_driver::Driver;
 use jack_host::{Source, Store};
 use serial_laws::endings::an_end_is_whole;
 use serial_laws::faults::an_end_that_fails_leaves_fronts;
+use session_threads::SessionFault;
 use wave_pcm::Wave;
 
 impl<S: Source, W: Store, G: Guest> Session<S, W, G> {

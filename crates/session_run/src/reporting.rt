@@ -15,7 +15,6 @@ ghost use Rattle.session_threads.specs.Insides.{seen};
 ghost use Rattle.recorder_files.specs.Recorders.{Recording};
 
 use crate::session::Session;
-use session_threads::Works;
 use client_kinds::Guest;
 use control_desk::laws::accepted_of_legal;
 use cycle_driver::Driver;
@@ -23,6 +22,7 @@ use jack_host::{Failed, Sink, Source, Store, WriteFailed};
 use jack_types::{Command, Entry, Kind, Overrun, Reply};
 use recorder_files::Recorder;
 use report_lines::{put_calls, put_cycles, put_end, put_meter, put_recorder, put_title};
+use session_threads::Works;
 use task_laws::scripts::kinds_are_of_the_script;
 
 /// Puts the line of the meter that a call opened, if it opened one.
