@@ -6,6 +6,7 @@ use jack_control::Status;
 use jack_host::{MemoryHost, MemorySink};
 use rehearsals::Rehearsal;
 use std::process::Abort;
+use std::sync::Wait;
 use std::test::Fail;
 use std::thread::Threads;
 
@@ -19,7 +20,7 @@ end
 ";
 
 // Runs the words over a host without files.
-fn told<R: Threads + Sync + AllocGlobal>(rt: &R, words: &[&str]) -> Result<Played, Fail> {
+fn told<R: Threads + Wait + Sync + AllocGlobal>(rt: &R, words: &[&str]) -> Result<Played, Fail> {
     let mut host = MemoryHost::new(rt.alloc());
     let mut out = MemorySink::new(rt.alloc());
     let status = run(rt, words, &mut host, &mut out, Vec::new(rt.alloc()))?;
@@ -49,7 +50,10 @@ fn a_sink_that_fails_has_no_line(rt: HostRuntime) -> Result<(), Fail> {
 }
 
 // The words name no rehearsal.
-fn refused<R: Threads + Sync + AllocGlobal + Abort>(rt: &R, words: &[&str]) -> Result<(), Fail> {
+fn refused<R: Threads + Wait + Sync + AllocGlobal + Abort>(
+    rt: &R,
+    words: &[&str],
+) -> Result<(), Fail> {
     let played = told(rt, words)?;
     assert_eq!(rt; played.status, Status::Words);
     has_out(rt, &played, "fault 2 words\n");
