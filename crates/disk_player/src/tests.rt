@@ -85,6 +85,14 @@ impl Disk {
     {
         self.consumer.get(&mut self.block)
     }
+
+    // One where the next is a block.
+    fn counted(&mut self) -> u32
+        requires room { self.old.block.samples.room ≡ self.old.consumer.samples }
+        ensures room { self.new.block.samples.room ≡ self.new.consumer.samples }
+    {
+        if self.get() == Got::Block { 1 } else { 0 }
+    }
 }
 
 // The next block has these samples.
@@ -152,12 +160,10 @@ fn blocks_put(alloc: Global, refused: u32) -> Result<Option<(bool, u32)>, Fail> 
         return Ok(None);
     };
     let failed = disk.player.turn(2).is_err();
-    let mut count: u32 = 0;
-    for _ in 0..3 {
-        if disk.get() == Got::Block {
-            count = count.saturating_add(1);
-        }
-    }
+    let first = disk.counted();
+    let second = disk.counted();
+    let third = disk.counted();
+    let count = first.saturating_add(second).saturating_add(third);
     Ok(Some((failed, count)))
 }
 
