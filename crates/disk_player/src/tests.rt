@@ -77,7 +77,7 @@ impl Disk {
         }
     }
 
-    // The next block, and its samples where it is one.
+    // What the ring has next; a block comes into this one.
     fn get(&mut self) -> Got
         requires room { self.old.block.samples.room ≡ self.old.consumer.samples }
         ensures going { self.new.player.failed ≡ self.old.player.failed }
