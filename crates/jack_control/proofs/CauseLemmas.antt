@@ -1,5 +1,5 @@
 -- Why a play failed.
---     ok-known, ok-behind, err-any      what is known of a result
+--     ok-known, ok-behind, err-behind, err-any      what is known of a result
 --     rose-handed      a fault of the capture, which was handed back
 --     rose-written      a fault of a file
 use Rattle.std.proofs.Common.{◌≡◌, ℕ, ◌≤◌, ◌⊎◌, inl, inr, Bool, false, List, Result, Ok, Err, is_ok, OnErr, OnOk, sym, ◌∙◌, arith, true≢false}
@@ -16,6 +16,10 @@ ok-known (Err e) P is held = absurd (true≢false (sym is))
 pub ok-behind : {T E : Type 0} (r : Result T E) {P Q : Type 0} → (P → Q) → OnOk r P → OnOk r Q
 ok-behind (Ok x) f held = f held
 ok-behind (Err e) f held = tt
+
+pub err-behind : {T E : Type 0} (r : Result T E) {P Q : Type 0} → (P → Q) → OnErr r P → OnErr r Q
+err-behind (Ok x) f held = tt
+err-behind (Err e) f held = f held
 
 pub err-any : {T E : Type 0} (r : Result T E) {P : Type 0} → P → OnErr r P
 err-any (Ok x) held = tt

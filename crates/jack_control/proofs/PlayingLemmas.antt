@@ -4,6 +4,7 @@
 --     MadeAll, made-all      all files were made
 --     all-held, made-behind      what is so behind that
 --     status-either, was-read, was-write, one-failed      whose fault it was
+--     come-none, come-ran, come-ended      how far it came
 --     cut-begun, cut-broken, cut-whole      of the stores, where making files failed, where the run or the end failed, and where neither did
 --     explain-whole, serial-whole      what is printed explains them, and in serial mode it is the history of that
 use Rattle.std.proofs.Common.{◌≡◌, ◌⊎◌, inl, inr, ℕ, suc, ◌<◌, ◌≤◌, List, [], length, take, Option, Some, None, IsNone, is_some, Result, Ok, Err, is_err, OnOk, false, sym, ◌∙◌, ap, subst, arith, true≢false}
@@ -23,9 +24,10 @@ use Rattle.recorder_files.specs.Recorders.{Recording, Stored, held_in}
 use Rattle.run_laws.proofs.PlaceLemmas.{some_at}
 use Rattle.run_laws.specs.Runs.{AtPhase}
 use Rattle.run_laws.specs.Sessions.{IsGiven, Session, printed_of}
-use Rattle.run_laws.specs.Told.{Ends, Runs, StandsSoFar, text_in}
+use Rattle.run_laws.specs.Told.{Ends, HasLists, Runs, StandsSoFar, text_in}
 use Rattle.serial_laws.specs.Faults.{StandsInSerial}
 use Rattle.serial_laws.proofs.FrontLemmas.{KeptAreAll, PlayedIsAll}
+use Rattle.thread_faults.specs.Coming.{HasCome}
 use Rattle.session_threads.specs.Parts.{AreLater, IsLater, OneRose, Parts, bytes_of, session_of, stores_in, told_of}
 use Rattle.session_threads.specs.declared.faults.SessionFault.{SessionFault}
 use Rattle.session_threads.specs.declared.faults.SessionFault.TheVariants.{Read, Write}
@@ -73,6 +75,14 @@ out-behind files names before after out later = record {
       out-later files name was.0 store (out.each i name was.0 named was.1) (later.each i was.0 store was.1 is);
 }
 
+-- nothing was called, and no cycle begun
+come-none : (script : Script) (history : List Entry) (numbers : List ℕ) → history ≡ [] → numbers ≡ [] → HasCome script history numbers
+come-none script history numbers none no_cycles = record {
+  legal = subst (LegalSoFar script) (sym none) (LegalSoFar-none script);
+  rising = λ i j d order inside. let size = ap length no_cycles in absurd (omega (arith, inside, size));
+  within = λ k number turn at of. let size = ap length no_cycles in let inside = slice_get_within numbers k number at in absurd (omega (arith, inside, size));
+}
+
 -- a file could not be made, or begun: nothing was run
 pub cut-begun : (parts later : Parts) (stores : List Stored) → IsAttaching parts → AreFronts parts stores → later.desk ≡ parts.desk → HasFiles parts later → (given : Given) → IsGiven (session_of parts) given
     → HaveCut given (printed_of (session_of later)) stores
@@ -81,13 +91,25 @@ cut-begun parts later stores attaching begun desk same given is = record {
   so_far = λ some. record {
     kept = 0;
     came = record {
-      legal = subst (λ (history : List Entry). LegalSoFar given.script history) (sym (ap (λ (d : Desk). d.history) (desk ∙ attaching.new.new_desk))) (LegalSoFar-none given.script);
+      come = come-none given.script later.desk.history later.gear.numbers (ap (λ (d : Desk). d.history) (desk ∙ attaching.new.new_desk)) (ap (λ (g : Gear). g.numbers) same ∙ attaching.new.new_driver.numbers);
       low = omega arith;
       near = subst (λ (numbers : List ℕ). length numbers ≤ 1) (sym (ap (λ (g : Gear). g.numbers) same ∙ attaching.new.new_driver.numbers)) (omega arith);
     };
     fronts = begun-so_far parts stores begun given (printed_of (session_of later)) 0 is;
   };
 }
+
+come-ran : (parts : Parts) → HasLists (session_of parts) → HasCome parts.gear.script parts.desk.history parts.gear.numbers
+come-ran parts lists = record { legal = lists.legal.so_far; rising = lists.cycles.rising; within = lists.cycles.bounds }
+
+-- the run came to its end, and what it made stays behind an end that failed
+pub come-ended : (after between ended : Parts) → between.gear.script ≡ after.gear.script → HasLists (session_of between) → ended.desk.history ≡ between.desk.history → ended.gear.numbers ≡ between.gear.numbers
+    → HasCome after.gear.script ended.desk.history ended.gear.numbers
+come-ended after between ended script lists history numbers =
+    subst (λ (ns : List ℕ). HasCome after.gear.script ended.desk.history ns) (sym numbers)
+    (subst (λ (h : List Entry). HasCome after.gear.script h between.gear.numbers) (sym history)
+    (subst (λ (s : Script). HasCome s between.desk.history between.gear.numbers) script
+    (come-ran between lists)))
 
 -- ---- the causes of a session's fault
 
@@ -145,7 +167,7 @@ module _ (old new : Option Files) (names records : List (List ℕ)) (before afte
     -- the run failed, or the end
     pub cut-broken : later.gear.script ≡ after.gear.script → (given : Given) → given.script ≡ after.gear.script
         → (IsNone after.gear.script.header.threads → StandsInSerial given (told_of later))
-        → (IsSome after.gear.script.header.threads → LegalSoFar after.gear.script later.desk.history × (kept : ℕ) × StandsSoFar kept (told_of later) given)
+        → (IsSome after.gear.script.header.threads → HasCome after.gear.script later.desk.history later.gear.numbers × (kept : ℕ) × StandsSoFar kept (told_of later) given)
         → HaveCut given (printed_of (session_of later)) (stores_in later)
     cut-broken same given is serial threads = record {
       serial = λ none. fronts-told later given held-behind (serial (subst (λ (s : Script). IsNone s.header.threads) is none));
@@ -153,7 +175,7 @@ module _ (old new : Option Files) (names records : List (List ℕ)) (before afte
           let far = threads (subst (λ (s : Script). IsSome s.header.threads) is some) in
           record {
             kept = far.1;
-            came = record { legal = subst (λ (s : Script). LegalSoFar s later.desk.history) (sym is) far.0; low = far.2.low; near = far.2.near };
+            came = record { come = subst (λ (s : Script). HasCome s later.desk.history later.gear.numbers) (sym is) far.0; low = far.2.low; near = far.2.near };
             fronts = fronts-so_far later given far.1 held-behind (many ∙ recorders-held ∙ ap (λ (s : Script). length s.header.recorders) (sym same)) far.2;
           };
     }
@@ -187,10 +209,10 @@ module _ (old new : Option Files) (names records : List (List ℕ)) (before afte
       all-cycles : run (session_of ended).driver ≡ length (turns given.script)
       all-cycles = ap (λ (printed : Printed). length printed.numbers) ends-here.printed ∙ runs.lists.cycles.each ∙ ap (λ (s : Script). length (turns s)) script-here
 
-      legal-whole : LegalSoFar given.script (printed_of (session_of ended)).history
-      legal-whole =
-          subst (λ (printed : Printed). LegalSoFar given.script printed.history) (sym ends-here.printed)
-          (subst (λ (s : Script). LegalSoFar s between.desk.history) script-here runs.lists.legal.so_far)
+      come-whole : HasCome given.script (printed_of (session_of ended)).history (printed_of (session_of ended)).numbers
+      come-whole =
+          subst (λ (printed : Printed). HasCome given.script printed.history printed.numbers) (sym ends-here.printed)
+          (subst (λ (s : Script). HasCome s between.desk.history between.gear.numbers) script-here (come-ran between runs.lists))
 
       pub cut-whole : PlayedIsAll → KeptAreAll → HaveCut given (printed_of (session_of ended)) (stores_in ended)
       cut-whole played kept = record {
@@ -200,7 +222,7 @@ module _ (old new : Option Files) (names records : List (List ℕ)) (before afte
             (fronts-ended given (session_of between) (session_of ended) ends-here (serial-printed serial) (as-many ∙ ap (λ (s : Script). length s.header.recorders) (sym here.own.script))));
         so_far = λ some. record {
           kept = run (session_of ended).driver;
-          came = record { legal = legal-whole; low = omega arith; near = omega arith };
+          came = record { come = come-whole; low = omega arith; near = omega arith };
           fronts = fronts-so_far ended given (run (session_of ended).driver) (held-behind ended goes many) (many ∙ recorders-held ∙ ap (λ (s : Script). length s.header.recorders) (sym (script ∙ runs.script)))
               (subst (λ (s : Session). StandsSoFar (run (session_of ended).driver) s given) (sym told)
               (ended-so_far played kept given (session_of between) (session_of ended) ends-here all-cycles (as-many ∙ ap (λ (s : Script). length s.header.recorders) (sym (script ∙ runs.script)))));

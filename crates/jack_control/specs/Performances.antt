@@ -5,8 +5,11 @@
 --     Explain given printed stores report      whatever bytes the stores have, what is printed explains them and the report
 --     HasHistory files play history      in serial mode the history is that of serial mode, of the script that the files give
 --     MadeSome old new names stores      so many of the names were made
-use Rattle.std.specs.Prelude.{◌≡◌, ℕ, zero, suc, List, ◌∷◌, map, take, slice_get, Option, Some, IsNone, IsSome}
+--     CutsReport ended out out_after faults faults_after report      a report that was not put out, or not whole
+use Rattle.std.specs.Prelude.{◌≡◌, ◌⊎◌, ℕ, zero, suc, List, [], ◌∷◌, map, take, slice_get, Option, Some, IsNone, IsSome}
 use Rattle.jack_types.specs.declared.replies.Entry.{Entry}
+use Rattle.jack_host.specs.Bytes.{Gains}
+use Rattle.jack_host.specs.Causes.{Rose}
 use Rattle.play_words.specs.Words.{Play}
 use Rattle.session_model.specs.Explanations.{Explained, Given, Printed}
 use Rattle.session_model.specs.Scripts.{Script}
@@ -61,3 +64,8 @@ pub record MadeSome (old new : Option Files) (names : List (List ℕ)) (stores :
   pub made : ℕ
   pub out : AreOut new (take made names) stores
   pub touches : TouchesOnly old new (take made names)
+
+-- nothing was put out; or this holds, the sink's count rose, and it has a front of the report
+abbrev pub CutsReport : Type 0 → Option (List ℕ) → Option (List ℕ) → ℕ → ℕ → List ℕ → Type 0
+CutsReport ended out out_after faults faults_after report =
+    Gains out out_after [] ⊎ (ended × Rose faults faults_after × ((front : ℕ) × Gains out out_after (take front report)))

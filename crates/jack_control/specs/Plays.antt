@@ -2,14 +2,14 @@
 --     IsExplained files new out out_after scores play      an ended play: what is written is explained by the one history that is printed
 --     PlaybackSoFar, RecordSoFar      fronts of what so many cycles of a history gave
 --     IsCut ..      one that failed when its files were made, or before
-use Rattle.std.specs.Prelude.{◌≡◌, ◌⊎◌, ℕ, ◌+◌, ◌≤◌, ◌∷◌, List, [], length, map, slice_get, ⊤, Option, Some, None, IsNone, IsSome, Contains}
+--     IsOutCut ..      what stands on the sink where a file or the report could not be written
+use Rattle.std.specs.Prelude.{◌≡◌, ◌⊎◌, ℕ, ◌+◌, ◌≤◌, ◌∷◌, List, [], length, map, slice_get, take, ⊤, Option, Some, None, IsNone, IsSome, Contains}
 use Rattle.jack_types.specs.declared.kinds.Score.{Score}
 use Rattle.jack_host.specs.Bytes.{Gains}
 use Rattle.jack_host.specs.Causes.{Rose}
 use Rattle.jack_host.specs.Files.{bytes_under, SameFiles}
 use Rattle.jack_host.specs.Told.{BothTold}
 use Rattle.session_model.specs.Explanations.{Explained, Given, Printed, Written, course_of, overruns_of}
-use Rattle.session_model.specs.Histories.{LegalSoFar}
 use Rattle.session_model.specs.Playback.{playback_format}
 use Rattle.session_model.specs.Recorders.{recorder_format}
 use Rattle.session_model.specs.Serial.{serial_printed}
@@ -17,6 +17,7 @@ use Rattle.wave_write.specs.Tapes.{HasFront}
 use Rattle.disk_recorder.specs.Recordings.{samples_of_blocks}
 use Rattle.driver_laws.specs.Keeping.{kept_blocks, played_so_far}
 use Rattle.serial_laws.specs.Faults.{playback_front, record_front}
+use Rattle.thread_faults.specs.Coming.{HasCome}
 use Rattle.play_words.specs.Words.{Play}
 use Rattle.jack_control.specs.Inputs.{Files, IsInput}
 
@@ -67,9 +68,9 @@ abbrev pub RecordSoFar : Given → Printed → ℕ → ℕ → Option (List ℕ)
 RecordSoFar given printed kept recorder =
     HasFront (recorder_format (course_of given printed) recorder) (samples_of_blocks (kept_blocks (course_of given printed) (overruns_of printed recorder) recorder kept))
 
--- how far a play came: a history that the script allows, and the cycles of it that were played, all but the last at least
+-- how far a play came: calls and cycles that the script allows, and how many of the cycles were played, all but the last at least
 pub record CameTo (given : Given) (printed : Printed) (kept : ℕ) : Type 0 where
-  pub legal : LegalSoFar given.script printed.history
+  pub come : HasCome given.script printed.history printed.numbers
   pub low : kept ≤ length printed.numbers
   pub near : length printed.numbers ≤ kept + 1
 
@@ -97,6 +98,13 @@ IsCut None new scores play = ⊤
 IsCut (Some files) None scores play = ⊥
 IsCut (Some files) (Some new) scores play = SameFiles (Some files) (Some new) ⊎ Cuts files new scores play
 
+-- the sink has a front of the report that explains what the play left: its files are whole, as the report would have told
+pub record PutsFront (files new : Option Files) (out out_after : Option (List ℕ)) (scores : List Score) (play : Play) : Type 0 where
+  pub report : List ℕ
+  pub explained : IsExplained files new (Some []) (Some report) scores play
+  pub front : ℕ
+  pub puts : Gains out out_after (take front report)
+
 -- the sink is as it was, or its count rose and it has a front of the report
-abbrev pub IsOutCut : Option (List ℕ) → Option (List ℕ) → ℕ → ℕ → Type 0
-IsOutCut out out_after faults faults_after = Gains out out_after [] ⊎ (Rose faults faults_after × ((front : List ℕ) × Gains out out_after front))
+abbrev pub IsOutCut : Option Files → Option Files → Option (List ℕ) → Option (List ℕ) → ℕ → ℕ → List Score → Play → Type 0
+IsOutCut files new out out_after faults faults_after scores play = Gains out out_after [] ⊎ (Rose faults faults_after × PutsFront files new out out_after scores play)

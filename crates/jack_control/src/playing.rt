@@ -13,7 +13,7 @@ ghost use Rattle.wave_pcm.specs.Readings.{SameReading};
 ghost use Rattle.jack_control.specs.Files.{AreOut, OneFailed};
 ghost use Rattle.jack_control.specs.Inputs.{Files as AllFiles};
 ghost use Rattle.jack_control.specs.Openings.{IsSessionOf};
-ghost use Rattle.jack_control.specs.Performances.{Explain, HaveCut, MadeSome, status_of_session};
+ghost use Rattle.jack_control.specs.Performances.{CutsReport, Explain, HaveCut, MadeSome, status_of_session};
 ghost use Rattle.jack_control.specs.Plays.{IsCut, IsExplained, IsOutCut, TouchesOnly, made_by};
 ghost use Rattle.play_words.specs.Words.{names_of};
 ghost use Rattle.run_laws.specs.Told.{text_in};
@@ -95,7 +95,7 @@ fn report<K: Sink, S: Source, W: Store, G: Guest>(
 ) -> Result<(), Status>
     requires { HasEnded session.now }
     ensures put { OnOk result (IsTrue handed × Gains (K.content out.old) (K.content out.new) (text_in (session_of session.now))) }
-    ensures cut { OnErr result (IsOutCut (K.content out.old) (K.content out.new) (K.faults out.old) (K.faults out.new)) }
+    ensures cut { OnErr result (CutsReport (IsTrue handed) (K.content out.old) (K.content out.new) (K.faults out.old) (K.faults out.new) (text_in (session_of session.now))) }
     ensures cause { OnErr result ((handed ≡ false) ⊎ Rose (K.faults out.old) (K.faults out.new)) }
     ensures status { IfErr result (λ status. status ≡ Status.WriteFault) }
     ensures later { K.faults out.old ≤ K.faults out.new }
@@ -123,7 +123,7 @@ fn conclude<K: Sink, S: Source, W: Store, G: Guest>(
     ensures fault { IfErr result (λ status. (status ≡ Status.ReadFault) ⊎ (status ≡ Status.WriteFault)) }
     ensures read { IsErrOf result Status.ReadFault → IsErrOf performed Status.ReadFault × (out.new ≡ out.old) }
     ensures write { IsErrOf result Status.WriteFault → IsErrOf performed Status.WriteFault ⊎ (handed ≡ false) ⊎ Rose (K.faults out.old) (K.faults out.new) }
-    ensures cut { OnErr result (IsOutCut (K.content out.old) (K.content out.new) (K.faults out.old) (K.faults out.new)) }
+    ensures cut { OnErr result (CutsReport (IsOk performed × IsTrue handed) (K.content out.old) (K.content out.new) (K.faults out.old) (K.faults out.new) (text_in (session_of session.now))) }
     ensures later { K.faults out.old ≤ K.faults out.new }
     ensures kept { OnOk result (K.faults out.new ≡ K.faults out.old) }
 {
@@ -160,7 +160,7 @@ pub(crate) fn play_session<
     ensures fault { IfErr result (λ status. (status ≡ Status.ReadFault) ⊎ (status ≡ Status.WriteFault)) }
     ensures read { IsErrOf result Status.ReadFault → Rose (H.read_faults host.old) (H.read_faults host.new) × (out.new ≡ out.old) }
     ensures write { IsErrOf result Status.WriteFault → Rose (H.write_faults host.old) (H.write_faults host.new) ⊎ Rose (K.faults out.old) (K.faults out.new) }
-    ensures out_cut { IsErrOf result Status.WriteFault → IsOutCut (K.content out.old) (K.content out.new) (K.faults out.old) (K.faults out.new) }
+    ensures out_cut { OnErr result ((files : Option AllFiles) (scores : List ScoreValue) → SameFiles files (H.files host.old) → IsSessionOf files scores names.now session → IsOutCut files (H.files host.new) (K.content out.old) (K.content out.new) (K.faults out.old) (K.faults out.new) scores names.now) }
     ensures others { TouchesOnly (H.files host.old) (H.files host.new) (made_by names.now) }
     ensures later { (H.read_faults host.old ≤ H.read_faults host.new) × (H.write_faults host.old ≤ H.write_faults host.new) × (K.faults out.old ≤ K.faults out.new) }
     ensures reads { OnOk result (session.gear.capture.reading.faults ≡ 0 → H.read_faults host.new ≡ H.read_faults host.old) }

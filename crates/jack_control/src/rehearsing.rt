@@ -7,7 +7,7 @@ ghost use Rattle.play_words.specs.Words.{IsPlay, names_of};
 ghost use Rattle.rehearsal_model.specs.Rehearsals.{summary_text};
 ghost use Rattle.session_model.specs.Soundness.{Apart};
 ghost use Rattle.jack_control.specs.Performances.{HasHistory};
-ghost use Rattle.jack_control.specs.Plays.{IsExplained, IsOutCut};
+ghost use Rattle.jack_control.specs.Plays.{IsExplained};
 ghost use Rattle.jack_control.specs.Rehearsals.{IsRehearsed};
 ghost use Rattle.jack_control.specs.Rehearsing.{HasFiles, IsDone, rehearsal_play};
 
@@ -148,7 +148,6 @@ pub(crate) fn rehearse<T: Threads + Sync, R: Wait + Sync, K: Sink, G: Guest + Se
     ensures rehearsed { IsRehearsed number (K.content out.old) (K.content out.new) (K.faults out.old) (K.faults out.new) result }
     ensures done { IsDone result }
     ensures write { result ≡ Status.WriteFault → Rose (K.faults out.old) (K.faults out.new) }
-    ensures out_cut { result ≡ Status.WriteFault → IsOutCut (K.content out.old) (K.content out.new) (K.faults out.old) (K.faults out.new) }
     ensures silent { result ≡ Status.NoMemory → out.new ≡ out.old }
     ensures later { K.faults out.old ≤ K.faults out.new }
     ensures puts { result ≡ Status.Ok → K.faults out.new ≡ K.faults out.old }

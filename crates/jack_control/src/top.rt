@@ -47,7 +47,7 @@ fn play<T: Threads + Sync, R: Wait + Sync, H: Host, K: Sink, G: Guest + Send, A:
         Rose (H.write_faults host.old) (H.write_faults host.new) ⊎ Rose (K.faults out.old) (K.faults out.new) }
     ensures input { IsErrOf result Status.WriteFault → IfInput (H.files host.old) (map G.score guests.items) names.now }
     ensures cut { IfErr result (λ status. (status ≡ Status.ReadFault) ⊎ (status ≡ Status.WriteFault) → IsCut (H.files host.old) (H.files host.new) (map G.score guests.items) names.now) }
-    ensures out_cut { IsErrOf result Status.WriteFault → IsOutCut (K.content out.old) (K.content out.new) (K.faults out.old) (K.faults out.new) }
+    ensures out_cut { IsErrOf result Status.WriteFault → IsOutCut (H.files host.old) (H.files host.new) (K.content out.old) (K.content out.new) (K.faults out.old) (K.faults out.new) (map G.score guests.items) names.now }
     ensures early { IfErr result (λ status. IsEarly status → SameFiles (H.files host.old) (H.files host.new) × (H.write_faults host.new ≡ H.write_faults host.old)) }
     ensures silent { IfErr result (λ status. status ≢ Status.WriteFault → out.new ≡ out.old) }
     ensures others { TouchesOnly (H.files host.old) (H.files host.new) (made_by names.now) }
@@ -114,7 +114,10 @@ pub fn jackd<T: Threads + Sync, R: Wait + Sync, H: Host, K: Sink, G: Guest + Sen
 
     // Behind a fault of reading or writing each file that was made has a front of what was to be written.
     ensures cut { (result ≡ Status.ReadFault) ⊎ (result ≡ Status.WriteFault) → (play : Play) → IsPlay (map string_bytes words.now) play → IsCut (H.files host.old) (H.files host.new) (map G.score guests.items) play }
-    ensures out_cut { result ≡ Status.WriteFault → IsOutCut (K.content out.old) (K.content out.new) (K.faults out.old) (K.faults out.new) }
+
+    // Where the report could not be put out to its end, what was put is a front of the report that explains the files.
+    ensures out_cut { result ≡ Status.WriteFault → (play : Play) → IsPlay (map string_bytes words.now) play →
+        IsOutCut (H.files host.old) (H.files host.new) (K.content out.old) (K.content out.new) (K.faults out.old) (K.faults out.new) (map G.score guests.items) play }
 
     // Before a file is made nothing is touched, and the line of a fault is put out.
     ensures early { IsEarly result → SameFiles (H.files host.old) (H.files host.new) × (H.write_faults host.new ≡ H.write_faults host.old) }
@@ -168,7 +171,6 @@ fn rehearse_named<T: Threads + Sync, R: Wait + Sync, K: Sink, G: Guest + Send, A
     ensures lawful { result ≢ Status.Words → (n : ℕ) × IsRehearse (map string_bytes words.now) n }
     ensures own { HasOwnFault result }
     ensures write { result ≡ Status.WriteFault → Rose (K.faults out.old) (K.faults out.new) }
-    ensures out_cut { result ≡ Status.WriteFault → IsOutCut (K.content out.old) (K.content out.new) (K.faults out.old) (K.faults out.new) }
     ensures line { HasLine result → PutsFault (K.content out.old) (K.content out.new) (K.faults out.old) (K.faults out.new) result }
     ensures silent { result ≡ Status.NoMemory → out.new ≡ out.old }
     ensures later { K.faults out.old ≤ K.faults out.new }

@@ -41,6 +41,7 @@ impl<S: Source, W: Store, G: Guest> Session<S, W, G> {
         ensures order { OnErr result (StopsInOrder self.old self.new) }
         ensures recorders { length self.new.recorders ≡ length self.old.recorders }
         ensures desk { self.new.desk ≡ self.old.desk }
+        ensures numbers { self.new.gear.numbers ≡ self.old.gear.numbers }
         ensures script { self.new.gear.script ≡ self.old.gear.script }
         ensures capture { self.new.gear.capture ≡ self.old.gear.capture }
     {

@@ -15,12 +15,12 @@ impl<S: Source, W: Store + Send, G: Guest + Send> Session<S, W, G> {
     ghost use Rattle.std.specs.Prelude.{◌≡◌, ℕ, IsErrOf, IsNone, IsSome, OnErr, OnOk, length};
     ghost use Rattle.jack_host.specs.Causes.{Rose};
     ghost use Rattle.session_model.specs.Explanations.{Given};
-    ghost use Rattle.session_model.specs.Histories.{LegalSoFar};
     ghost use Rattle.wave_pcm.specs.Readings.{SameReading};
     ghost use Rattle.run_laws.specs.Sessions.{IsGiven};
     ghost use Rattle.run_laws.specs.SerialRuns.{SerialKept};
     ghost use Rattle.run_laws.specs.Told.{Runs, StandsSoFar};
     ghost use Rattle.serial_laws.specs.Faults.{StandsInSerial};
+    ghost use Rattle.thread_faults.specs.Coming.{HasCome};
     ghost use Rattle.session_threads.specs.Parts.{AreLater, OneRose, session_of, stores_in, told_of};
     ghost use Rattle.session_run.specs.Standings.{HasRun, IsReady};
 
@@ -42,7 +42,7 @@ impl<S: Source, W: Store + Send, G: Guest + Send> Session<S, W, G> {
         ensures kept { IsNone self.gear.script.header.threads → OnOk result.1 ((given : Given) → IsGiven (session_of self) given → SerialKept given (session_of result.0)) }
         ensures fault { IsNone self.gear.script.header.threads → OnErr result.1 ((given : Given) → IsGiven (session_of self) given → StandsInSerial given (told_of result.0)) }
         ensures so_far { IsSome self.gear.script.header.threads → OnErr result.1 ((kept : ℕ) × ((given : Given) → IsGiven (session_of self) given → StandsSoFar kept (told_of result.0) given)) }
-        ensures legal { IsSome self.gear.script.header.threads → OnErr result.1 (LegalSoFar result.0.gear.script result.0.desk.history) }
+        ensures come { IsSome self.gear.script.header.threads → OnErr result.1 (HasCome result.0.gear.script result.0.desk.history result.0.gear.numbers) }
         ensures script { result.0.gear.script ≡ self.gear.script }
         ensures stores { AreLater (stores_in self) (stores_in result.0) }
         ensures recorders { length result.0.recorders ≡ length self.recorders }

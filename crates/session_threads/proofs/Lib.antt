@@ -14,4 +14,3 @@ pub mod OutcomeLemmas
 pub mod PairedLemmas
 pub mod SegmentLemmas
 pub mod PhaseLemmas
-pub mod LegalLemmas

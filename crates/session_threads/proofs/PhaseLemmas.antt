@@ -6,6 +6,7 @@
 --     phase-whole, phase-fails      all of it
 --     ran-on, ran-at      one phase more was run
 --     stands-failed      what the stores hold behind one that failed
+--     come-failed      how far the session came with it
 --     read-between, write-between, stays-over      a cause of its fault, and what stays, from its front to its end
 use Rattle.std.proofs.Common.{◌≡◌, ℕ, zero, suc, ◌+◌, ◌<◌, ◌≤◌, Bool, [], length, slice_get, Some, IsSome, refl, sym, ◌∙◌, ap, subst, arith}
 use Rattle.std.proofs.Math.Seq.{take-length}
@@ -23,6 +24,7 @@ use Rattle.script_segments.specs.declared.lines.Segment.{Segment}
 use Rattle.serial_laws.specs.Faults.{told}
 use Rattle.serial_laws.specs.Steps.{IsSound}
 use Rattle.serial_laws.proofs.MeetLemmas.{IsSound-met}
+use Rattle.thread_faults.specs.Coming.{ComeBehindFault, HasCome}
 use Rattle.thread_faults.specs.Faults.{StandsUnfinished, ThreadFault}
 use Rattle.thread_laws.specs.Segments.{Rests, ThreadSegment}
 use Rattle.thread_rings.proofs.PartLemmas.{IsSound-grouped, IsSound-paced}
@@ -154,6 +156,11 @@ pub stands-failed : FailsWithFronts → UnfinishedFronts → (given : Given) (se
     → ThreadFault done many freewheel kept session (session_of parts) → HasOpenFiles parts → StandsSoFar kept (told_of parts) given
 stands-failed law unfinished given session parts done many kept freewheel at threads no_disks fault files =
     subst (λ (s : Session). StandsSoFar kept s given) (told-agrees parts files) (unfinished kept (told (session_of parts)) given (law given session (session_of parts) done many kept freewheel at threads no_disks fault))
+
+pub come-failed : ComeBehindFault → (session after : Session) (done kept : ℕ) (segment : Segment) → IsOfPhase session.script done segment → RanPhases session done → ThreadFault done segment.cycles segment.is_freewheel kept session after
+    → HasCome session.script after.desk.history after.driver.numbers
+come-failed law session after done kept segment of ran fault =
+    law session after done kept of.phase ran of.there (subst (λ (s : Segment). ThreadFault done s.cycles s.is_freewheel kept session after) of.is fault)
 
 -- ---- causes
 

@@ -4,13 +4,13 @@
 use Rattle.std.specs.Prelude.{◌≡◌, ℕ, IsErrOf, IsSome, List, OnErr, OnOk, Result, length}
 use Rattle.jack_host.specs.Causes.{Rose}
 use Rattle.session_model.specs.Explanations.{Given}
-use Rattle.session_model.specs.Histories.{LegalSoFar}
 use Rattle.session_model.specs.Scripts.{phases}
 use Rattle.run_laws.specs.Runs.{AtPhase, RanPhases}
 use Rattle.run_laws.specs.Told.{StandsSoFar}
 use Rattle.script_segments.specs.Segments.{segments as the_segments}
 use Rattle.script_segments.specs.declared.lines.Segment.{Segment}
 use Rattle.serial_laws.specs.Steps.{IsSound}
+use Rattle.thread_faults.specs.Coming.{HasCome}
 use Rattle.session_threads.specs.Insides.{Stays}
 use Rattle.session_threads.specs.Parts.{HasOpenFiles, OneRose, Parts, session_of, stores_in, told_of}
 use Rattle.session_threads.specs.declared.faults.SessionFault.{SessionFault}
@@ -30,7 +30,7 @@ pub record HasRunThreads (before after : Parts) (outcome : Result (Unit {0}) Ses
   pub ran : OnOk outcome (RanPhases (session_of after) (length (phases after.gear.script)))
   pub at_end : OnOk outcome ((given : Given) → AtPhase (session_of before) given 0 → AtPhase (session_of after) given (length (phases after.gear.script)))
   pub stands : OnErr outcome ((kept : ℕ) × ((given : Given) → AtPhase (session_of before) given 0 → StandsSoFar kept (told_of after) given))
-  pub legal : OnErr outcome (LegalSoFar after.gear.script after.desk.history)
+  pub come : OnErr outcome (HasCome after.gear.script after.desk.history after.gear.numbers)
   pub stays : Stays before after
   pub read : IsErrOf outcome Read → Rose before.gear.capture.reading.faults after.gear.capture.reading.faults
   pub write : IsErrOf outcome Write → OneRose (stores_in before) (stores_in after)

@@ -3,13 +3,13 @@
 ghost use Rattle.std.specs.Prelude.{◌≡◌, ◌≤◌, ℕ, IsErrOf, IsSome, IsTrue, OnErr, OnOk, Some, false, length, slice_get, suc};
 ghost use Rattle.jack_host.specs.Causes.{Rose};
 ghost use Rattle.session_model.specs.Explanations.{Given};
-ghost use Rattle.session_model.specs.Histories.{LegalSoFar};
 ghost use Rattle.session_model.specs.Scripts.{phases as the_phases};
 ghost use Rattle.control_desk.specs.Desks.{IsDone, cycles_before};
 ghost use Rattle.run_laws.specs.Runs.{AtPhase, RanPhases};
 ghost use Rattle.run_laws.specs.Told.{StandsSoFar};
 ghost use Rattle.script_segments.specs.Segments.{segments as the_segments};
 ghost use Rattle.serial_laws.specs.Steps.{IsSound};
+ghost use Rattle.thread_faults.specs.Coming.{HasCome};
 ghost use Rattle.thread_faults.specs.Faults.{ThreadFault};
 ghost use Rattle.thread_laws.specs.Segments.{ThreadSegment};
 ghost use Rattle.session_threads.specs.Insides.{ArePaired, Stays, held, parts_of, seen};
@@ -31,7 +31,9 @@ use script_segments::laws::segments_are_the_phases;
 use serial_laws::numbers::cycles_of_a_phase;
 use std::sync::Wait;
 use std::thread::Threads;
-use thread_faults::faults::{a_phase_that_fails_leaves_fronts, unfinished_files_have_fronts};
+use thread_faults::faults::{
+    a_phase_that_fails_leaves_fronts, a_session_comes_up_to_its_fault, unfinished_files_have_fronts,
+};
 use thread_rings::phases::a_phase_is_behind;
 
 /// Runs a phase: its `do` calls, and its segment. Behind the segment the rings' ends meet, and desk and driver do; where
@@ -136,7 +138,7 @@ fn run_phases<
     ensures ran { OnOk result.1 (RanPhases (seen result.0.works) (length (the_phases result.0.works.driver.script))) }
     ensures at { OnOk result.1 ((given : Given) → AtPhase (seen rig.works) given 0 → AtPhase (seen result.0.works) given (length (the_phases result.0.works.driver.script))) }
     ensures fault { OnErr result.1 ((kept : ℕ) × ((given : Given) → AtPhase (seen rig.works) given 0 → StandsSoFar kept (told_of (parts_of result.0.works)) given)) }
-    ensures legal { OnErr result.1 (LegalSoFar result.0.works.driver.script result.0.works.desk.history) }
+    ensures come { OnErr result.1 (HasCome result.0.works.driver.script result.0.works.desk.history result.0.works.driver.numbers) }
     ensures stays { Stays (parts_of rig.works) (parts_of result.0.works) }
     ensures read { IsErrOf result.1 SessionFault.Read → Rose rig.works.driver.capture.reading.faults result.0.works.driver.capture.reading.faults }
     ensures write { IsErrOf result.1 SessionFault.Write → OneRose (held rig.works) (held result.0.works) }
@@ -144,6 +146,7 @@ fn run_phases<
     segments_are_the_phases();
     a_phase_is_behind();
     a_phase_that_fails_leaves_fronts();
+    a_session_comes_up_to_its_fault();
     unfinished_files_have_fronts();
     let mut base = 0;
     for phase in 0..segments.len() {

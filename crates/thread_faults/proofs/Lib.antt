@@ -6,3 +6,5 @@ pub mod WheelLemmas
 pub mod PhaseLemmas
 pub mod EndLemmas
 pub mod CountLemmas
+pub mod BegunLemmas
+pub mod ComingLemmas

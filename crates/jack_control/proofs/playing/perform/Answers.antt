@@ -1,7 +1,6 @@
 use Rattle.std.proofs.Common.{◌∙◌, List, IsNone, IsSome, ap, inr, length, refl, subst, sym}
 use Rattle.jack_types.specs.declared.replies.Entry.{Entry}
 use Rattle.jack_host.specs.Causes.{Rose}
-use Rattle.session_model.specs.Histories.{LegalSoFar}
 use Rattle.session_model.specs.Scripts.{Script, phases}
 use Rattle.session_model.specs.Serial.{serial}
 use Rattle.wave_pcm.specs.Readings.{Reading, SameReading}
@@ -9,12 +8,13 @@ use Rattle.control_desk.specs.Desks.{Desk}
 use Rattle.cycle_laws.specs.Gears.{Gear, driver_of}
 use Rattle.driver_laws.specs.Drivers.{run}
 use Rattle.run_laws.specs.Runs.{AtPhase}
+use Rattle.thread_faults.specs.Coming.{HasCome}
 use Rattle.session_threads.specs.Parts.{session_of, stores_in}
 use Rattle.session_threads.proofs.OutcomeLemmas.{at-err, at-ok}
 use Rattle.session_threads.proofs.StoreLemmas.{later-trans}
 use Rattle.jack_control.specs.Plays.{made_by}
 use Rattle.jack_control.proofs.HandedLemmas.{err_of, ok_of}
-use Rattle.jack_control.proofs.PlayingLemmas.{cut-begun, cut-broken, cut-whole, explain-whole, given-made, made-all, made-behind, one-failed, out-behind, serial-whole, status-either, was-read, was-write}
+use Rattle.jack_control.proofs.PlayingLemmas.{come-ended, cut-begun, cut-broken, cut-whole, explain-whole, given-made, made-all, made-behind, one-failed, out-behind, serial-whole, status-either, was-read, was-write}
 use Rattle.jack_control.proofs.playing.perform.Goals as goal
 
 pub returns-then-is_err-clause-made : goal.returns-then-is_err-clause-made
@@ -56,7 +56,7 @@ returns-in-Err-clause-fronts g c given is none =
     (λ serial. at-err c.run-session.result.1 _ c.in-Err.is (c.run-session.ensures.fault serial) given (given-made c.args.session c.make_files.new.session c.make_files.ensures.same.gear given is))
     (λ threads.
     let far = at-err c.run-session.result.1 _ c.in-Err.is (c.run-session.ensures.so_far threads) in (
-      subst (λ (s : Script). LegalSoFar s c.run-session.result.0.desk.history) c.run-session.ensures.script (at-err c.run-session.result.1 _ c.in-Err.is (c.run-session.ensures.legal threads)),
+      subst (λ (s : Script). HasCome s c.run-session.result.0.desk.history c.run-session.result.0.gear.numbers) c.run-session.ensures.script (at-err c.run-session.result.1 _ c.in-Err.is (c.run-session.ensures.come threads)),
       far.0,
       far.1 given (given-made c.args.session c.make_files.new.session c.make_files.ensures.same.gear given is),
     ))
@@ -75,7 +75,7 @@ returns-in-Err-end-clause-fronts g c given is none =
     at-err c.end.result _ c.in-Err-end.is (c.end.ensures.fault (subst (λ (s : Script). IsNone s.header.threads) (sym c.run-session.ensures.script) serial)) given
     (at-ok c.run-session.result.1 _ c.in_default.is (c.run-session.ensures.kept serial) given here))
     (λ threads. (
-      subst (λ (history : List Entry). LegalSoFar c.make_files.new.session.gear.script history) (sym (ap (λ (d : Desk). d.history) c.end.ensures.desk)) (subst (λ (s : Script). LegalSoFar s c.run-session.result.0.desk.history) c.run-session.ensures.script (at-ok c.run-session.result.1 _ c.in_default.is c.run-session.ensures.runs).lists.legal.so_far),
+      come-ended c.make_files.new.session c.run-session.result.0 c.end.new.self c.run-session.ensures.script (at-ok c.run-session.result.1 _ c.in_default.is c.run-session.ensures.runs).lists (ap (λ (d : Desk). d.history) c.end.ensures.desk) c.end.ensures.numbers,
       run (driver_of c.run-session.result.0.gear),
       at-err c.end.result _ c.in-Err-end.is (c.end.ensures.so_far (subst (λ (s : Script). IsSome s.header.threads) (sym c.run-session.ensures.script) threads)) given
           (subst (λ (s : Script). AtPhase (session_of c.run-session.result.0) given (length (phases s))) (sym c.run-session.ensures.script) ((at-ok c.run-session.result.1 _ c.in_default.is c.run-session.ensures.runs).at_end given here)),

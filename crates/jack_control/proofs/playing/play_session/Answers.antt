@@ -1,11 +1,11 @@
-use Rattle.std.proofs.Common.{◌≡◌, List, ℕ, ◌∙◌, arith, sym, ap, subst, take}
+use Rattle.std.proofs.Common.{◌≡◌, inl, inr, List, [], ℕ, ◌∙◌, Some, arith, refl, sym, ap, subst, take}
 use Rattle.jack_host.specs.Bytes.{Gains}
 use Rattle.wave_pcm.specs.Readings.{Reading}
 use Rattle.run_laws.specs.Sessions.{printed_of}
 use Rattle.run_laws.specs.Told.{text_in}
 use Rattle.session_threads.specs.Parts.{session_of, stores_in}
 use Rattle.jack_control.specs.Plays.{made_by}
-use Rattle.jack_control.proofs.CauseLemmas.{err-any, ok-behind, ok-known, rose-handed, rose-written}
+use Rattle.jack_control.proofs.CauseLemmas.{err-any, err-behind, ok-behind, ok-known, rose-handed, rose-written}
 use Rattle.jack_control.proofs.CutLemmas.{apart-front, apart-take, cut, explained, others-kept}
 use Rattle.jack_control.proofs.playing.play_session.Goals as goal
 
@@ -36,6 +36,29 @@ returns-clause-cut g c =
     (λ files scores first is.
     cut scores c.args.names.now c.args.session (printed_of (session_of c.perform-session.result.0)) (stores_in c.perform-session.result.0) files (g.H.Host.files c.args.host.now) (g.H.Host.files c.perform-session.new.host) (g.H.Host.files c.hand_back-handed.new.host) (g.H.Host.files c.back.new.self) first
     (apart-front (made_by c.args.names.now) c.args.names.now.disks c.requires.apart.1.1) c.perform-session.ensures.made c.hand_back-handed.ensures.stand c.back.ensures.files is c.perform-session.ensures.fronts)
+
+-- the session was performed and its files stand, so the whole report would explain them
+pub returns-clause-out_cut : goal.returns-clause-out_cut
+returns-clause-out_cut g c =
+    let text = text_in (session_of c.perform-session.result.0) in
+    err-behind c.conclude-reported.result
+    (λ cut files scores first is.
+    elim cut [
+      | inl none ↦ inl none
+      | inr broken ↦ inr (
+        broken.1,
+        record {
+          report = text;
+          explained = explained scores c.args.names.now c.args.session (printed_of (session_of c.perform-session.result.0)) (stores_in c.perform-session.result.0) files (g.H.Host.files c.args.host.now) (g.H.Host.files c.perform-session.new.host) (g.H.Host.files c.hand_back-handed.new.host) (g.H.Host.files c.back.new.self)
+              (Some []) (Some text) text first c.perform-session.ensures.others
+              (apart-front (made_by c.args.names.now) c.args.names.now.disks c.requires.apart.1.1) c.hand_back-handed.ensures.stand c.back.ensures.files is
+              (ok-known c.perform-session.result.1 _ broken.0.0 c.perform-session.ensures.whole) (ok-known c.perform-session.result.1 _ broken.0.0 c.perform-session.ensures.explained) (ok-known c.perform-session.result.1 _ broken.0.0 c.perform-session.ensures.serial) refl;
+          front = broken.2;
+          puts = subst (λ (report : List ℕ). Gains (g.K.Sink.content c.args.out.now) (g.K.Sink.content c.conclude-reported.new.out) (take broken.2 report)) c.hand_back-handed.ensures.report broken.3;
+        },
+      )
+    ])
+    c.conclude-reported.ensures.cut
 
 pub returns-clause-read : goal.returns-clause-read
 returns-clause-read g c is =

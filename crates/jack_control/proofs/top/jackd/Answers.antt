@@ -2,7 +2,7 @@ use Rattle.std.proofs.Common.{◌⊎◌, ap, Err, inl, inr, map, refl, subst, sy
 use Rattle.jack_host.specs.Causes.{Rose}
 use Rattle.play_words.specs.Words.{Play}
 use Rattle.jack_control.specs.Answers.{HasInput, HasRefusal, IfInput, LacksInput, PlayStatus}
-use Rattle.jack_control.specs.Plays.{IsCut, IsExplained, TouchesOnly, made_by}
+use Rattle.jack_control.specs.Plays.{IsCut, IsExplained, IsOutCut, TouchesOnly, made_by}
 use Rattle.jack_control.proofs.ExactLemmas.{complete-err, exact-err, exact-ok}
 use Rattle.jack_control.proofs.InputLemmas.{rose-later}
 use Rattle.jack_control.proofs.RehearsalLemmas.{finished-of}
@@ -45,6 +45,15 @@ returns-in-Err-clause-cut g c = λ when play is.
     subst (λ (p : Play). IsCut (g.H.Host.files c.args.host.now) (g.H.Host.files c.play.new.host) (map g.G.Guest.score c.args.guests.items) p)
     (c.words_name_one_play.ensures _ c.in-Some.names play c.in-Some.ensures.lawful is) (c.in-Err.ensures.cut when)
 
+-- a fault of writing has no line, so the sink stays as the play left it
+pub returns-in-Err-clause-out_cut : goal.returns-in-Err-clause-out_cut
+returns-in-Err-clause-out_cut g c = λ e play is.
+    let cut = c.in-Err.ensures.out_cut (ap Err e) in
+    let silent = c.put_line.ensures.silent (inr e) in
+    subst (λ (p : Play). IsOutCut (g.H.Host.files c.args.host.now) (g.H.Host.files c.play.new.host) (g.K.Sink.content c.args.out.now) (g.K.Sink.content c.put_line.new.out) (g.K.Sink.faults c.args.out.now) (g.K.Sink.faults c.put_line.new.out) (map g.G.Guest.score c.args.guests.items) p)
+    (c.words_name_one_play.ensures _ c.in-Some.names play c.in-Some.ensures.lawful is)
+    (subst (λ out. IsOutCut (g.H.Host.files c.args.host.now) (g.H.Host.files c.play.new.host) (g.K.Sink.content c.args.out.now) (g.K.Sink.content out) (g.K.Sink.faults c.args.out.now) (g.K.Sink.faults out) (map g.G.Guest.score c.args.guests.items) c.in-Some.names) (sym silent) cut)
+
 pub returns-in-Err-clause-others : goal.returns-in-Err-clause-others
 returns-in-Err-clause-others g c = λ play is.
     subst (λ (p : Play). TouchesOnly (g.H.Host.files c.args.host.now) (g.H.Host.files c.play.new.host) (made_by p))
@@ -84,6 +93,9 @@ returns-in_default-clause-input g c = λ e play is. absurd (c.in_default.ensures
 
 pub returns-in_default-clause-cut : goal.returns-in_default-clause-cut
 returns-in_default-clause-cut g c = λ when play is. absurd (c.in_default.ensures.unlawful refl play is)
+
+pub returns-in_default-clause-out_cut : goal.returns-in_default-clause-out_cut
+returns-in_default-clause-out_cut g c = λ e play is. absurd (c.in_default.ensures.unlawful refl play is)
 
 pub returns-in_default-clause-others : goal.returns-in_default-clause-others
 returns-in_default-clause-others g c = λ play is. absurd (c.in_default.ensures.unlawful refl play is)

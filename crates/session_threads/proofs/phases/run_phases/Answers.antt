@@ -2,10 +2,10 @@ use Rattle.std.proofs.Common.{◌≡◌, ◌+◌, false, IsSome, get_or, length,
 use Rattle.session_model.specs.Scripts.{Script, phases}
 use Rattle.control_desk.specs.Desks.{cycles_before}
 use Rattle.run_laws.specs.Runs.{AtPhase, RanPhases}
+use Rattle.thread_faults.specs.Coming.{HasCome}
 use Rattle.session_threads.specs.Insides.{held, parts_of, seen}
-use Rattle.session_threads.proofs.LegalLemmas.{fault-legal}
 use Rattle.session_threads.proofs.OutcomeLemmas.{at-err, at-ok}
-use Rattle.session_threads.proofs.PhaseLemmas.{ran-at, ran-on, stands-failed}
+use Rattle.session_threads.proofs.PhaseLemmas.{come-failed, ran-at, ran-on, stands-failed}
 use Rattle.session_threads.proofs.SegmentLemmas.{base-next, base-small, of-phase, place_fits, segment_there}
 use Rattle.session_threads.proofs.StayLemmas.{stays-refl, stays-trans}
 use Rattle.session_threads.proofs.StoreLemmas.{rose-behind}
@@ -46,10 +46,13 @@ returns-in-Err-clause-fault g c =
     let fault = at-err c.run_phase-next.result.1 _ c.in-Err.is c.run_phase-next.ensures.fault in
     (fault.0, λ given at. stands-failed c.a_phase_that_fails_leaves_fronts.ensures c.unfinished_files_have_fronts.ensures given (seen {S = g.row.S.Denot} {W = g.row.W.Denot} {G = g.row.G.Denot} c.loop-phase.rig.works) (parts_of {S = g.row.S.Denot} {W = g.row.W.Denot} {G = g.row.G.Denot} c.run_phase-next.result.0.works) c.loop-phase.phase (get_or c.args.segments.now c.loop-phase.phase (record { period = 0; is_freewheel = false; cycles = 0 })).cycles fault.0 (get_or c.args.segments.now c.loop-phase.phase (record { period = 0; is_freewheel = false; cycles = 0 })).is_freewheel (c.loop-phase.invariant.at given at) (subst (λ (s : Script). IsSome s.header.threads) (sym c.loop-phase.invariant.stays.script) c.requires.threads) refl fault.1 c.run_phase-next.ensures.stays.files)
 
-pub returns-in-Err-clause-legal : goal.returns-in-Err-clause-legal
-returns-in-Err-clause-legal g c =
+pub returns-in-Err-clause-come : goal.returns-in-Err-clause-come
+returns-in-Err-clause-come g c =
     let fault = at-err c.run_phase-next.result.1 _ c.in-Err.is c.run_phase-next.ensures.fault in
-    fault-legal c.loop-phase.phase (get_or c.args.segments.now c.loop-phase.phase (record { period = 0; is_freewheel = false; cycles = 0 })).cycles fault.0 (get_or c.args.segments.now c.loop-phase.phase (record { period = 0; is_freewheel = false; cycles = 0 })).is_freewheel (seen {S = g.row.S.Denot} {W = g.row.W.Denot} {G = g.row.G.Denot} c.loop-phase.rig.works) (seen {S = g.row.S.Denot} {W = g.row.W.Denot} {G = g.row.G.Denot} c.run_phase-next.result.0.works) fault.1 c.loop-phase.invariant.sound c.run_phase-next.result.0.works.driver.script c.run_phase-next.ensures.stays.script
+    subst (λ (s : Script). HasCome s c.run_phase-next.result.0.works.desk.history c.run_phase-next.result.0.works.driver.numbers) (sym c.run_phase-next.ensures.stays.script)
+    (come-failed c.a_session_comes_up_to_its_fault.ensures (seen {S = g.row.S.Denot} {W = g.row.W.Denot} {G = g.row.G.Denot} c.loop-phase.rig.works) (seen {S = g.row.S.Denot} {W = g.row.W.Denot} {G = g.row.G.Denot} c.run_phase-next.result.0.works) c.loop-phase.phase fault.0 (get_or c.args.segments.now c.loop-phase.phase (record { period = 0; is_freewheel = false; cycles = 0 }))
+    (of-phase c.segments_are_the_phases.ensures.there c.loop-phase.rig.works.driver.script c.loop-phase.rig.works.driver.script c.loop-phase.phase (get_or c.args.segments.now c.loop-phase.phase (record { period = 0; is_freewheel = false; cycles = 0 })) refl (segment_there c.segments_are_the_phases.ensures.there c.args.segments.now c.args.rig.works.driver.script c.loop-phase.rig.works.driver.script c.requires.segments c.loop-phase.invariant.stays.script c.loop-phase.phase c.loop-phase-test.true (record { period = 0; is_freewheel = false; cycles = 0 })))
+    c.loop-phase.invariant.ran fault.1)
 
 pub returns-in-Err-clause-stays : goal.returns-in-Err-clause-stays
 returns-in-Err-clause-stays g c = stays-trans {S = g.row.S.Denot} {W = g.row.W.Denot} {G = g.row.G.Denot} c.args.rig.works c.loop-phase.rig.works c.run_phase-next.result.0.works c.loop-phase.invariant.stays c.run_phase-next.ensures.stays

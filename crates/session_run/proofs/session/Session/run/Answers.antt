@@ -57,8 +57,8 @@ pub returns-clause-so_far : goal.returns-clause-so_far
 returns-clause-so_far g c threads =
     on_err_weaker c.run_threads-rig.result.1 (threads-fail {S = g.row.S.Denot} {W = g.row.W.Denot} {G = g.row.G.Denot} c.args.self c.self.inside.rig.works _ _ c.self.view_is c.requires threads c.run_threads-rig.result.0.works c.run_threads-rig.ensures.stays c.a_new_session_is_at_rest.ensures.at) c.run_threads-rig.ensures.stands
 
-pub returns-clause-legal : goal.returns-clause-legal
-returns-clause-legal g c threads = c.run_threads-rig.ensures.legal
+pub returns-clause-come : goal.returns-clause-come
+returns-clause-come g c threads = c.run_threads-rig.ensures.come
 
 pub returns-clause-ran : goal.returns-clause-ran
 returns-clause-ran g c =
