@@ -6,7 +6,7 @@ use Rattle.std.proofs.Common.{◌≡◌, ℕ, ◌≤◌, ◌⊎◌, inl, inr, Bo
 use Rattle.std.specs.Prelude.{IsOk}
 use Rattle.jack_host.specs.Causes.{Adds, HasCause, Rose}
 use Rattle.recorder_files.specs.Recorders.{Stored}
-use Rattle.session_threads.proofs.StoreLemmas.{rose-mono}
+use Rattle.session_run.proofs.PassedLemmas.{rose-mono}
 use Rattle.jack_control.specs.Files.{AreRaised, OneFailed}
 
 pub ok-known : {T E : Type 0} (r : Result T E) (P : Type 0) → IsOk r → OnOk r P → P

@@ -21,7 +21,7 @@ use Rattle.recorder_files.specs.Recorders.{Stored}
 use Rattle.run_laws.proofs.PlaceLemmas.{front_there, some_at}
 use Rattle.run_laws.specs.Sessions.{IsGiven}
 use Rattle.play_words.specs.Words.{Play}
-use Rattle.session_threads.specs.Parts.{Parts, session_of}
+use Rattle.session_run.specs.Seen.{Parts, session_of}
 use Rattle.jack_control.specs.Files.{AreOut, IsHeld, Stand}
 use Rattle.jack_control.specs.Inputs.{Files}
 use Rattle.jack_control.specs.Openings.{IsSessionOf}

@@ -33,7 +33,7 @@ use Rattle.run_laws.specs.Sessions.{IsGiven, Session, course_in, printed_of}
 use Rattle.run_laws.specs.Told.{Ends, Runs, StandsSoFar, text_in}
 use Rattle.serial_laws.specs.Faults.{StandsInSerial, playback_front, record_front, serial_course_of}
 use Rattle.serial_laws.proofs.FrontLemmas.{HasFront-told, KeptAreAll, PlayedIsAll}
-use Rattle.session_threads.specs.Parts.{Parts, bytes_of, session_of, stores_in, told_of}
+use Rattle.session_run.specs.Seen.{Parts, bytes_of, session_of, stores_in, told_of}
 use Rattle.session_run.specs.Standings.{format_at}
 use Rattle.jack_control.specs.Files.{AreFronts}
 use Rattle.jack_control.specs.Performances.{Explain, HaveFronts, front_at, front_so_far}

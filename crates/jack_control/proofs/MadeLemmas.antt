@@ -15,14 +15,14 @@ use Rattle.jack_types.specs.Recorders.{no_format}
 use Rattle.jack_types.specs.declared.files.Format.{Format}
 use Rattle.jack_host.specs.Causes.{Rose}
 use Rattle.jack_host.specs.Files.{Replaces, SameFiles}
-use Rattle.cycle_laws.specs.Gears.{Gear}
+use Rattle.session_run.specs.Seen.{Gear}
 use Rattle.recorder_files.specs.Recorders.{Recording, Stored, held_in, held_or, stored_of}
 use Rattle.run_laws.proofs.PlaceLemmas.{mapped_there}
 use Rattle.session_laws.proofs.ListLemmas.{slice_get-map}
 use Rattle.session_model.specs.Samples.{bytes_of as sample_bytes}
 use Rattle.session_model.specs.WaveFiles.{opening_text}
-use Rattle.cycle_driver.specs.Openings.{playback_format}
-use Rattle.session_threads.specs.Parts.{Parts, stores_in}
+use Rattle.session_run.specs.Seen.{playback_format}
+use Rattle.session_run.specs.Seen.{Parts, stores_in}
 use Rattle.session_run.specs.Standings.{IsAttaching, IsBegun, format_at, format_next}
 use Rattle.wave_write.specs.Tapes.{IsCut, Tape}
 use Rattle.jack_control.specs.Files.{AreFronts, AreOut, IsOut, KeepsRest, MakesOne, OneFailed}

@@ -5,10 +5,10 @@ use Rattle.jack_types.specs.declared.kinds.Score.{Score}
 use Rattle.jack_host.specs.Files.{IsThere, SameFiles}
 use Rattle.session_model.specs.Explanations.{Given}
 use Rattle.session_model.specs.Scripts.{Script}
-use Rattle.cycle_laws.specs.Gears.{IsServed}
+use Rattle.session_run.specs.Seen.{IsServed}
 use Rattle.play_words.specs.Words.{Play}
 use Rattle.run_laws.specs.Sessions.{IsGiven as TellsGiven}
-use Rattle.session_threads.specs.Parts.{Parts, session_of}
+use Rattle.session_run.specs.Seen.{Parts, session_of}
 use Rattle.jack_control.specs.declared.status.Difference.{Difference}
 use Rattle.jack_control.specs.declared.status.Status.{Status}
 use Rattle.jack_control.specs.declared.status.Status.TheVariants.{Ok, NoMemory, Words, ReadFault, BadWave, BadScript, WriteFault, Differs, Wrong}

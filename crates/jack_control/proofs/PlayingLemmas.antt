@@ -19,7 +19,7 @@ use Rattle.session_model.specs.Serial.{serial_printed}
 use Rattle.session_laws.proofs.HistoryLemmas.{LegalSoFar-none}
 use Rattle.control_desk.specs.Desks.{Desk}
 use Rattle.driver_laws.specs.Drivers.{run}
-use Rattle.cycle_laws.specs.Gears.{Gear}
+use Rattle.session_run.specs.Seen.{Gear}
 use Rattle.recorder_files.specs.Recorders.{Recording, Stored, held_in}
 use Rattle.run_laws.proofs.PlaceLemmas.{some_at}
 use Rattle.run_laws.specs.Runs.{AtPhase}
@@ -27,10 +27,10 @@ use Rattle.run_laws.specs.Sessions.{IsGiven, Session, printed_of}
 use Rattle.run_laws.specs.Told.{Ends, HasLists, Runs, StandsSoFar, text_in}
 use Rattle.serial_laws.specs.Faults.{StandsInSerial}
 use Rattle.serial_laws.proofs.FrontLemmas.{KeptAreAll, PlayedIsAll}
-use Rattle.thread_faults.specs.Coming.{HasCome}
-use Rattle.session_threads.specs.Parts.{AreLater, IsLater, OneRose, Parts, bytes_of, session_of, stores_in, told_of}
-use Rattle.session_threads.specs.declared.faults.SessionFault.{SessionFault}
-use Rattle.session_threads.specs.declared.faults.SessionFault.TheVariants.{Read, Write}
+use Rattle.session_run.specs.Seen.{HasCome}
+use Rattle.session_run.specs.Seen.{AreLater, IsLater, OneRose, Parts, bytes_of, session_of, stores_in, told_of}
+use Rattle.session_run.specs.Faults.{SessionFault}
+use Rattle.session_run.specs.Faults.{Read, Write}
 use Rattle.session_run.specs.Standings.{IsAttaching}
 use Rattle.jack_control.specs.declared.status.Status.{Status}
 use Rattle.jack_control.specs.declared.status.Status.TheVariants.{ReadFault, WriteFault}

@@ -19,7 +19,7 @@ use Rattle.session_model.specs.WaveOpening.{Opened, opened, wave_in}
 use Rattle.session_laws.proofs.WaveFaults.{wave-same}
 use Rattle.play_words.specs.Words.{Play}
 use Rattle.rehearsals.specs.Made.{Made}
-use Rattle.session_threads.specs.Parts.{Parts}
+use Rattle.session_run.specs.Seen.{Parts}
 use Rattle.jack_control.specs.declared.status.Status.{Status}
 use Rattle.jack_control.specs.declared.status.Status.TheVariants as done
 use Rattle.jack_control.specs.Inputs.{Files, IsInput}

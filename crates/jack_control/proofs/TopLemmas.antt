@@ -6,7 +6,7 @@ use Rattle.jack_host.specs.Files.{SameFiles}
 use Rattle.session_model.specs.Explanations.{Given}
 use Rattle.play_words.specs.Words.{Play}
 use Rattle.run_laws.specs.Sessions.{IsGiven as TellsGiven}
-use Rattle.session_threads.specs.Parts.{Parts, session_of}
+use Rattle.session_run.specs.Seen.{Parts, session_of}
 use Rattle.jack_control.specs.Inputs.{Files, IfBytes, IsInput}
 use Rattle.jack_control.specs.Answers.{IfInput}
 use Rattle.jack_control.specs.Openings.{IsSessionOf}

@@ -9,7 +9,7 @@ use Rattle.std.specs.Prelude.{◌≡◌, ℕ, ◌≤◌, List, [], ◌∷◌, �
 use Rattle.jack_host.specs.Causes.{Rose}
 use Rattle.jack_host.specs.Files.{bytes_under, Replaces}
 use Rattle.recorder_files.specs.Recorders.{Stored}
-use Rattle.session_threads.specs.Parts.{Parts, stores_in}
+use Rattle.session_run.specs.Seen.{Parts, stores_in}
 use Rattle.session_run.specs.Standings.{format_at}
 use Rattle.wave_write.specs.Tapes.{IsCut}
 use Rattle.jack_control.specs.Inputs.{Files}

@@ -23,7 +23,7 @@ use Rattle.session_model.specs.WaveFiles.{IsWave, wave_fault}
 use Rattle.session_model.specs.WaveOpening.{Opened, opened, wave_in}
 use Rattle.task_laws.specs.Calls.{guests_needed}
 use Rattle.wave_pcm.specs.Readings.{AreBytes}
-use Rattle.cycle_laws.specs.Gears.{IsServed}
+use Rattle.session_run.specs.Seen.{IsServed}
 use Rattle.play_words.specs.Words.{Play}
 use Rattle.jack_control.specs.declared.status.Difference.{Difference}
 use Rattle.jack_control.specs.declared.status.What.TheVariants.{Guests, Records, Disks, Rate, Channels}

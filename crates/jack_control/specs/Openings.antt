@@ -6,7 +6,7 @@ use Rattle.jack_types.specs.declared.kinds.Score.{Score}
 use Rattle.session_model.specs.Explanations.{Given}
 use Rattle.play_words.specs.Words.{Play}
 use Rattle.run_laws.specs.Sessions.{IsGiven as TellsGiven}
-use Rattle.session_threads.specs.Parts.{Parts, session_of, stores_in}
+use Rattle.session_run.specs.Seen.{Parts, session_of, stores_in}
 use Rattle.session_run.specs.Standings.{IsAttaching}
 use Rattle.jack_control.specs.declared.status.Status.{Status}
 use Rattle.jack_control.specs.declared.status.Status.TheVariants.{Ok, NoMemory, Words, ReadFault, BadWave, BadScript, WriteFault, Differs, Wrong}

@@ -16,8 +16,8 @@ use Rattle.session_model.specs.Scripts.{Script}
 use Rattle.session_model.specs.Serial.{serial}
 use Rattle.serial_laws.specs.Faults.{playback_front, record_front}
 use Rattle.recorder_files.specs.Recorders.{Stored}
-use Rattle.session_threads.specs.declared.faults.SessionFault.{SessionFault}
-use Rattle.session_threads.specs.declared.faults.SessionFault.TheVariants.{Read, Write}
+use Rattle.session_run.specs.Faults.{SessionFault}
+use Rattle.session_run.specs.Faults.{Read, Write}
 use Rattle.jack_control.specs.declared.status.Status.{Status}
 use Rattle.jack_control.specs.declared.status.Status.TheVariants.{ReadFault, WriteFault}
 use Rattle.jack_control.specs.Answers.{IfScript}

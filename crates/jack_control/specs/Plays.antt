@@ -17,7 +17,7 @@ use Rattle.wave_write.specs.Tapes.{HasFront}
 use Rattle.disk_recorder.specs.Recordings.{samples_of_blocks}
 use Rattle.driver_laws.specs.Keeping.{kept_blocks, played_so_far}
 use Rattle.serial_laws.specs.Faults.{playback_front, record_front}
-use Rattle.thread_faults.specs.Coming.{HasCome}
+use Rattle.session_run.specs.Seen.{HasCome}
 use Rattle.play_words.specs.Words.{Play}
 use Rattle.jack_control.specs.Inputs.{Files, IsInput}
 

@@ -6,7 +6,7 @@ ghost use Rattle.jack_host.specs.Files.{SameFiles};
 ghost use Rattle.session_model.specs.Soundness.{Apart};
 ghost use Rattle.recorder_files.specs.Recorders.{Stored};
 ghost use Rattle.run_laws.specs.Told.{text_in};
-ghost use Rattle.session_threads.specs.Parts.{session_of, stores_in};
+ghost use Rattle.session_run.specs.Seen.{session_of, stores_in};
 ghost use Rattle.session_run.specs.Standings.{HasEnded, IsAttaching, format_next};
 ghost use Rattle.wave_write.specs.Tapes.{IsCut};
 ghost use Rattle.jack_control.specs.Files.{AreFronts, AreOut, AreRaised, KeepsRest, MakesOne, OneFailed, Stand};

@@ -17,7 +17,7 @@ ghost use Rattle.jack_control.specs.Performances.{CutsReport, Explain, HaveCut, 
 ghost use Rattle.jack_control.specs.Plays.{IsCut, IsExplained, IsOutCut, TouchesOnly, made_by};
 ghost use Rattle.play_words.specs.Words.{names_of};
 ghost use Rattle.run_laws.specs.Told.{text_in};
-ghost use Rattle.session_threads.specs.Parts.{session_of, stores_in};
+ghost use Rattle.session_run.specs.Seen.{session_of, stores_in};
 ghost use Rattle.session_run.specs.Standings.{HasEnded, IsAttaching};
 
 use crate::Status;

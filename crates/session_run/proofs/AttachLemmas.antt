@@ -18,8 +18,8 @@ use Rattle.run_laws.specs.Told.{IsNew}
 use Rattle.record_ring.specs.Rings.{Getting}
 use Rattle.serial_laws.specs.Openings.{bare}
 use Rattle.wave_write.specs.Tapes.{IsCut, Tape}
-use Rattle.cycle_laws.specs.Gears.{Gear}
-use Rattle.cycle_driver.specs.Openings.{playback_format}
+use Rattle.session_threads.specs.Drivers.{Gear}
+use Rattle.session_threads.specs.Drivers.{playback_format}
 use Rattle.recorder_files.specs.Recorders.{Recording, Stored, held_in, held_or, stored_of}
 use Rattle.session_run.specs.Attaching.{Refuses, Starts, StartsNext}
 use Rattle.session_threads.specs.Parts.{Parts, bytes_of, session_of, stores_in}

@@ -19,7 +19,7 @@ use Rattle.session_model.specs.Scripts.{Script, phases}
 use Rattle.record_ring.specs.Rings.{Getting, Sending}
 use Rattle.wave_write.specs.Tapes.{Tape}
 use Rattle.wave_write.proofs.TapeLemmas.{samples-unfinished, unfinished-front}
-use Rattle.cycle_laws.specs.Gears.{Gear, IsServed, driver_of}
+use Rattle.session_threads.specs.Drivers.{Gear, IsServed, driver_of}
 use Rattle.control_desk.specs.Desks.{Desk}
 use Rattle.recorder_files.specs.Recorders.{Recording, Reel, Stored, held_in, held_or, stored_of}
 use Rattle.session_laws.proofs.ListLemmas.{slice_get-map}

@@ -11,3 +11,4 @@ pub mod ReportLemmas
 pub mod TurnLemmas
 pub mod PhaseLemmas
 pub mod RunningLemmas
+pub mod PassedLemmas

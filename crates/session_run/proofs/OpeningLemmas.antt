@@ -21,7 +21,7 @@ use Rattle.driver_laws.specs.Openings.{IsNew as IsNewDriver}
 use Rattle.recorder_rings.specs.Openings.{IsNew as AreNew}
 use Rattle.recorder_rings.specs.Sending.{no_ring, ring_at}
 use Rattle.recorder_files.specs.Recorders.{Recording, Stored, held_in, held_or}
-use Rattle.cycle_laws.specs.Gears.{Gear, IsServed, driver_of}
+use Rattle.session_threads.specs.Drivers.{Gear, IsServed, driver_of}
 use Rattle.run_laws.specs.Sessions.{IsOne}
 use Rattle.serial_laws.specs.Openings.{bare}
 use Rattle.session_threads.specs.Parts.{Parts, session_of, stores_in}

@@ -21,7 +21,7 @@ use Rattle.record_ring.specs.Rings.{Getting, IsOpening}
 use Rattle.recorder_rings.specs.Openings.{IsNew}
 use Rattle.recorder_rings.specs.Sending.{Sent, consumer_at, ring_at}
 use Rattle.recorder_files.specs.Recorders.{Recording}
-use Rattle.cycle_laws.specs.Gears.{Gear, IsServed}
+use Rattle.session_threads.specs.Drivers.{Gear, IsServed}
 
 pub opened-at : (out : Option Getting) (P : Getting → Type 0) → MatchOption out ⊥ P → (getting : Getting) × (out ≡ Some getting) × P getting
 opened-at None P never = absurd never

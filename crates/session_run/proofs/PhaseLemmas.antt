@@ -17,7 +17,7 @@ use Rattle.wave_pcm.specs.Readings.{Reading, SameReading}
 use Rattle.wave_write.specs.Tapes.{Tape}
 use Rattle.driver_laws.specs.Drivers.{run, turn_of}
 use Rattle.driver_laws.specs.Keeping.{Fits}
-use Rattle.cycle_laws.specs.Gears.{Gear, driver_of}
+use Rattle.session_threads.specs.Drivers.{Gear, driver_of}
 use Rattle.script_segments.specs.Segments.{segment_of, segments}
 use Rattle.script_segments.specs.declared.lines.Segment.{Segment}
 use Rattle.serial_lanes.specs.Lanes.{SerialDesk}

@@ -19,7 +19,7 @@ use Rattle.session_model.specs.Reports.{Report, PrintedCycle, PrintedDisk, Print
 use Rattle.session_model.specs.Samples.{below}
 use Rattle.session_model.specs.Scripts.{Script}
 use Rattle.control_desk.specs.Laws.{AreOfCalls, OfCallsAccepted}
-use Rattle.cycle_laws.specs.Gears.{IsServed, driver_of}
+use Rattle.session_threads.specs.Drivers.{IsServed, driver_of}
 use Rattle.run_laws.specs.Sessions.{IsOne, Session}
 use Rattle.run_laws.specs.Told.{disk_in, meters_from, recorder_in, report_in, text_in}
 use Rattle.task_laws.specs.Calls.{IsOldKind, open_kinds}

@@ -22,8 +22,8 @@ use Rattle.record_ring.specs.Rings.{Getting, Sending, items_of}
 use Rattle.wave_write.specs.Tapes.{HasSamples, Tape}
 use Rattle.disk_recorder.specs.Recordings.{MayWrite, samples_of_blocks}
 use Rattle.driver_laws.specs.Keeping.{HasTape}
-use Rattle.cycle_driver.specs.Openings.{playback_format}
-use Rattle.cycle_laws.specs.Gears.{IsServed}
+use Rattle.session_threads.specs.Drivers.{playback_format}
+use Rattle.session_threads.specs.Drivers.{IsServed}
 use Rattle.recorder_files.specs.Recorders.{Recording, Stored}
 use Rattle.recorder_files.proofs.Reels.{begun-may}
 use Rattle.run_laws.specs.Runs.{AtPhase, HasFiles, RanPhases}

@@ -26,7 +26,7 @@ use Rattle.record_ring.specs.Rings.{Getting}
 use Rattle.wave_write.specs.Tapes.{Tape}
 use Rattle.control_desk.specs.Desks.{Desk}
 use Rattle.driver_laws.specs.Drivers.{Driver}
-use Rattle.cycle_laws.specs.Gears.{Gear, driver_of}
+use Rattle.session_threads.specs.Drivers.{Gear, driver_of}
 use Rattle.recorder_files.specs.Recorders.{Recording, Stored, held_in, held_or, stored_of}
 use Rattle.run_laws.specs.Runs.{RanPhases}
 use Rattle.run_laws.specs.Sessions.{IsOne, Session}

@@ -3,7 +3,7 @@
 --     goes-round      the cycle, and a round between two meetings
 use Rattle.std.proofs.Common.{◌≡◌, List, ◌∷◌, filter_map, map, vec_items, Bool, Option, None, ap, ap₂}
 use Rattle.wave_write.specs.Tapes.{Tape}
-use Rattle.cycle_laws.specs.Gears.{Gear}
+use Rattle.session_threads.specs.Drivers.{Gear}
 use Rattle.recorder_files.specs.Recorders.{Recording, Stored, held_in, held_or}
 use Rattle.run_laws.specs.Sessions.{Session}
 use Rattle.serial_laws.specs.Steps.{Met, Rounded, Turned}

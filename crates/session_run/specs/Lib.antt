@@ -3,3 +3,5 @@ pub mod Attaching
 pub mod Endings
 pub mod Closings
 pub mod Takings
+pub mod Seen
+pub mod Faults

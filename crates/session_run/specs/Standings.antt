@@ -8,8 +8,8 @@ use Rattle.jack_types.specs.Recorders.{no_format}
 use Rattle.jack_types.specs.declared.files.Format.{Format}
 use Rattle.session_model.specs.Scripts.{phases}
 use Rattle.wave_write.specs.Tapes.{HasSamples, Tape}
-use Rattle.cycle_driver.specs.Openings.{playback_format}
-use Rattle.cycle_laws.specs.Gears.{IsServed}
+use Rattle.session_threads.specs.Drivers.{playback_format}
+use Rattle.session_threads.specs.Drivers.{IsServed}
 use Rattle.recorder_files.specs.Recorders.{Recording}
 use Rattle.run_laws.specs.Runs.{RanPhases}
 use Rattle.run_laws.specs.SerialRuns.{SerialBehind}

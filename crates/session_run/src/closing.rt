@@ -12,11 +12,10 @@ ghost use Rattle.session_threads.specs.Parts.{HasOpenFiles};
 ghost use Rattle.wave_write.specs.Tapes.{Tape};
 
 use client_kinds::Guest;
-use cycle_driver::Driver;
 use jack_host::{Source, Store, WriteFailed};
 use record_ring::Producer;
 use recorder_files::Recorder;
-use session_threads::Works;
+use session_threads::{Driver, Works};
 
 /// Empties a recorder's ring into its file and finishes that.
 fn close_recorder<W: Store>(

@@ -4,18 +4,17 @@ use crate::closing::{close_playback, close_recorders, take_recorded};
 use crate::session::Session;
 use client_kinds::Guest;
 use control_desk::Desk;
-use cycle_driver::Driver;
 use jack_host::{Source, Store};
 use serial_laws::endings::an_end_is_whole;
 use serial_laws::faults::an_end_that_fails_leaves_fronts;
-use session_threads::SessionFault;
+use session_threads::{Driver, SessionFault};
 use wave_pcm::Wave;
 
 impl<S: Source, W: Store, G: Guest> Session<S, W, G> {
     ghost use Rattle.std.specs.Prelude.{◌≡◌, ◌∷◌, [], Err, IfNone, IfSome, IsNone, IsSome, OnErr, OnOk, false, length};
     ghost use Rattle.session_model.specs.Explanations.{Given};
     ghost use Rattle.session_model.specs.Scripts.{phases};
-    ghost use Rattle.cycle_laws.specs.Gears.{driver_of};
+    ghost use Rattle.session_threads.specs.Drivers.{driver_of};
     ghost use Rattle.driver_laws.specs.Drivers.{run};
     ghost use Rattle.run_laws.specs.Runs.{AtPhase};
     ghost use Rattle.run_laws.specs.SerialRuns.{SerialKept};

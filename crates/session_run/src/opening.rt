@@ -8,13 +8,12 @@ ghost use Rattle.control_desk.specs.Desks.{IsDesk, IsNewDesk, base_of};
 ghost use Rattle.driver_laws.specs.Drivers.{greatest_period as the_greatest_period};
 ghost use Rattle.recorder_rings.specs.Openings.{IsNew as AreNew};
 ghost use Rattle.recorder_rings.specs.Sending.{ring_at};
-ghost use Rattle.cycle_laws.specs.Gears.{IsServed};
+ghost use Rattle.session_threads.specs.Drivers.{IsServed};
 ghost use Rattle.recorder_files.specs.Recorders.{Recording};
 
 use crate::session::Session;
 use client_kinds::Guest;
 use control_desk::Desk;
-use cycle_driver::Driver;
 use cycle_plan::Plan;
 use graph_word::{Publisher, Reader, publication};
 use jack_host::{Source, Store};
@@ -23,7 +22,7 @@ use recorder_files::Recorder;
 use script_needs::greatest_period;
 use script_segments::segments;
 use session_script::Script;
-use session_threads::{Lanes, Limits, Rig, SessionFault, Works};
+use session_threads::{Driver, Lanes, Limits, Rig, SessionFault, Works};
 use std::alloc::Global;
 use wave_pcm::Wave;
 
@@ -94,13 +93,13 @@ impl<S: Source, W: Store, G: Guest> Session<S, W, G> {
     ghost use Rattle.std.specs.Prelude.{◌≡◌, ◌≤◌, ◌++◌, ◌∷◌, [], Err, IfErr, IfOk, IfSome, IsFalse, IsTrue, None, OnErr, OnOk, Some, false, is_some, length, map, slice_get, slice_set, suc};
     ghost use Rattle.std.specs.Option.{ForSome};
     ghost use Rattle.jack_host.specs.Causes.{Rose};
-    ghost use Rattle.cycle_laws.specs.Gears.{IsServed};
+    ghost use Rattle.session_threads.specs.Drivers.{IsServed};
     ghost use Rattle.task_laws.specs.Calls.{guests_needed};
     ghost use Rattle.recorder_files.specs.Recorders.{Recording, Stored};
     ghost use Rattle.wave_write.specs.Tapes.{IsCut, Tape};
     ghost use Rattle.session_threads.specs.Parts.{stores_in};
     ghost use Rattle.session_model.specs.WaveFiles.{IsFormat};
-    ghost use Rattle.cycle_driver.specs.Openings.{playback_format};
+    ghost use Rattle.session_threads.specs.Drivers.{playback_format};
     ghost use Rattle.session_run.specs.Attaching.{Refuses, Starts, StartsNext};
     ghost use Rattle.session_run.specs.Standings.{IsAttaching, format_next};
 

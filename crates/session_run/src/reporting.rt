@@ -8,7 +8,7 @@ ghost use Rattle.session_model.specs.Histories.{accepted};
 ghost use Rattle.session_model.specs.Reports.{meter_line, recorder_lines};
 ghost use Rattle.session_model.specs.Samples.{below};
 ghost use Rattle.report_lines.specs.Outputs.{overruns_on, text_of};
-ghost use Rattle.cycle_laws.specs.Gears.{IsServed, driver_of};
+ghost use Rattle.session_threads.specs.Drivers.{IsServed, driver_of};
 ghost use Rattle.run_laws.specs.Sessions.{IsOne};
 ghost use Rattle.run_laws.specs.Told.{meters_from, text_in};
 ghost use Rattle.session_threads.specs.Insides.{seen};
@@ -17,12 +17,11 @@ ghost use Rattle.recorder_files.specs.Recorders.{Recording};
 use crate::session::Session;
 use client_kinds::Guest;
 use control_desk::laws::accepted_of_legal;
-use cycle_driver::Driver;
 use jack_host::{Failed, Sink, Source, Store, WriteFailed};
 use jack_types::{Command, Entry, Kind, Overrun, Reply};
 use recorder_files::Recorder;
 use report_lines::{put_calls, put_cycles, put_end, put_meter, put_recorder, put_title};
-use session_threads::Works;
+use session_threads::{Driver, Works};
 use task_laws::scripts::kinds_are_of_the_script;
 
 /// Puts the line of the meter that a call opened, if it opened one.

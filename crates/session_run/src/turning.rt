@@ -5,7 +5,7 @@ ghost use Rattle.jack_host.specs.Causes.{Rose};
 ghost use Rattle.session_model.specs.Scripts.{turns};
 ghost use Rattle.control_desk.specs.Desks.{IsDone};
 ghost use Rattle.driver_laws.specs.Drivers.{run, turn_of};
-ghost use Rattle.cycle_laws.specs.Gears.{driver_of};
+ghost use Rattle.session_threads.specs.Drivers.{driver_of};
 ghost use Rattle.serial_laws.specs.Faults.{TurnFails};
 ghost use Rattle.serial_laws.specs.Steps.{IsSound, Turned};
 ghost use Rattle.session_threads.specs.Insides.{Stays, held, parts_of, seen};

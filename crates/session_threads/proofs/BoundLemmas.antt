@@ -17,7 +17,7 @@ use Rattle.control_desk.specs.Desks.{Desk, GoesOn, IsDesk, IsDone}
 use Rattle.control_desk.specs.Laws.{DoneGoesOn}
 use Rattle.driver_laws.specs.Cycling.{CyclesMany, FailsAtRead}
 use Rattle.driver_laws.specs.Drivers.{Driver, run}
-use Rattle.cycle_laws.specs.Gears.{Gear, driver_of}
+use Rattle.cycle_runs.specs.Drivers.{Gear, driver_of}
 use Rattle.cycle_runs.specs.Runs.{BreaksAtWrite, IsGoing, RunsInto, StaysInRun, with_end}
 use Rattle.recorder_files.specs.Recorders.{Recording, held_or, stored_of}
 use Rattle.run_laws.specs.Sessions.{Session}

@@ -7,7 +7,7 @@ use Rattle.std.proofs.Common.{◌≡◌, ℕ, ◌+◌, ◌<◌, ◌≤◌, Bool,
 use Rattle.jack_host.specs.Causes.{Rose}
 use Rattle.session_model.specs.Scripts.{Script, turns}
 use Rattle.driver_laws.specs.Drivers.{run, turn_of}
-use Rattle.cycle_laws.specs.Gears.{Gear, driver_of}
+use Rattle.cycle_runs.specs.Drivers.{Gear, driver_of}
 use Rattle.cycle_runs.specs.Runs.{AreNext}
 use Rattle.run_laws.specs.Sessions.{Session}
 use Rattle.serial_laws.specs.Steps.{IsSound}

@@ -7,3 +7,4 @@ pub mod Serving
 pub mod Driving
 pub mod Wheels
 pub mod Running
+pub mod Drivers

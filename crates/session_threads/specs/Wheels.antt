@@ -3,7 +3,7 @@
 use Rattle.std.specs.Prelude.{◌≡◌, ℕ, ◌<◌, IsErrOf, List, OnErr, OnOk, Result}
 use Rattle.jack_host.specs.Causes.{Rose}
 use Rattle.control_desk.specs.Desks.{Desk}
-use Rattle.cycle_laws.specs.Gears.{Gear}
+use Rattle.cycle_runs.specs.Drivers.{Gear}
 use Rattle.recorder_files.specs.Recorders.{Recording}
 use Rattle.run_laws.specs.Sessions.{Session}
 use Rattle.serial_laws.specs.Steps.{IsSound}

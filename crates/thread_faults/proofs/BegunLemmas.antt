@@ -21,11 +21,21 @@ pub record Begun (many : ℕ) (driver after : Driver) : Type 0 where
   pub held : All (λ number. number ≤ length after.reading.held) took.more
 
 begun-none : (driver after : Driver) → after.numbers ≡ driver.numbers → after.reading.least ≡ driver.reading.least → Begun 0 driver after
-begun-none driver after numbers least = record { took = took-none driver after numbers least; held = All-nil (λ number. number ≤ length after.reading.held) }
+begun-none driver after numbers least =
+    let took : Took 0 driver after = took-none driver after numbers least in
+    record { took = took; held = λ k d inside. let none = took.count in absurd (omega (arith, inside, none)) }
 
 begun-same : (many : ℕ) (driver after later : Driver) → later.numbers ≡ after.numbers → later.reading ≡ after.reading → Begun many driver after → Begun many driver later
 begun-same many driver after later numbers reading begun = record {
-  took = took-same many driver after later numbers (ap (λ (r : Reading). r.least) reading) begun.took;
+  took = record {
+    more = begun.took.more;
+    numbers = numbers ∙ begun.took.numbers;
+    count = begun.took.count;
+    rising = begun.took.rising;
+    low = begun.took.low;
+    high = subst (λ (r : Reading). All (λ number. number ≤ r.least) begun.took.more) (sym reading) begun.took.high;
+    least = subst (λ (r : Reading). driver.reading.least ≤ r.least) (sym reading) begun.took.least;
+  };
   held = subst (λ (r : Reading). All (λ number. number ≤ length r.held) begun.took.more) (sym reading) begun.held;
 }
 

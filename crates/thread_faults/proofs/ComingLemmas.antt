@@ -20,7 +20,7 @@ use Rattle.driver_laws.specs.Segments.{cycles_before}
 use Rattle.run_laws.specs.Runs.{RanPhases}
 use Rattle.run_laws.specs.Sessions.{Session}
 use Rattle.serial_laws.proofs.RowLemmas.{accepted-front}
-use Rattle.thread_laws.specs.Laws.{GroupBelow, GroupStays, LaterPhases}
+use Rattle.thread_laws.specs.Laws.{GroupBelow, GroupStays, LaterPhases, Took}
 use Rattle.thread_laws.proofs.ChainLemmas.{goes-later, goes-met, goes-same, least-met}
 use Rattle.thread_laws.proofs.GroupLemmas.{front-group}
 use Rattle.thread_laws.proofs.ItemLemmas.{each-there, front-front, slice_get-left, slice_get-right}
@@ -163,6 +163,7 @@ come_behind_fault published cycle up_to more below group later session after don
   within = λ k number turn at of. within k number turn at of (nat_lt k (run session.driver)) refl;
 }
   where
+    took : Took (some done phase.cycles kept phase.is_freewheel session after fault).0 fault.paced.driver fault.served.driver
     took = (begun done phase.cycles kept phase.is_freewheel session after fault).took
 
     fewer : (some done phase.cycles kept phase.is_freewheel session after fault).0 ≤ phase.cycles

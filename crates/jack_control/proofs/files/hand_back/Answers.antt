@@ -1,5 +1,5 @@
 use Rattle.std.proofs.Common.{◌∙◌, ap, arith, length, refl, sym}
-use Rattle.session_threads.specs.Parts.{stores_in}
+use Rattle.session_run.specs.Seen.{stores_in}
 use Rattle.jack_control.proofs.HandedLemmas.{err_of, handing-end, handing-named, handing-next, handing-none, ok_of, on_err-map, on_ok-map, owing-end, owing-next, owing-none}
 use Rattle.jack_control.proofs.files.hand_back.Goals as goal
 

@@ -1,7 +1,7 @@
 use Rattle.std.proofs.Common.{◌≡◌, ◌+◌, length}
 use Rattle.jack_host.specs.Causes.{HasCause}
 use Rattle.run_laws.specs.Told.{text_in}
-use Rattle.session_threads.specs.Parts.{session_of, stores_in}
+use Rattle.session_run.specs.Seen.{session_of, stores_in}
 use Rattle.session_run.specs.Standings.{HasEnded}
 use Rattle.jack_control.proofs.HandedLemmas.{IsHanding, IsOwing}
 use Rattle.jack_control.proofs.files.hand_back.Given as goal

@@ -1,6 +1,6 @@
 use Rattle.std.proofs.Common.{◌≡◌, ℕ, List, [], ◌∷◌, ◌++◌, ap, arith, length, refl, subst, suc, sym, take, ◌∙◌}
 use Rattle.play_words.specs.Words.{Play}
-use Rattle.session_threads.specs.Parts.{stores_in}
+use Rattle.session_run.specs.Seen.{stores_in}
 use Rattle.jack_control.specs.Files.{AreOut}
 use Rattle.jack_control.specs.Plays.{made_by}
 use Rattle.jack_control.proofs.MadeLemmas.{HaveMade, left-cause, left-fronts, left-out, left-rest, made-all, made-count, made-fronts, made-more, made-none, made-touches, on_err}

@@ -1,5 +1,5 @@
 use Rattle.std.proofs.Common.{◌≡◌, ◌+◌, ◌≤◌, length, suc, take}
-use Rattle.session_threads.specs.Parts.{stores_in}
+use Rattle.session_run.specs.Seen.{stores_in}
 use Rattle.jack_control.specs.Plays.{made_by}
 use Rattle.jack_control.proofs.MadeLemmas.{HaveMade}
 use Rattle.jack_control.proofs.files.make_files.Given as goal

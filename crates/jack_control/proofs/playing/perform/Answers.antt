@@ -5,13 +5,13 @@ use Rattle.session_model.specs.Scripts.{Script, phases}
 use Rattle.session_model.specs.Serial.{serial}
 use Rattle.wave_pcm.specs.Readings.{Reading, SameReading}
 use Rattle.control_desk.specs.Desks.{Desk}
-use Rattle.cycle_laws.specs.Gears.{Gear, driver_of}
+use Rattle.session_run.specs.Seen.{Gear, driver_of}
 use Rattle.driver_laws.specs.Drivers.{run}
 use Rattle.run_laws.specs.Runs.{AtPhase}
-use Rattle.thread_faults.specs.Coming.{HasCome}
-use Rattle.session_threads.specs.Parts.{session_of, stores_in}
-use Rattle.session_threads.proofs.OutcomeLemmas.{at-err, at-ok}
-use Rattle.session_threads.proofs.StoreLemmas.{later-trans}
+use Rattle.session_run.specs.Seen.{HasCome}
+use Rattle.session_run.specs.Seen.{session_of, stores_in}
+use Rattle.session_run.proofs.PassedLemmas.{at-err, at-ok}
+use Rattle.session_run.proofs.PassedLemmas.{later-trans}
 use Rattle.jack_control.specs.Plays.{made_by}
 use Rattle.jack_control.proofs.HandedLemmas.{err_of, ok_of}
 use Rattle.jack_control.proofs.PlayingLemmas.{come-ended, cut-begun, cut-broken, cut-whole, explain-whole, given-made, made-all, made-behind, one-failed, out-behind, serial-whole, status-either, was-read, was-write}

@@ -3,7 +3,7 @@ use Rattle.jack_host.specs.Bytes.{Gains}
 use Rattle.wave_pcm.specs.Readings.{Reading}
 use Rattle.run_laws.specs.Sessions.{printed_of}
 use Rattle.run_laws.specs.Told.{text_in}
-use Rattle.session_threads.specs.Parts.{session_of, stores_in}
+use Rattle.session_run.specs.Seen.{session_of, stores_in}
 use Rattle.jack_control.specs.Plays.{made_by}
 use Rattle.jack_control.proofs.CauseLemmas.{err-any, err-behind, ok-behind, ok-known, rose-handed, rose-written}
 use Rattle.jack_control.proofs.CutLemmas.{apart-front, apart-take, cut, explained, others-kept}

@@ -2,8 +2,8 @@ use Rattle.std.proofs.Common.{◌∙◌, None, ap, map, take}
 use Rattle.control_desk.specs.Desks.{Desk}
 use Rattle.run_laws.specs.Sessions.{printed_of}
 use Rattle.run_laws.specs.Told.{text_in}
-use Rattle.session_threads.specs.Parts.{session_of, stores_in}
-use Rattle.session_threads.proofs.OutcomeLemmas.{at-ok}
+use Rattle.session_run.specs.Seen.{session_of, stores_in}
+use Rattle.session_run.proofs.PassedLemmas.{at-ok}
 use Rattle.jack_control.specs.Plays.{made_by}
 use Rattle.jack_control.proofs.CutLemmas.{apart-front, apart-take, explained}
 use Rattle.jack_control.proofs.RehearsalLemmas.{history-of}

@@ -1,6 +1,6 @@
 use Rattle.std.proofs.Common.{◌≡◌, ◌<◌, length, set, slice_get, Some, refl, sym, ◌∙◌, ap, arith}
 use Rattle.std.proofs.lemmas.Option.{slice_get-get_or, slice_get_read}
-use Rattle.cycle_laws.specs.Gears.{Gear}
+use Rattle.session_threads.specs.Drivers.{Gear}
 use Rattle.recorder_rings.specs.Sending.{no_ring}
 use Rattle.session_threads.specs.Insides.{parts_of}
 use Rattle.session_run.proofs.CloseLemmas.{as-many-rings, close-fails, closed-failed, closed-more, closes-all, may-close}

@@ -1,5 +1,5 @@
 use Rattle.std.proofs.Common.{◌≡◌, ◌<◌, ◌≤◌, length, get_or}
-use Rattle.cycle_laws.specs.Gears.{driver_of}
+use Rattle.session_threads.specs.Drivers.{driver_of}
 use Rattle.report_lines.proofs.PutLemmas.{all_put, item_cut}
 use Rattle.session_run.proofs.MeterLemmas.{meter_text, text-meters}
 use Rattle.session_run.proofs.reporting.put_meters.Goals as goal

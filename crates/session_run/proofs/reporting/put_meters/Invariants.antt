@@ -1,6 +1,6 @@
 use Rattle.std.proofs.Common.{◌≡◌, take, flat_map}
 use Rattle.jack_host.specs.Bytes.{Gains}
-use Rattle.cycle_laws.specs.Gears.{driver_of}
+use Rattle.session_threads.specs.Drivers.{driver_of}
 use Rattle.session_run.proofs.MeterLemmas.{meter_text}
 use Rattle.session_run.proofs.reporting.put_meters.Given as goal
 

@@ -1,6 +1,6 @@
 use Rattle.std.proofs.Common.{Err, ap}
 use Rattle.driver_laws.specs.Drivers.{Driver}
-use Rattle.cycle_laws.specs.Gears.{driver_of}
+use Rattle.cycle_runs.specs.Drivers.{driver_of}
 use Rattle.cycle_runs.proofs.RunLemmas.{rings-none, rings-stepped}
 use Rattle.session_threads.proofs.cycles.step.Goals as goal
 

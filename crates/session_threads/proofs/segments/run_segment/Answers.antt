@@ -1,5 +1,5 @@
 use Rattle.std.proofs.Common.{sym, subst, arith}
-use Rattle.cycle_laws.specs.Gears.{driver_of}
+use Rattle.cycle_runs.specs.Drivers.{driver_of}
 use Rattle.cycle_runs.specs.Runs.{AreNext}
 use Rattle.session_threads.specs.Insides.{parts_of, seen}
 use Rattle.session_threads.specs.Phases.{Segmented}

@@ -1,6 +1,6 @@
 use Rattle.std.proofs.Common.{IfSome, ap, refl, subst, ◌∙◌}
 use Rattle.wave_write.specs.Tapes.{IsCut}
-use Rattle.cycle_driver.specs.Openings.{playback_format}
+use Rattle.session_threads.specs.Drivers.{playback_format}
 use Rattle.recorder_files.specs.Recorders.{Stored}
 use Rattle.session_threads.specs.Parts.{Parts}
 use Rattle.session_run.proofs.AttachLemmas.{playback-back, playback-put}

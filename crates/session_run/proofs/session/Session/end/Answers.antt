@@ -1,7 +1,7 @@
 use Rattle.std.proofs.Common.{ap}
 use Rattle.std.specs.Option.{option_map}
 use Rattle.jack_host.specs.Causes.{Rose}
-use Rattle.cycle_laws.specs.Gears.{Gear}
+use Rattle.session_threads.specs.Drivers.{Gear}
 use Rattle.recorder_files.specs.Recorders.{Stored}
 use Rattle.serial_laws.specs.Endings.{EndsAll, IsBroken, IsFinished}
 use Rattle.session_run.specs.Closings.{CloseFails, ClosesAll}

@@ -4,7 +4,7 @@ use Rattle.jack_types.specs.declared.scripts.Header.{Header}
 use Rattle.graph_word.specs.Publications.{IsOpening as IsPublication, Reading}
 use Rattle.session_model.specs.Scripts.{Script}
 use Rattle.control_desk.specs.Desks.{base_of}
-use Rattle.cycle_laws.specs.Gears.{Gear}
+use Rattle.session_threads.specs.Drivers.{Gear}
 use Rattle.session_threads.specs.Parts.{stores_in}
 use Rattle.session_run.specs.Standings.{IsAttaching}
 use Rattle.script_segments.specs.Segments.{segments}

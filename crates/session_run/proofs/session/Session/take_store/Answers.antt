@@ -1,7 +1,7 @@
 use Rattle.std.proofs.Common.{◌≡◌, ◌∙◌, List, [], ◌∷◌, map, None, sym, ap}
 use Rattle.std.specs.Option.{option_map}
 use Rattle.std.proofs.lemmas.Option.{IfSome_then}
-use Rattle.cycle_laws.specs.Gears.{Gear}
+use Rattle.session_threads.specs.Drivers.{Gear}
 use Rattle.recorder_files.specs.Recorders.{Recording, Stored}
 use Rattle.session_threads.specs.Insides.{parts_of}
 use Rattle.session_threads.specs.Parts.{Parts, stores_in}

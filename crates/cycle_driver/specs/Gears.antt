@@ -1,0 +1,5 @@
+-- What contracts see of a driver, as its laws have it, for those that use one.
+--     Gear      its parts
+--     driver_of gear      the driver that they make
+--     IsServed script      which scripts it plays
+pub use Rattle.cycle_laws.specs.Gears.{Gear, IsServed, driver_of}
