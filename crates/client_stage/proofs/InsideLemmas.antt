@@ -6,7 +6,7 @@ use Rattle.std.specs.Vec.{vec_capacity}
 use Rattle.session_model.specs.Samples.{silence}
 use Rattle.cycle_plan.specs.Plans.{Planned}
 use Rattle.client_stage.specs.Insides.{IsWhole, plan_in, staged_by}
-use Rattle.client_stage.specs.Standing.{StandsOn}
+use Rattle.stage_laws.specs.Standing.{StandsOn}
 use Rattle.client_stage.specs.declared.stage.Stage.TheInside.{Inside}
 
 pub plan-noted : (noted : List (Unit {0} × Planned)) (plan : Planned) → noted ≡ (tt, plan) ∷ [] → plan_in noted ≡ plan

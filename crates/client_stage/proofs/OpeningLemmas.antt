@@ -21,7 +21,7 @@ use Rattle.client_tasks.specs.Fillings.{AreJoints}
 use Rattle.client_seats.specs.Seatings.{IsSeating}
 use Rattle.owner_laws.specs.Known.{AreKnown}
 use Rattle.stage_laws.specs.Stages.{Staged}
-use Rattle.client_stage.specs.Standing.{EnoughLinks, StandsOn}
+use Rattle.stage_laws.specs.Standing.{EnoughLinks, StandsOn}
 use Rattle.client_stage.proofs.CastLemmas.{first-unfed}
 
 none_below : {n : ℕ} → n < 0 → ⊥

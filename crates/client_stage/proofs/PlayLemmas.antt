@@ -21,7 +21,7 @@ use Rattle.owner_laws.specs.Known.{AreKnown}
 use Rattle.stage_laws.specs.Casts.{ArePlaces, Casts, Fills, Performs}
 use Rattle.stage_laws.specs.Stages.{Staged}
 use Rattle.stage_laws.proofs.WholeLemmas.{idle-played, periods-played, seating-played, staffed-played, unfed-played}
-use Rattle.client_stage.specs.Standing.{EnoughLinks, StandsBy, StandsOn}
+use Rattle.stage_laws.specs.Standing.{EnoughLinks, StandsBy, StandsOn}
 
 no-joints : (joints : List Joint) (nodes p : ℕ) → AreJoints nodes joints → nodes ≤ p → (i : ℕ) → i < length joints → ((joint_at joints i).node == p) ≡ false
 no-joints joints nodes p are past i low = go ((joint_at joints i).node == p) refl

@@ -15,7 +15,7 @@ use Rattle.owner_laws.specs.Known.{AreKnown}
 use Rattle.stage_laws.specs.Casts.{ArePlaces, Casts, Fills, Performs}
 use Rattle.stage_laws.specs.Stages.{Staged}
 use Rattle.client_stage.specs.Insides.{staged_by}
-use Rattle.client_stage.specs.Standing.{StandsBy, StandsOn}
+use Rattle.stage_laws.specs.Standing.{StandsBy, StandsOn}
 use Rattle.client_stage.specs.declared.parts.Parts.{Parts}
 use Rattle.client_stage.proofs.PlayLemmas.{places-of, stands-moved, stands-played, stands-refused}
 use Rattle.client_stage.proofs.TurnLemmas.{few-seated}

@@ -29,7 +29,7 @@ use Rattle.stage_laws.specs.Casts.{Casts, GoesOnIn}
 use Rattle.stage_laws.specs.Stages.{Staged}
 use Rattle.stage_laws.proofs.GoingLemmas.{same-nodes, same-wiring}
 use Rattle.client_stage.specs.Casting.{HasCast}
-use Rattle.client_stage.specs.Standing.{EnoughLinks, StandsBy, StandsOn}
+use Rattle.stage_laws.specs.Standing.{EnoughLinks, StandsBy, StandsOn}
 use Rattle.client_stage.proofs.CastLemmas.{nodes-within}
 
 pub few-seated : (plan : Planned) (rack : Racked) (owned : Owned) → IsSeating rack owned → ((n : ℕ) → n < length plan.nodes → HasBench (open_clients plan.nodes) rack owned n n) → length plan.nodes ≤ 64 → length plan.nodes ≤ min (length rack.benches) 64

@@ -9,7 +9,7 @@ use Rattle.jack_types.specs.declared.ports.Client.{Client}
 use Rattle.session_model.specs.Samples.{silence}
 use Rattle.cycle_plan.specs.Plans.{Planned}
 use Rattle.stage_laws.specs.Stages.{Staged}
-use Rattle.client_stage.specs.Standing.{OnStage, StandsOn}
+use Rattle.stage_laws.specs.Standing.{OnStage, StandsOn}
 use Rattle.client_stage.specs.declared.parts.Parts.{Parts}
 use Rattle.client_stage.specs.declared.stage.Stage.TheInside.{Inside}
 

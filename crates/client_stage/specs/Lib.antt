@@ -1,3 +1,2 @@
 pub mod Casting
-pub mod Standing
 pub mod Insides

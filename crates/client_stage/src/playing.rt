@@ -26,7 +26,7 @@ impl<G: Guest + Send> Stage<G> {
     ghost use Rattle.task_laws.specs.Calls.{IsOldKind};
     ghost use Rattle.ready_laws.specs.Quiet.{HasNoEvents};
     ghost use Rattle.stage_laws.specs.Plays.{IsSettledOn, PlaysPlan};
-    ghost use Rattle.client_stage.specs.Standing.{StandsOn};
+    ghost use Rattle.stage_laws.specs.Standing.{StandsOn};
 
     /// Plays a cycle of a plan, whose changes go on from those of the plan that was played last. Answers whether each of its
     /// clients has a bench; where one can have none, nobody plays.

@@ -10,7 +10,7 @@ impl<G: Guest> Stage<G> {
     ghost use Rattle.std.specs.Prelude.{◌≡◌, ◌≤◌, length};
     ghost use Rattle.std.specs.Option.{option_map_or};
     ghost use Rattle.client_seats.specs.Seatings.{memory_of};
-    ghost use Rattle.client_stage.specs.Standing.{StandsOn};
+    ghost use Rattle.stage_laws.specs.Standing.{StandsOn};
 
     /// Whether each client of the plan that was played last has a bench.
     pub fn is_staffed(&self) -> bool

@@ -6,7 +6,7 @@ ghost use Rattle.session_model.specs.Samples.{silence};
 ghost use Rattle.client_benches.specs.Seen.{new_bench};
 ghost use Rattle.client_kinds.specs.Standings.{IsPlayable};
 ghost use Rattle.client_wiring.specs.Wirings.{wired_of};
-ghost use Rattle.client_stage.specs.Standing.{EnoughLinks, StandsOn};
+ghost use Rattle.stage_laws.specs.Standing.{EnoughLinks, StandsOn};
 
 use crate::parts::Parts;
 use bench_crew::Ensemble;
@@ -40,7 +40,7 @@ pub struct Stage<G: Guest> {
 }
 
 impl<G: Guest> Model for Stage<G> {
-    ghost use Rattle.client_stage.specs.Standing.{OnStage};
+    ghost use Rattle.stage_laws.specs.Standing.{OnStage};
 
     ghost Value = { OnStage };
 

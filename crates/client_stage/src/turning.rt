@@ -17,7 +17,7 @@ ghost use Rattle.owner_laws.specs.Known.{SeatsPlan};
 ghost use Rattle.stage_laws.specs.Casts.{Casts};
 ghost use Rattle.client_stage.specs.Casting.{HasCast};
 ghost use Rattle.client_stage.specs.Insides.{staged_by};
-ghost use Rattle.client_stage.specs.Standing.{StandsBy, StandsOn};
+ghost use Rattle.stage_laws.specs.Standing.{StandsBy, StandsOn};
 
 use crate::casting::cast;
 use crate::laws::a_cast_is_the_stages;

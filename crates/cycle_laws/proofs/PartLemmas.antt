@@ -17,7 +17,7 @@ use Rattle.driver_laws.specs.Drivers.{greatest_period, overruns_on, turn_of}
 use Rattle.client_seats.specs.Moves.{kinds_of}
 use Rattle.recorder_rings.specs.Sending.{Sent, channels_at, no_ring, ring_at}
 use Rattle.task_laws.specs.Calls.{guests_needed, open_kinds}
-use Rattle.client_stage.specs.Standing.{StandsOn}
+use Rattle.stage_laws.specs.Standing.{StandsOn}
 use Rattle.cycle_blocks.specs.Blocks.{block_by, is_taped}
 use Rattle.cycle_laws.specs.Gears.{Gear, IsGear, IsInStep, IsServed, driver_of}
 use Rattle.cycle_laws.specs.Turnings.{Turns}

@@ -20,7 +20,7 @@ use Rattle.client_seats.specs.Moves.{kinds_of}
 use Rattle.task_laws.specs.Calls.{IsOldKind}
 use Rattle.ready_laws.specs.Quiet.{HasNoEvents}
 use Rattle.stage_laws.specs.Plays.{IsSettledOn, PlaysPlan}
-use Rattle.client_stage.specs.Standing.{StandsOn}
+use Rattle.stage_laws.specs.Standing.{StandsOn}
 use Rattle.cycle_blocks.specs.Blocks.{Sends}
 use Rattle.cycle_laws.specs.Gears.{Gear, driver_of}
 

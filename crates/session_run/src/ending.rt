@@ -46,7 +46,7 @@ impl<S: Source, W: Store, G: Guest> Session<S, W, G> {
     {
         an_end_is_whole();
         an_end_that_fails_leaves_fronts();
-        thread_faults::faults::an_end_that_fails_leaves_fronts();
+        session_threads::laws::an_end_that_fails_leaves_fronts();
         if close_recorders(&mut self.rig.works, self.limits.ring).is_err() {
             return Err(SessionFault::Write);
         }

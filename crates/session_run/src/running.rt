@@ -6,10 +6,10 @@ use client_kinds::Guest;
 use jack_host::{Gate, Source, Store};
 use run_laws::serial::all_phases_end;
 use serial_laws::openings::{a_serial_run_is_whole, a_session_stands_before_its_first_phase};
+use session_threads::laws::{a_new_session_is_at_rest, a_run_with_threads_is_whole};
 use session_threads::{SessionFault, run_threads};
 use std::sync::Wait;
 use std::thread::Threads;
-use thread_rings::phases::{a_new_session_is_at_rest, a_run_with_threads_is_whole};
 
 impl<S: Source, W: Store + Send, G: Guest + Send> Session<S, W, G> {
     ghost use Rattle.std.specs.Prelude.{◌≡◌, ℕ, IsErrOf, IsNone, IsSome, OnErr, OnOk, length};
@@ -20,7 +20,7 @@ impl<S: Source, W: Store + Send, G: Guest + Send> Session<S, W, G> {
     ghost use Rattle.run_laws.specs.SerialRuns.{SerialKept};
     ghost use Rattle.run_laws.specs.Told.{Runs, StandsSoFar};
     ghost use Rattle.serial_laws.specs.Faults.{StandsInSerial};
-    ghost use Rattle.thread_faults.specs.Coming.{HasCome};
+    ghost use Rattle.session_threads.specs.Running.{HasCome};
     ghost use Rattle.session_threads.specs.Parts.{AreLater, OneRose, session_of, stores_in, told_of};
     ghost use Rattle.session_run.specs.Standings.{HasRun, IsReady};
 

@@ -6,6 +6,7 @@ mod faults;
 mod giving;
 mod joins;
 mod lanes;
+pub mod laws;
 mod meetings;
 mod phases;
 mod rings;

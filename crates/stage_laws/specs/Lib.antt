@@ -1,3 +1,4 @@
 pub mod Stages
 pub mod Casts
 pub mod Plays
+pub mod Standing

@@ -5,7 +5,7 @@ use Rattle.client_seats.specs.Owners.{Owned, owner_at}
 use Rattle.client_seats.specs.Seatings.{IsSeating}
 use Rattle.owner_laws.specs.Known.{AreKnown}
 use Rattle.client_stage.specs.Insides.{staged_by}
-use Rattle.client_stage.specs.Standing.{EnoughLinks, StandsOn}
+use Rattle.stage_laws.specs.Standing.{EnoughLinks, StandsOn}
 use Rattle.client_stage.proofs.InsideLemmas.{plan-noted, whole}
 use Rattle.client_stage.proofs.OpeningLemmas.{all-the-same, stands-new}
 use Rattle.client_stage.proofs.stage.Stage.new.Goals as goal

@@ -13,7 +13,7 @@ use Rattle.owner_laws.specs.Known.{AreKnown}
 use Rattle.stage_laws.specs.Casts.{ArePlaces, Casts, Fills, Performs}
 use Rattle.stage_laws.specs.Plays.{IsSettledOn, PlaysPlan}
 use Rattle.client_stage.specs.Insides.{plan_in, staged_by}
-use Rattle.client_stage.specs.Standing.{OnStage, StandsBy, StandsOn}
+use Rattle.stage_laws.specs.Standing.{OnStage, StandsBy, StandsOn}
 use Rattle.client_stage.proofs.InsideLemmas.{plan-noted, whole}
 use Rattle.client_stage.proofs.StageLemmas.{few-there, kinds-behind, places-there, refused-moved_on, set-there, stands-behind, the-cast, unused-there}
 use Rattle.client_stage.proofs.stage.Stage.play.Goals as goal
