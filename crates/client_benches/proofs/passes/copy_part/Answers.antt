@@ -1,7 +1,7 @@
 use Rattle.std.proofs.Common.{length, arith}
 use Rattle.std.proofs.lemmas.Grind.{common_steps}
 use Rattle.client_benches.proofs.PartLemmas.{mix-alone}
-use Rattle.client_benches.proofs.mixing.copy_part.Goals as goal
+use Rattle.client_benches.proofs.passes.copy_part.Goals as goal
 
 pub returns-clause-samples : goal.returns-clause-samples
 returns-clause-samples c = λ k h. grind (arith, common_steps)
