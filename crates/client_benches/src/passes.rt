@@ -1,6 +1,6 @@
 //! Mixes of no more than four parts, each in one pass over the frames.
 
-ghost use Rattle.std.specs.Prelude.{◌≡◌, ℕ, ◌<◌, ◌∷◌, [], pos, negsuc, ◌+ℤ◌, ◌≤ℤ◌, length};
+ghost use Rattle.std.specs.Prelude.{◌≡◌, ℕ, ◌<◌, ◌≤◌, ◌∷◌, [], pos, negsuc, ◌+ℤ◌, ◌≤ℤ◌, length};
 ghost use Rattle.session_model.specs.Samples.{clamp, mix, sample, total};
 
 use port_mixer::see_samples;
@@ -15,6 +15,37 @@ pub(crate) enum Few<'a> {
     Four(&'a [i32], &'a [i32], &'a [i32], &'a [i32]),
 }
 
+/// Copies a part of any length: what it lacks is silence, and what lies behind the last frame is left out.
+fn copy_padded(out: &mut [i32], part: &[i32])
+    ensures length { length out.new ≡ length out.old }
+    ensures samples { (k : ℕ) → k < length out.old → sample out.new k ≡ sample part.now k }
+{
+    let whole = part.len().min(out.len());
+    out[..whole].copy_from_slice(&part[..whole]);
+    out[whole..].fill(0);
+}
+
+/// Copies the first samples of a part.
+fn copy_first(out: &mut [i32], part: &[i32])
+    requires { length out.old ≤ length part.now }
+    ensures length { length out.new ≡ length out.old }
+    ensures samples { (k : ℕ) → k < length out.old → sample out.new k ≡ sample part.now k }
+{
+    out.copy_from_slice(&part[..out.len()]);
+}
+
+/// Copies a part as [`copy_padded`] does, and fills nothing where it lacks no sample.
+fn copy_any(out: &mut [i32], part: &[i32])
+    ensures length { length out.new ≡ length out.old }
+    ensures samples { (k : ℕ) → k < length out.old → sample out.new k ≡ sample part.now k }
+{
+    if out.len() <= part.len() {
+        copy_first(out, part);
+    } else {
+        copy_padded(out, part);
+    }
+}
+
 /// Copies a part of any length in the place of a mix of it alone: what it lacks is silence, and what lies behind the last
 /// frame is not heard.
 pub fn copy_part(out: &mut [i32], part: &[i32])
@@ -22,9 +53,7 @@ pub fn copy_part(out: &mut [i32], part: &[i32])
     ensures samples { (k : ℕ) → k < length out.old → sample out.new k ≡ sample part.now k }
 {
     see_samples(part);
-    let whole = part.len().min(out.len());
-    out[..whole].copy_from_slice(&part[..whole]);
-    out[whole..].fill(0);
+    copy_any(out, part);
 }
 
 /// The sample of a part at a frame, silence behind its end.
