@@ -1,14 +1,15 @@
 -- The parts of an input, and their mix.
 --     sums-padded      a part counts as far as there are frames
 --     mix-alone      a part that is mixed alone is copied
---     mix-both      a part that is added to another, clamped, is mixed with it
---     AreFew, few-two, few-mixed, more-pass      the parts of an input that gets no more than two
-use Rattle.std.proofs.Common.{◌≡◌, ℕ, ◌+◌, ◌<◌, ◌≤◌, Bool, true, false, List, [], ◌∷◌, ◌++◌, length, map, filter, take, drop, get_or, ℤ, pos, negsuc, ◌+ℤ◌, Bor, Option, Some, None, true≢false, refl, sym, ◌∙◌, ap, ap₂, subst, arith, add-one}
+--     IsMixed, mixed-more, mixed-all, mixed-none      samples that are mixed frame by frame
+--     sample_past, silence_first      silence behind a part's end, and before a sum
+--     more-pass      the parts of an input that gets more than so many
+use Rattle.std.proofs.Common.{◌≡◌, ℕ, ◌+◌, ◌<◌, ◌≤◌, Bool, true, false, List, [], ◌∷◌, ◌++◌, length, map, filter, take, drop, get_or, ℤ, pos, negsuc, ◌+ℤ◌, refl, sym, ◌∙◌, ap, subst, arith, add-one}
 use Rattle.std.specs.Int.{w32}
-use Rattle.std.specs.Prelude.{FitsSigned, if◌then◌else◌, is_some, nat_lt, unwrap_or}
+use Rattle.std.specs.Prelude.{FitsSigned, if◌then◌else◌, nat_lt, slice_set}
 use Rattle.std.proofs.lemmas.Bool.{ltb-false, ltb-true}
 use Rattle.std.proofs.lemmas.Int.{ints}
-use Rattle.std.proofs.lemmas.List.{ext_get_or, get_or_past, length-append, take-append-drop}
+use Rattle.std.proofs.lemmas.List.{ext_get_or, get_or_past, get_or-set_other, get_or-set_same, length-append, take-append-drop}
 use Rattle.std.proofs.lemmas.List.Elements.{filter-append}
 use Rattle.std.proofs.Math.Seq.{take-suc}
 use Rattle.session_model.specs.Samples.{clamp, mix, sample, total}
@@ -72,64 +73,35 @@ mix-alone frames samples part long same small =
     ext_get_or (pos 0) samples (mix frames (part ∷ [])) (long ∙ sym (length-mix frames (part ∷ [])))
     (λ k h. same k (omega (arith, h, long)) ∙ sym (sample-alone frames part k (omega (arith, h, long)) small))
 
--- silence before and behind a sample adds nothing to it
-silence-before : (x : ℤ) → x ≡ pos 0 +ℤ x
-silence-before x = grind (arith, ints)
+-- silence before a sample adds nothing to it
+pub silence_first : (x : ℤ) → x ≡ pos 0 +ℤ x
+silence_first x = grind (arith, ints)
 
-silence-behind : (x : ℤ) → x ≡ x +ℤ pos 0
-silence-behind x = grind (arith, ints)
+-- the first samples are those of the mix of these parts
+abbrev pub IsMixed : ℕ → List ℤ → List (List ℤ) → Type 0
+IsMixed count samples parts = (k : ℕ) → k < count → sample samples k ≡ clamp (total (map (λ part. sample part k) parts))
 
--- the mix of two parts is the first with the second added, each sum clamped
-pub mix-both : (frames : ℕ) (samples front one other : List ℤ) → length samples ≡ frames → front ≡ mix frames (one ∷ []) → ((k : ℕ) → k < frames → sample front k ≡ sample one k)
-    → ((k : ℕ) → k < frames → k < length other → sample samples k ≡ clamp (sample front k +ℤ sample other k)) → ((k : ℕ) → length other ≤ k → sample samples k ≡ sample front k)
-    → samples ≡ mix frames (one ∷ other ∷ [])
-mix-both frames samples front one other long first same added behind =
-    ext_get_or (pos 0) samples (mix frames (one ∷ other ∷ [])) (long ∙ sym (length-mix frames (one ∷ other ∷ [])))
-    (λ k h. at k (omega (arith, h, long)) (nat_lt k (length other)) refl
-    ∙ sym (get_or-map_below (λ i. clamp (total (map (λ part. sample part i) (one ∷ other ∷ [])))) frames k (pos 0) (omega (arith, h, long))))
+pub mixed-all : (frames count : ℕ) (samples : List ℤ) (parts : List (List ℤ)) → length samples ≡ frames → frames ≤ count → IsMixed count samples parts → samples ≡ mix frames parts
+mixed-all frames count samples parts long all done =
+    ext_get_or (pos 0) samples (mix frames parts) (long ∙ sym (length-mix frames parts))
+    (λ k h. done k (omega (arith, h, long, all)) ∙ sym (get_or-map_below (λ i. clamp (total (map (λ part. sample part i) parts))) frames k (pos 0) (omega (arith, h, long))))
+
+pub mixed-more : (count : ℕ) (samples : List ℤ) (parts : List (List ℤ)) (x : ℤ) → count < length samples → IsMixed count samples parts → x ≡ clamp (total (map (λ part. sample part count) parts))
+    → IsMixed (count + 1) (slice_set samples count x) parts
+mixed-more count samples parts x low done is k h = at (nat_lt k count) refl
   where
-    at : (k : ℕ) → k < frames → (b : Bool) → nat_lt k (length other) ≡ b → sample samples k ≡ clamp ((pos 0 +ℤ sample one k) +ℤ sample other k)
-    at k h true within = added k h (ltb-true k (length other) within) ∙ ap (λ x. clamp (x +ℤ sample other k)) (same k h ∙ silence-before (sample one k))
-    at k h false past =
-        behind k (ltb-false k (length other) past)
-        ∙ ap (λ xs. sample xs k) first
-        ∙ get_or-map_below (λ i. clamp (total (map (λ part. sample part i) (one ∷ [])))) frames k (pos 0) h
-        ∙ ap clamp (silence-behind (pos 0 +ℤ sample one k) ∙ ap (λ x. (pos 0 +ℤ sample one k) +ℤ x) (sym (get_or_past other k (pos 0) (ltb-false k (length other) past))))
+    at : (b : Bool) → nat_lt k count ≡ b → sample (slice_set samples count x) k ≡ clamp (total (map (λ part. sample part k) parts))
+    at true before = get_or-set_other samples count k x (pos 0) (λ e. omega (arith, e, ltb-true k count before)) ∙ done k (ltb-true k count before)
+    at false past =
+        let here : k ≡ count = omega (arith, h, ltb-false k count past) in
+        subst (λ i. sample (slice_set samples count x) i ≡ clamp (total (map (λ part. sample part i) parts))) (sym here) (get_or-set_same samples count x (pos 0) low ∙ is)
 
--- these parts, where there are no more than two
-abbrev pub AreFew : Option (Bor (List ℤ)) → Option (Bor (List ℤ)) → List (List ℤ) → Type 0
-AreFew None None parts = parts ≡ []
-AreFew None (Some second) parts = ⊥
-AreFew (Some first) None parts = parts ≡ first.now ∷ []
-AreFew (Some first) (Some second) parts = parts ≡ first.now ∷ second.now ∷ []
+pub sample_past : (part : List ℤ) (k : ℕ) → length part ≤ k → pos 0 ≡ sample part k
+sample_past part k past = sym (get_or_past part k (pos 0) past)
 
-pub few-two : (first second : Option (Bor (List ℤ))) (parts : List (List ℤ)) → true ≡ is_some second → AreFew first second parts → length parts ≡ 2
-few-two None None parts there are = absurd (true≢false there)
-few-two None (Some second) parts there are = absurd are
-few-two (Some first) None parts there are = absurd (true≢false there)
-few-two (Some first) (Some second) parts there are = ap length are
-
--- no part behind another is mixed as one of no samples
-mix-behind : (frames : ℕ) (part : List ℤ) → mix frames (part ∷ []) ≡ mix frames (part ∷ [] ∷ [])
-mix-behind frames part = map_below-same
-    (λ i. clamp (total (map (λ part. sample part i) (part ∷ []))))
-    (λ i. clamp (total (map (λ part. sample part i) (part ∷ [] ∷ []))))
-    frames
-    (λ i h. ap clamp (silence-behind (pos 0 +ℤ sample part i)))
-
--- they are mixed as two; what is lacking is mixed as a part of no samples
-pub few-mixed : (first second : Option (Bor (List ℤ))) (parts : List (List ℤ)) (none other one two : Bor (List ℤ)) → none.now ≡ [] → other.now ≡ [] → one ≡ unwrap_or first none → two ≡ unwrap_or second other → AreFew first second parts
-    → (frames : ℕ) → mix frames parts ≡ mix frames (one.now ∷ two.now ∷ [])
-few-mixed first second parts none other one two empty also is_one is_two are frames =
-    go first second are
-    ∙ ap₂ (λ (x y : List ℤ). mix frames ((unwrap_or first (record none { now = x })).now ∷ (unwrap_or second (record other { now = y })).now ∷ [])) (sym empty) (sym also)
-    ∙ ap₂ (λ (x y : Bor (List ℤ)). mix frames (x.now ∷ y.now ∷ [])) (sym is_one) (sym is_two)
-  where
-    go : (first second : Option (Bor (List ℤ))) → AreFew first second parts → mix frames parts ≡ mix frames ((unwrap_or first (record none { now = [] })).now ∷ (unwrap_or second (record other { now = [] })).now ∷ [])
-    go None None are = ap (mix frames) are
-    go None (Some second) are = absurd are
-    go (Some first) None are = ap (mix frames) are ∙ mix-behind frames first.now
-    go (Some first) (Some second) are = ap (mix frames) are
+-- silence is mixed from no part
+pub mixed-none : (frames : ℕ) (samples : List ℤ) → length samples ≡ frames → ((k : ℕ) → k < frames → sample samples k ≡ pos 0) → samples ≡ mix frames []
+mixed-none frames samples long each = mixed-all frames frames samples [] long (omega arith) each
 
 -- one item more passes than those before it
 pub more-pass : {X : Type 0} (test : X → Bool) (xs : List X) (i n : ℕ) (d : X) → i < length xs → test (get_or xs i d) ≡ true → length (filter test (take i xs)) ≡ n → n < length (filter test xs)

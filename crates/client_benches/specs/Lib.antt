@@ -3,3 +3,4 @@ pub mod Routes
 pub mod Wires
 pub mod Seen
 pub mod Insides
+pub mod Few

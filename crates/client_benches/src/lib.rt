@@ -10,6 +10,7 @@ mod filling;
 mod known;
 mod laws;
 mod mixing;
+mod passes;
 mod playing;
 mod reading;
 mod setting;
@@ -19,7 +20,8 @@ mod wires;
 pub use benches::{BenchMemory, ClientBench, Turn};
 pub use known::Room;
 pub use laws::{crew_plays_by_all_scores, plays_by_all_scores};
-pub use mixing::{add_part, copy_part};
+pub use mixing::add_part;
+pub use passes::copy_part;
 pub use values::{Rooms, Route};
 pub use wires::{Source, Wire};
 

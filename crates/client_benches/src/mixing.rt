@@ -1,29 +1,19 @@
 //! The mix of an input.
 
-ghost use Rattle.std.specs.Prelude.{◌≡◌, ℕ, ◌+◌, ◌*◌, ◌<◌, ◌≤◌, ◌++◌, ◌∷◌, [], ℤ, ◌+ℤ◌, List, All, IsSome, MatchOption, length, map};
+ghost use Rattle.std.specs.Prelude.{◌≡◌, ℕ, ◌+◌, ◌*◌, ◌<◌, ◌≤◌, ◌++◌, ◌∷◌, [], ℤ, List, All, IsSome, MatchOption, length, map};
 ghost use Rattle.activation.specs.Values.{values_of};
 ghost use Rattle.session_model.specs.Benches.{audio_part};
-ghost use Rattle.session_model.specs.Samples.{clamp, mix, sample};
+ghost use Rattle.session_model.specs.Samples.{mix, sample};
 ghost use Rattle.port_mixer.specs.Sums.{sums_of};
 ghost use Rattle.client_kinds.specs.Buffers.{buffers_of, with_buffer};
+ghost use Rattle.client_benches.specs.Few.{parts_in};
 ghost use Rattle.client_benches.specs.Wires.{inputs_of, parts_into};
 
+use crate::passes::{Few, copy_part};
 use crate::values::Rooms;
 use crate::wires::Wire;
 use client_kinds::Shape;
-use port_mixer::{Mixer, see_samples};
-
-/// Copies a part of any length in the place of a mix of it alone: what it lacks is silence, and what lies behind the last
-/// frame is not heard.
-pub fn copy_part(out: &mut [i32], part: &[i32])
-    ensures mixed { out.new ≡ mix (length out.old) (part.now ∷ []) }
-    ensures samples { (k : ℕ) → k < length out.old → sample out.new k ≡ sample part.now k }
-{
-    see_samples(part);
-    let whole = part.len().min(out.len());
-    out[..whole].copy_from_slice(&part[..whole]);
-    out[whole..].fill(0);
-}
+use port_mixer::Mixer;
 
 /// Adds a part of any length: what it lacks is silence, and what lies behind the last frame is not heard.
 ///
@@ -44,55 +34,23 @@ pub fn add_part(mixer: &mut Mixer, padded: &mut [i32], part: &[i32])
     }
 }
 
-/// Adds a part of any length to samples, each sum clamped: what it lacks is silence, and what lies behind the last frame
-/// is not heard.
-fn add_clamped(out: &mut [i32], part: &[i32])
-    ensures length { length out.new ≡ length out.old }
-    ensures added { (k : ℕ) → k < length out.old → k < length part.now → sample out.new k ≡ clamp (sample out.old k +ℤ sample part.now k) }
-    ensures behind { (k : ℕ) → length part.now ≤ k → sample out.new k ≡ sample out.old k }
-{
-    let whole = part.len().min(out.len());
-    for place in 0..whole {
-        out[place] = out[place].saturating_add(part[place]);
-    }
-}
-
-/// Mixes two parts of any length: what they lack is silence, and what lies behind the last frame is not heard.
-fn mix_two(out: &mut [i32], one: &[i32], other: &[i32])
-    ensures { out.new ≡ mix (length out.old) (one.now ∷ other.now ∷ []) }
-{
-    copy_part(out, one);
-    add_clamped(out, other);
-}
-
-/// The parts of an input that gets no more than two, a part of no samples for each that it lacks.
+/// The parts of an input that gets no more than four.
 ///
-/// No wire behind the third into this input is looked at.
-fn few_parts<'a>(
-    wires: &'a [Wire],
-    given: &'a [Option<Rooms>],
-    input: u16,
-) -> Option<(&'a [i32], &'a [i32])>
+/// No wire behind the fifth into this input is looked at.
+fn few_parts<'a>(wires: &'a [Wire], given: &'a [Option<Rooms>], input: u16) -> Option<Few<'a>>
     requires { All IsSome given.now }
-    ensures { MatchOption result (2 < length (parts_into wires.now input)) (λ two. (frames : ℕ) → mix frames (map (audio_part (values_of given.now)) (parts_into wires.now input)) ≡ mix frames (two.0.now ∷ two.1.now ∷ [])) }
+    ensures { MatchOption result (4 < length (parts_into wires.now input)) (λ few. map (audio_part (values_of given.now)) (parts_into wires.now input) ≡ parts_in few) }
 {
-    let mut first: Option<&[i32]> = None;
-    let mut second: Option<&[i32]> = None;
+    let mut few = Few::Nothing;
     for wire in wires {
-        if wire.input != input {
-            continue;
-        }
-        if second.is_some() {
-            return None;
-        }
-        let part = wire.part(wires, given);
-        if first.is_some() {
-            second = Some(part);
-        } else {
-            first = Some(part);
+        if wire.input == input {
+            few = match few.and(wire.part(wires, given)) {
+                Some(more) => more,
+                None => return None,
+            };
         }
     }
-    Some((first.unwrap_or(&[]), second.unwrap_or(&[])))
+    Some(few)
 }
 
 /// Mixes an input by the sums of its parts.
@@ -139,7 +97,7 @@ fn mix_input(
     ensures frames { length padded.new ≡ length padded.old }
 {
     match few_parts(wires, given, input) {
-        Some((one, other)) => mix_two(out, one, other),
+        Some(few) => few.mix(out),
         None => mix_parts(mixer, padded, wires, given, input, out),
     }
 }

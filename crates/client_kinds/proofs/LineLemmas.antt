@@ -1,7 +1,7 @@
 -- The lines of a delay.
 --     kept_whole, kept_last      what a ring keeps
 --     quiet-kept, lines-all      lines that have got nothing but silence need not be stepped
---     filled-none, filled-more, filled-all      a buffer that is filled step by step
+--     filled-none, filled-more, filled-all, first-alone      a buffer that is filled step by step, and at once
 use Rattle.std.proofs.Common.{◌≡◌, ℕ, zero, suc, pos, ◌+◌, ◌-◌, ◌<◌, ◌≤◌, ◌⊎◌, inl, inr, List, [], ◌∷◌, ◌++◌, length, map, take, drop, get_or, ℤ, refl, sym, ◌∙◌, ap, ap₂, subst, arith, length-append, add-one, All}
 use Rattle.std.specs.Prelude.{min}
 use Rattle.std.proofs.lemmas.Bool.{cases_lt}
@@ -92,6 +92,11 @@ filled-all part samples filled n long enough done =
     sym (take_all filled part (omega (arith, done.most, long, enough)))
     ∙ done.front
     ∙ ap (λ m. take m samples) (omega (arith, done.most, long, enough))
+
+-- samples in front of others
+pub first-alone : (n : ℕ) (front back x : List ℤ) → n ≤ length front → take n front ≡ take n ((front ++ back) ++ x)
+first-alone n front back x enough =
+    sym (take-append-le n front back enough) ∙ sym (take-append-le n (front ++ back) x (omega (arith, enough, length-append front back)))
 
 pub lines-whole : (lines : List (Buffer ℤ)) (place : ℕ) (line : Buffer ℤ) → All IsWhole lines → IsWhole line → All IsWhole (set lines place line)
 lines-whole lines place line all one = All-set IsWhole lines place line one all

@@ -59,14 +59,27 @@ fn copy_behind(part: &mut [i32], filled: usize, samples: &[i32]) -> usize
     filled + count
 }
 
-/// The first samples of a line and of the input behind it.
-fn fill_behind(front: &[i32], back: &[i32], x: &[i32], part: &mut [i32])
+/// The first samples of a line in two pieces and of the input behind it.
+fn fill_pieces(front: &[i32], back: &[i32], x: &[i32], part: &mut [i32])
     requires { length x.now ≡ length part.old }
     ensures { part.new ≡ take (length part.old) ((front.now ++ back.now) ++ x.now) }
 {
     let filled = copy_behind(part, 0, front);
     let filled = copy_behind(part, filled, back);
     copy_behind(part, filled, x);
+}
+
+/// The first samples of a line in two pieces and of the input behind it: of the first piece alone, where it has
+/// as many.
+fn fill_behind(front: &[i32], back: &[i32], x: &[i32], part: &mut [i32])
+    requires { length x.now ≡ length part.old }
+    ensures { part.new ≡ take (length part.old) ((front.now ++ back.now) ++ x.now) }
+{
+    if part.len() <= front.len() {
+        part.copy_from_slice(&front[..part.len()]);
+    } else {
+        fill_pieces(front, back, x, part);
+    }
 }
 
 /// The first samples of a line and of the input behind it.

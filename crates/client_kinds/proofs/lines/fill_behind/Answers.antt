@@ -1,10 +1,6 @@
-use Rattle.std.proofs.Common.{◌++◌, ◌∙◌, [], arith, length, length-append}
-use Rattle.client_kinds.proofs.LineLemmas.{filled-all, filled-none}
+use Rattle.std.proofs.Common.{◌≡◌, ◌∙◌, length, arith}
+use Rattle.client_kinds.proofs.LineLemmas.{first-alone}
 use Rattle.client_kinds.proofs.lines.fill_behind.Goals as goal
 
-pub returns : goal.returns
-returns c =
-    filled-all c.copy_behind.new.part ((c.args.front.now ++ c.args.back.now) ++ c.args.x.now) c.copy_behind.result (length c.args.part.now)
-    (c.copy_behind.ensures.length ∙ c.copy_behind-filled-2.ensures.length ∙ c.copy_behind-filled.ensures.length)
-    (omega (arith, c.requires, length-append (c.args.front.now ++ c.args.back.now) c.args.x.now))
-    (c.copy_behind.ensures.filled (c.args.front.now ++ c.args.back.now) (c.copy_behind-filled-2.ensures.filled c.args.front.now (c.copy_behind-filled.ensures.filled [] (filled-none c.args.part.now))))
+pub returns-then-part-front : goal.returns-then-part-front
+returns-then-part-front c = c.copy_from_slice.ensures.after ∙ first-alone (length c.args.part.now) c.args.front.now c.args.back.now c.args.x.now (omega (arith, c.if-part-front.true))
