@@ -72,7 +72,7 @@ fn play<T: Threads + Sync>(
     ensures rooms { (has_room_at (bench_of benches.new 0) 0 ≡ true) × (has_room_at (bench_of benches.new 0) 1 ≡ true) }
 {
     let links = [Link { from: 0, to: low }, Link { from: 0, to: high }];
-    ensemble.play(threads, &FreeGate, &links, benches);
+    ensemble.play(threads, &FreeGate, &links, 4, benches);
 }
 
 // The first and the last sample that each bench gave in its last cycle.
