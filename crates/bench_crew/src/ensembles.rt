@@ -20,7 +20,7 @@ use std::marker::Model;
 use std::thread::Threads;
 
 /// The work of a seat that is worth the start of a thread.
-const LEAST_SHARE: u64 = 16_384;
+const LEAST_SHARE: u64 = 32_768;
 
 /// What plays a cycle: this thread by itself, in the order of the nodes, or where there are several seats a team.
 #[derive(Drop)]
