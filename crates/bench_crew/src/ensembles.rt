@@ -1,11 +1,11 @@
 //! A crew of clients' benches, with its seats.
-ghost use Rattle.std.specs.Prelude.{◌≡◌, ◌≤◌, ◌<◌, ℕ, All, IfOk, length};
+ghost use Rattle.std.specs.Prelude.{◌≡◌, ◌≤◌, ◌<◌, ℕ, All, IfOk, IfSome, length};
 ghost use Rattle.session_model.specs.Activation.{AreLinks, sequential};
 ghost use Rattle.activation.specs.Rounds.{AreReturned};
 ghost use Rattle.client_benches.specs.Seen.{has_room_at, kept_after, kept_gives};
 ghost use Rattle.cycle_workers.specs.Runs.{HaveRoom};
 ghost use Rattle.bench_crew.specs.Ensembles.{bench_of};
-ghost use Rattle.bench_crew.specs.Meanings.{ensembled_of, IsReady};
+ghost use Rattle.bench_crew.specs.Meanings.{ensembled_of, seats_of, IsReady, IsReadyTeam};
 
 use crate::alone::play_alone;
 use crate::playing::play_over;
@@ -19,14 +19,26 @@ use std::alloc::Global;
 use std::marker::Model;
 use std::thread::Threads;
 
-/// What plays a cycle: one seat by itself, in the order of the nodes, or a crew with its seats.
+/// The work of a seat that is worth the start of a thread.
+const LEAST_SHARE: u64 = 32_768;
+
+/// What plays a cycle: this thread by itself, in the order of the nodes, or where there are several seats a team.
+#[derive(Drop)]
+struct Means<G: Guest> {
+    sources: Sources,
+    given: Vec<Option<Rooms>>,
+    team: Option<Team<G>>,
+}
+
+/// A crew with its seats, and the least work of a cycle that it plays.
 ///
 /// A crew is made over benches of nobody, which stand in for the session's benches between two cycles and
 /// are never played.
 #[derive(Drop)]
-enum Means<G: Guest> {
-    Alone(Sources, Vec<Option<Rooms>>),
-    Together(Crew<ClientBench<G>>, Vec<Seat<ClientBench<G>>>),
+struct Team<G: Guest> {
+    crew: Crew<ClientBench<G>>,
+    seats: Vec<Seat<ClientBench<G>>>,
+    least_work: u64,
 }
 
 /// The crew of a session's benches, with its seats.
@@ -61,10 +73,45 @@ fn stand_ins<G: Guest>(alloc: Global, nodes: u32) -> Result<Vec<ClientBench<G>>,
     Ok(benches)
 }
 
-/// One seat.
-fn alone<G: Guest>(alloc: Global, nodes: u32) -> Result<Means<G>, Memory>
+/// A crew, over benches of nobody.
+fn team_of<G: Guest>(alloc: Global, nodes: u32, seats: u32) -> Result<Team<G>, Memory>
     requires nodes { nodes ≤ 64 }
-    ensures { IfOk result (λ means. (ensembled_of means ≡ record { nodes = nodes; seats = 1 }) × IsReady means) }
+    requires seats { (0 < seats) × (seats ≤ 16) }
+    ensures { IfOk result (λ team. (team.crew.nodes ≡ nodes) × (team.crew.seats ≡ seats) × IsReadyTeam team) }
+{
+    let least_work = LEAST_SHARE * u64::from(seats);
+    let benches = stand_ins(alloc, nodes)?;
+    match Crew::new(alloc, &[], benches, seats) {
+        Ok((crew, seats)) => Ok(Team {
+            crew,
+            seats,
+            least_work,
+        }),
+        Err(_) => Err(Memory),
+    }
+}
+
+/// No team where there is one seat.
+fn team_if_several<G: Guest>(
+    alloc: Global,
+    nodes: u32,
+    seats: u32,
+) -> Result<Option<Team<G>>, Memory>
+    requires nodes { nodes ≤ 64 }
+    requires seats { (0 < seats) × (seats ≤ 16) }
+    ensures { IfOk result (λ team. (seats_of team ≡ seats) × IfSome team (λ team. (team.crew.nodes ≡ nodes) × IsReadyTeam team)) }
+{
+    if seats == 1 {
+        return Ok(None);
+    }
+    Ok(Some(team_of(alloc, nodes, seats)?))
+}
+
+/// The room of a thread that plays by itself, and with several seats a team.
+fn means_of<G: Guest>(alloc: Global, nodes: u32, seats: u32) -> Result<Means<G>, Memory>
+    requires nodes { nodes ≤ 64 }
+    requires seats { (0 < seats) × (seats ≤ 16) }
+    ensures { IfOk result (λ means. (ensembled_of means ≡ record { nodes = nodes; seats = seats }) × IsReady means) }
 {
     let Ok(sources) = Sources::new(alloc, nodes) else {
         return Err(Memory);
@@ -72,31 +119,12 @@ fn alone<G: Guest>(alloc: Global, nodes: u32) -> Result<Means<G>, Memory>
     let Ok(given) = Vec::with_capacity(alloc, 512) else {
         return Err(Memory);
     };
-    Ok(Means::Alone(sources, given))
-}
-
-/// A crew, over benches of nobody.
-fn together<G: Guest>(alloc: Global, nodes: u32, seats: u32) -> Result<Means<G>, Memory>
-    requires nodes { nodes ≤ 64 }
-    requires seats { (0 < seats) × (seats ≤ 16) }
-    ensures { IfOk result (λ means. (ensembled_of means ≡ record { nodes = nodes; seats = seats }) × IsReady means) }
-{
-    let benches = stand_ins(alloc, nodes)?;
-    match Crew::new(alloc, &[], benches, seats) {
-        Ok((crew, seats)) => Ok(Means::Together(crew, seats)),
-        Err(_) => Err(Memory),
-    }
-}
-
-fn means_of<G: Guest>(alloc: Global, nodes: u32, seats: u32) -> Result<Means<G>, Memory>
-    requires nodes { nodes ≤ 64 }
-    requires seats { (0 < seats) × (seats ≤ 16) }
-    ensures { IfOk result (λ means. (ensembled_of means ≡ record { nodes = nodes; seats = seats }) × IsReady means) }
-{
-    if seats == 1 {
-        return alone(alloc, nodes);
-    }
-    together(alloc, nodes, seats)
+    let team = team_if_several(alloc, nodes, seats)?;
+    Ok(Means {
+        sources,
+        given,
+        team,
+    })
 }
 
 impl<G: Guest> Ensemble<G> {
@@ -116,19 +144,17 @@ impl<G: Guest> Ensemble<G> {
     pub fn nodes(&self) -> u32
         ensures { result ≡ self.now.nodes }
     {
-        match &self.means {
-            Means::Alone(sources, _) => sources.nodes(),
-            Means::Together(crew, _) => crew.nodes(),
-        }
+        self.means.sources.nodes()
     }
 }
 
-/// Plays these benches, one a node, over these links.
+/// Plays these benches, one a node, over these links, with so much work.
 fn play_by<G: Guest + Send, K: Gate, T: Threads + Sync>(
     means: &mut Means<G>,
     threads: &T,
     gate: &K,
     links: &[Link],
+    work: u64,
     benches: &mut [ClientBench<G>],
 )
     requires ready { IsReady means.old }
@@ -138,28 +164,31 @@ fn play_by<G: Guest + Send, K: Gate, T: Threads + Sync>(
     ensures ready { IsReady means.new }
     ensures played { AreReturned (λ bench. bench.kept) has_room_at kept_after kept_gives links.now benches.old benches.new }
 {
-    match means {
-        Means::Alone(sources, given) => play_alone(gate, sources, given, links, benches),
-        Means::Together(crew, seats) => play_over(
+    match &mut means.team {
+        Some(team) if team.least_work <= work => play_over(
             threads,
             gate,
-            crew,
-            seats.as_mut_slice(),
+            &mut team.crew,
+            team.seats.as_mut_slice(),
             links,
             benches,
         ),
+        _ => play_alone(gate, &mut means.sources, &mut means.given, links, benches),
     }
 }
 
 impl<G: Guest + Send> Ensemble<G> {
     /// Plays a bench a node, over these links: each on what the benches of its incoming links handed it.
     ///
-    /// The seats are shared among as many threads; with one seat no thread is started. It takes no memory.
+    /// `work` is that of the cycle: clients and connections, times the frames of the period. Where a seat's
+    /// share of it is worth the start of a thread, the seats are shared among as many threads; else this thread
+    /// plays all, as with one seat. What is played is the same. It takes no memory.
     pub fn play<K: Gate, T: Threads + Sync>(
         &mut self,
         threads: &T,
         gate: &K,
         links: &[Link],
+        work: u64,
         benches: &mut [ClientBench<G>],
     )
         requires count { length benches.old ≡ self.old.nodes }
@@ -170,6 +199,6 @@ impl<G: Guest + Send> Ensemble<G> {
         ensures played { (n : ℕ) → n < length benches.old → (bench_of benches.new n).kept ≡ sequential kept_after kept_gives links.now (λ m. (bench_of benches.old m).kept) n }
         ensures rooms { (n : ℕ) (place : ℕ) → n < length benches.old → has_room_at (bench_of benches.new n) place ≡ has_room_at (bench_of benches.old n) place }
     {
-        play_by(&mut self.means, threads, gate, links, benches);
+        play_by(&mut self.means, threads, gate, links, work, benches);
     }
 }

@@ -19,6 +19,7 @@ fn play_front<G: Guest + Send, T: Threads + Sync, K: Gate>(
     gate: &K,
     ensemble: &mut Ensemble<G>,
     links: &[Link],
+    work: u64,
     benches: &mut [ClientBench<G>],
 )
     requires count { ensemble.old.nodes ≤ length benches.old }
@@ -31,7 +32,7 @@ fn play_front<G: Guest + Send, T: Threads + Sync, K: Gate>(
     ensures others { (n : ℕ) → ensemble.old.nodes ≤ n → bench_among benches.new n ≡ bench_among benches.old n }
 {
     let nodes = ensemble.nodes() as usize;
-    ensemble.play(threads, gate, links, &mut benches[..nodes]);
+    ensemble.play(threads, gate, links, work, &mut benches[..nodes]);
 }
 
 impl<G: Guest + Send> Rack<G> {
@@ -39,14 +40,15 @@ impl<G: Guest + Send> Rack<G> {
 
     /// Plays the first benches, as many as the crew has nodes, over these links.
     ///
-    /// The crew's seats are shared among as many threads; with one seat no thread is started. It takes no
-    /// memory.
+    /// `work` is that of the cycle: clients and connections, times the frames of the period. Where it is worth
+    /// it, the crew's seats are shared among as many threads. It takes no memory.
     pub fn play<T: Threads + Sync, K: Gate>(
         &mut self,
         threads: &T,
         gate: &K,
         ensemble: &mut Ensemble<G>,
         links: &[Link],
+        work: u64,
     )
         requires count { ensemble.old.nodes ≤ length self.old.benches }
         requires links { AreLinks ensemble.old.nodes links.now × (length links.now ≤ 512) }
@@ -58,6 +60,6 @@ impl<G: Guest + Send> Rack<G> {
         ensures rooms { (n place : ℕ) → has_room_at (bench_at self.new n) place ≡ has_room_at (bench_at self.old n) place }
         ensures others { (n : ℕ) → ensemble.old.nodes ≤ n → bench_at self.new n ≡ bench_at self.old n }
     {
-        play_front(threads, gate, ensemble, links, &mut self.benches);
+        play_front(threads, gate, ensemble, links, work, &mut self.benches);
     }
 }

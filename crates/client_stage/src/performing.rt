@@ -1,6 +1,6 @@
 //! A cycle's performance: what is known before the clients play is filled in, and the crew plays.
 
-ghost use Rattle.std.specs.Prelude.{◌≡◌, ◌<◌, ◌≤◌, [], ℕ, List, None, ℤ, length};
+ghost use Rattle.std.specs.Prelude.{◌≡◌, ◌<◌, ◌≤◌, ◌+◌, ◌*◌, [], ℕ, List, None, ℤ, length};
 ghost use Rattle.jack_types.specs.declared.moments.Moment.{Moment as MomentValue};
 ghost use Rattle.session_model.specs.Samples.{silence as silent};
 ghost use Rattle.client_wiring.specs.Wirings.{wired_of};
@@ -19,6 +19,17 @@ use cycle_plan::Plan;
 use device_periods::Capture;
 use jack_host::{Gate, Source};
 use std::thread::Threads;
+
+/// The work of a cycle of so many frames: its clients and its connections, times the frames.
+fn work_of(plan: &Plan, frames: usize) -> u64
+    requires frames { frames ≤ 4096 }
+    ensures work { result ≡ (length plan.now.nodes + length plan.now.network.set.edges) * frames }
+    ensures few { length plan.now.network.set.edges ≤ 512 }
+{
+    let nodes = plan.nodes();
+    let edges = plan.edges();
+    ((nodes.len() + edges.len()) * frames) as u64
+}
 
 /// Plays a cycle of a plan whose clients have their benches, set for it: fills the wires of what is captured and of what
 /// kept outputs gave at these places in the cycle before, and lets the crew play.
@@ -52,7 +63,7 @@ pub fn perform<G: Guest + Send, S: Source, T: Threads + Sync, K: Gate>(
     ensures links { rack.new.links ≡ rack.old.links }
 {
     let links = plan.links();
-    let edges = plan.edges();
+    let work = work_of(plan, silence.len());
     fill_wires(rack, wiring.joints(), places, capture, silence);
-    rack.play(threads, gate, ensemble, links);
+    rack.play(threads, gate, ensemble, links, work);
 }

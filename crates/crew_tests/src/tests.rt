@@ -6,9 +6,11 @@ use bench_crew::Ensemble;
 use client_benches::{ClientBench, Rooms};
 use client_kinds::Shape;
 use guests::HoldGuest;
-use jack_host::FreeGate;
+use jack_host::Gate;
 use jack_types::{Kind, Link, Memory, Moment, TransportState};
 use std::alloc::Global;
+use std::process::Abort;
+use std::sync::atomic::{AtomicU64, Ordering};
 use std::test::Fail;
 use std::thread::Threads;
 
@@ -21,6 +23,35 @@ const MOMENT: Moment = Moment {
     rate: 48_000,
     bbt: None,
 };
+
+// Work that is worth no thread, and work that is worth one for each seat.
+const LIGHT: u64 = 0;
+
+const HEAVY: u64 = u64::MAX;
+
+// Counts how many clients were played by other seats than the first.
+#[derive(Drop)]
+struct Others {
+    played: AtomicU64,
+}
+
+impl Gate for Others {
+    fn before_cycle(&self, _cycle: u32) {}
+
+    fn before_call(&self, _lane: u8, _index: u32) {}
+
+    fn after_call(&self, _lane: u8, _index: u32) {}
+
+    fn before_client(&self, worker: u32, _node: u32) {
+        if worker != 0 {
+            self.played.fetch_add(1, Ordering::SeqCst);
+        }
+    }
+
+    fn before_block(&self, _recorder: u8) {}
+
+    fn before_turn(&self, _disk: u8) {}
+}
 
 // A wave of four frames, which is handed on over the two links that go out from its node.
 fn wave(alloc: Global) -> Result<Bench, Memory>
@@ -58,21 +89,26 @@ fn times(alloc: Global, factor: i32) -> Result<Bench, Memory> {
     Ok(bench)
 }
 
-// Plays a cycle over links from node 0 to the two nodes.
+// Plays a cycle over links from node 0 to the two nodes, and answers whether other seats than the first played.
 fn play<T: Threads + Sync>(
     threads: &T,
     ensemble: &mut Ensemble<HoldGuest>,
     benches: &mut [Bench],
     low: u32,
     high: u32,
-)
+    work: u64,
+) -> bool
     requires nodes { (0 < low) × (low < high) × (high < 4) × (ensemble.old.nodes ≡ 4) × (length benches.old ≡ 4) }
     requires rooms { (has_room_at (bench_of benches.old 0) 0 ≡ true) × (has_room_at (bench_of benches.old 0) 1 ≡ true) }
     ensures nodes { (ensemble.new.nodes ≡ 4) × (length benches.new ≡ 4) }
     ensures rooms { (has_room_at (bench_of benches.new 0) 0 ≡ true) × (has_room_at (bench_of benches.new 0) 1 ≡ true) }
 {
     let links = [Link { from: 0, to: low }, Link { from: 0, to: high }];
-    ensemble.play(threads, &FreeGate, &links, benches);
+    let others = Others {
+        played: AtomicU64::new(0),
+    };
+    ensemble.play(threads, &others, &links, work, benches);
+    others.played.load(Ordering::SeqCst) > 0
 }
 
 // The first and the last sample that each bench gave in its last cycle.
@@ -89,9 +125,11 @@ fn ends(sample: i32) -> (Option<i32>, Option<i32>) {
     (Some(sample), Some(sample.wrapping_neg()))
 }
 
-// Two cycles: the wave goes to nodes 1 and 2, and then, over another plan, to nodes 2 and 3.
-#[test]
-fn four_seats_play_two_plans(rt: HostRuntime) -> Result<(), Fail> {
+// Two cycles of so much work: the wave goes to nodes 1 and 2, and then, over another plan, to nodes 2 and 3.
+fn plays_two_plans<R: Threads + Sync + AllocGlobal + Abort>(
+    rt: &R,
+    works: [u64; 2],
+) -> Result<(), Fail> {
     let alloc = rt.alloc();
     let mut benches = Vec::with_capacity(alloc, 4)?;
     benches.push_reserved(wave(alloc)?);
@@ -99,15 +137,33 @@ fn four_seats_play_two_plans(rt: HostRuntime) -> Result<(), Fail> {
     benches.push_reserved(times(alloc, 3)?);
     benches.push_reserved(times(alloc, 4)?);
     let mut ensemble = Ensemble::new(alloc, 4, 4)?;
-    play(&rt, &mut ensemble, benches.as_mut_slice(), 1, 2);
+    let shared = play(rt, &mut ensemble, benches.as_mut_slice(), 1, 2, works[0]);
+    assert_eq!(rt; shared, works[0] == HEAVY);
     assert_eq!(rt;
         given(&benches),
         [ends(1000), ends(2000), ends(3000), ends(0)]
     );
-    play(&rt, &mut ensemble, benches.as_mut_slice(), 2, 3);
+    let shared = play(rt, &mut ensemble, benches.as_mut_slice(), 2, 3, works[1]);
+    assert_eq!(rt; shared, works[1] == HEAVY);
     assert_eq!(rt;
         given(&benches),
         [ends(1000), ends(0), ends(3000), ends(4000)]
     );
     Ok(())
+}
+
+#[test]
+fn four_seats_play_two_plans(rt: HostRuntime) -> Result<(), Fail> {
+    plays_two_plans(&rt, [HEAVY, HEAVY])
+}
+
+#[test]
+fn light_cycles_are_played_by_one_seat(rt: HostRuntime) -> Result<(), Fail> {
+    plays_two_plans(&rt, [LIGHT, LIGHT])
+}
+
+#[test]
+fn light_and_heavy_cycles_follow_each_other(rt: HostRuntime) -> Result<(), Fail> {
+    plays_two_plans(&rt, [HEAVY, LIGHT])?;
+    plays_two_plans(&rt, [LIGHT, HEAVY])
 }
