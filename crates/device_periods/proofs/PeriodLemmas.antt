@@ -1,8 +1,9 @@
 -- Blocks, frame by frame.
 use Rattle.std.proofs.Common.{◌≡◌, ◌≢◌, ℕ, zero, suc, ◌+◌, ◌-◌, ◌*◌, ◌<◌, ◌≤◌, Bool, true, false, nat_lt, List, [], ◌∷◌, ◌++◌, length, map, take, drop, get_or, ℤ, pos, Option, Some, None, refl, sym, ◌∙◌, ap, ap₂, subst, arith, append-nil}
+use borrow.Rule.Slice.PartMut.{put_mid}
 use Rattle.std.specs.Prelude.{min, replicate, slice_index_or, slice_range}
 use Rattle.std.proofs.Math.Nat.{suc-mul}
-use Rattle.std.proofs.lemmas.List.{ext_get_or, get_or_append_left, get_or_past, get_or-append-add, get_or-drop, get_or-map, get_or-set_other, get_or-set_same, get_or-take, length-append, length-drop, length-set, length-take-le, nil_from_length, take-append-drop, take-append-le, take_all}
+use Rattle.std.proofs.lemmas.List.{ext_get_or, get_or_append_left, get_or_past, get_or-append-add, get_or-append_right, get_or-drop, get_or-map, get_or-set_other, get_or-set_same, get_or-take, length-append, length-drop, length-set, length-take-le, nil_from_length, take-append-drop, take-append-le, take_all}
 use Rattle.std.proofs.lemmas.List.Concat.{flat_map-append}
 use Rattle.std.proofs.Math.ListN.{set}
 use Rattle.std.proofs.lemmas.Bool.{ltb-false, ltb-true}
@@ -11,6 +12,7 @@ use Rattle.session_model.specs.Samples.{below, sample, silence, interleaved}
 use Rattle.session_laws.proofs.ActivationLemmas.{get_or-map_below, length-map_below}
 use Rattle.client_kinds.specs.Buffers.{buffers_of, channels_of, with_buffer}
 use Rattle.device_periods.specs.Blocks.{IsLaid, channel_of}
+use Rattle.wave_pcm.specs.Readings.{GivesPairs}
 use Rattle.device_periods.specs.Captures.{AreOf, Fills, Reads}
 
 -- ---- frames of a file
@@ -259,3 +261,54 @@ channel_there count period place samples h = sym (get_or-map_below (λ j. slice_
 pub channel_past : (count period place : ℕ) (samples : List ℤ) → count ≤ place → [] ≡ slice_index_or (buffers_of count period samples) place []
 channel_past count period place samples h =
     sym (get_or_past (buffers_of count period samples) place [] (omega (arith, h, length-map_below (λ j. slice_range samples (j * period) (j * period + period)) count)))
+
+-- ---- frames of two channels
+
+-- zeros behind a front
+put_back : (a : ℕ) (xs ys : List ℤ) → put_mid a (length xs - a) xs ys ≡ take a xs ++ ys
+put_back a xs ys =
+    ap (λ (rest : List ℤ). take a xs ++ (ys ++ rest)) (nil_from_length (drop (length xs - a) (drop a xs)) (omega (arith, length-drop (length xs - a) (drop a xs), length-drop a xs)))
+    ∙ ap (λ (back : List ℤ). take a xs ++ back) (append-nil ys)
+
+-- a channel of which the front was read, with zeros behind it
+channel_is : (left one : List ℤ) (c got n : ℕ) → length one ≡ n → got ≤ n → (got < n → length left ≤ got * 2) → ((k : ℕ) → k < got → sample one k ≡ sample left (k * 2 + c))
+    → take got one ++ silence (n - got) ≡ map (λ i. sample left (i * 2 + c)) (below n)
+channel_is left one c got n long few past each = ext_get_or (pos 0) (take got one ++ silence (n - got)) (map at (below n)) whole (λ k h. one_at k (inside k h) (nat_lt k got) refl ∙ sym (get_or-map_below at n k (pos 0) (inside k h)))
+  where
+    at : ℕ → ℤ
+    at i = sample left (i * 2 + c)
+
+    front : length (take got one) ≡ got
+    front = length-take-le got one (omega (arith, long, few))
+
+    all : length (take got one ++ silence (n - got)) ≡ n
+    all = omega (arith, length-append (take got one) (silence (n - got)), front, length-silence (n - got), few)
+
+    whole : length (take got one ++ silence (n - got)) ≡ length (map at (below n))
+    whole = all ∙ sym (length-map_below at n)
+
+    inside : (k : ℕ) → k < length (take got one ++ silence (n - got)) → k < n
+    inside k h = omega (arith, h, all)
+
+    one_at : (k : ℕ) → k < n → (b : Bool) → nat_lt k got ≡ b → sample (take got one ++ silence (n - got)) k ≡ at k
+    one_at k within true e =
+        let low : k < got = ltb-true k got e in
+        get_or_append_left (take got one) (silence (n - got)) (pos 0) k (omega (arith, low, front)) ∙ get_or-take got one k (pos 0) low ∙ each k low
+    one_at k within false e =
+        let high : got ≤ k = ltb-false k got e in
+        let short : length left ≤ got * 2 = past (omega (arith, high, within)) in
+        get_or-append_right (take got one) (silence (n - got)) got k (pos 0) front high ∙ sample-silence (n - got) (k - got) ∙ sym (sample-past left (k * 2 + c) (omega (arith, short, high)))
+
+-- both of them
+pub pair_reads : (old new : Option (List ℤ)) (got n : ℕ) (one other back end : List ℤ) → length one ≡ n → length other ≡ n → got ≤ n → back ≡ silence (n - got) → end ≡ silence (n - got) → GivesPairs old new got n one other
+    → Reads old new (put_mid got (length one - got) one back ∷ put_mid got (length other - got) other end ∷ []) 2 n
+pair_reads None new got n one other back end long also few quiet silent gives = tt
+pair_reads (Some left) new got n one other back end long also few quiet silent gives = (
+  ap₂ (λ (a b : List ℤ). a ∷ b ∷ [])
+      (put_back got one back ∙ ap (λ (xs : List ℤ). take got one ++ xs) quiet ∙ channel_is left one 0 got n long few past (λ k h. gives.one_is k h ∙ ap (sample left) (omega arith)))
+      (put_back got other end ∙ ap (λ (xs : List ℤ). take got other ++ xs) silent ∙ channel_is left other 1 got n also few past gives.other_is),
+  gives.after_is ∙ ap (λ (xs : List ℤ). Some xs) (ap (λ (k : ℕ). drop k left) gives.count_is ∙ drop-least left (n * 2)),
+)
+  where
+    past : got < n → length left ≤ got * 2
+    past h = omega (arith, h, gives.count_is)

@@ -1,6 +1,6 @@
 //! The capture, read by periods.
 
-ghost use Rattle.std.specs.Prelude.{◌≡◌, ◌+◌, ◌-◌, ◌*◌, ◌%◌, ◌^◌, ◌≤◌, ◌<◌, false, IfOk, IfSome, OnErr, drop, is_err, length, min, replicate};
+ghost use Rattle.std.specs.Prelude.{◌≡◌, ◌+◌, ◌-◌, ◌*◌, ◌%◌, ◌^◌, ◌≤◌, ◌<◌, ◌∷◌, [], false, IfOk, IfSome, IsTrue, OnErr, drop, is_err, length, min, replicate};
 ghost use Rattle.jack_host.specs.Causes.{HasCause};
 ghost use Rattle.session_model.specs.Samples.{silence};
 ghost use Rattle.session_model.specs.WaveFiles.{frame_bytes};
@@ -11,7 +11,7 @@ ghost use Rattle.device_periods.specs.Captures.{AreOf, Fills, Reads};
 
 use crate::blocks::take_channel;
 use jack_host::{ReadFailed, Source};
-use jack_types::Memory;
+use jack_types::{Format, Memory};
 use std::alloc::Global;
 use std::marker::Model;
 use wave_pcm::Wave;
@@ -121,7 +121,7 @@ fn silence_front(planar: &mut [i32], channels: usize, frames: usize)
 }
 
 /// Reads the next frames of a file into a block, and takes it apart into channels.
-fn read_period<S: Source>(
+fn read_apart<S: Source>(
     wave: &mut Wave<S>,
     block: &mut [i32],
     planar: &mut [i32],
@@ -145,6 +145,87 @@ fn read_period<S: Source>(
     read_block(wave, &mut block[..samples])?;
     take_front(planar, &block[..samples], channels, frames);
     Ok(())
+}
+
+/// How many frames are read straight into two channels at most.
+const MOST_PAIRS: usize = 1024;
+
+/// Whether so many frames are read straight into their channels: two of 16 bits.
+fn is_paired(format: Format, frames: usize) -> bool
+    ensures { IsTrue result → (format.channels ≡ 2) × (format.bits ≡ 16) × (frames ≤ 1024) }
+{
+    format.channels == 2 && format.bits == 16 && frames <= MOST_PAIRS
+}
+
+/// Reads the next frames of a stereo file of 16 bits straight into its two channels, with zeros past the file's end.
+fn read_both<S: Source>(
+    wave: &mut Wave<S>,
+    left: &mut [i32],
+    right: &mut [i32],
+) -> Result<(), ReadFailed>
+    requires going { wave.old.failed ≡ false }
+    requires stereo { (wave.old.format.channels ≡ 2) × (wave.old.format.bits ≡ 16) }
+    requires lengths { length right.old ≡ length left.old }
+    requires short { length left.old ≤ 1024 }
+    ensures reads { IfOk result (λ _. Reads wave.old.left wave.new.left (left.new ∷ right.new ∷ []) 2 (length left.old)) }
+    ensures kept { OnErr result ((left.new ≡ left.old) × (right.new ≡ right.old)) }
+    ensures same { SameReading wave.old wave.new }
+    ensures failed { wave.new.failed ≡ is_err result }
+    ensures cause { HasCause wave.old.faults wave.new.faults result }
+{
+    let frames = wave.pairs_into(left, right)?;
+    fill_silence(&mut left[frames..]);
+    fill_silence(&mut right[frames..]);
+    Ok(())
+}
+
+/// Reads the next frames of a stereo file of 16 bits into two channels, one after the other.
+fn read_pairs<S: Source>(
+    wave: &mut Wave<S>,
+    planar: &mut [i32],
+    frames: usize,
+) -> Result<(), ReadFailed>
+    requires going { wave.old.failed ≡ false }
+    requires stereo { (wave.old.format.channels ≡ 2) × (wave.old.format.bits ≡ 16) }
+    requires short { frames ≤ 1024 }
+    requires planar { length planar.old ≡ 2 * frames }
+    ensures planar { length planar.new ≡ length planar.old }
+    ensures reads { IfOk result (λ _. Reads wave.old.left wave.new.left (buffers_of 2 frames planar.new) 2 frames) }
+    ensures kept { OnErr result (planar.new ≡ planar.old) }
+    ensures same { SameReading wave.old wave.new }
+    ensures failed { wave.new.failed ≡ is_err result }
+    ensures cause { HasCause wave.old.faults wave.new.faults result }
+{
+    let (left, right) = planar.split_at_mut(frames);
+    read_both(wave, left, right)
+}
+
+/// Reads the next frames of a file into its channels, with zeros past the file's end.
+fn read_period<S: Source>(
+    wave: &mut Wave<S>,
+    block: &mut [i32],
+    planar: &mut [i32],
+    channels: usize,
+    frames: usize,
+) -> Result<(), ReadFailed>
+    requires going { wave.old.failed ≡ false }
+    requires channels { channels ≡ wave.old.format.channels }
+    requires block { frames * channels ≤ length block.old }
+    requires planar { channels * frames ≤ length planar.old }
+    ensures block { length block.new ≡ length block.old }
+    ensures planar { length planar.new ≡ length planar.old }
+    ensures shape { IfOk result (λ _. AreOf channels frames (buffers_of channels frames planar.new)) }
+    ensures reads { IfOk result (λ _. Reads wave.old.left wave.new.left (buffers_of channels frames planar.new) channels frames) }
+    ensures kept { OnErr result (planar.new ≡ planar.old) }
+    ensures same { SameReading wave.old wave.new }
+    ensures failed { wave.new.failed ≡ is_err result }
+    ensures cause { HasCause wave.old.faults wave.new.faults result }
+{
+    if is_paired(wave.format(), frames) {
+        read_pairs(wave, &mut planar[..2 * frames], frames)
+    } else {
+        read_apart(wave, block, planar, channels, frames)
+    }
 }
 
 impl<S: Source> Capture<S> {

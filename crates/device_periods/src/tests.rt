@@ -31,6 +31,31 @@ fn a_capture_by_periods(rt: HostRuntime) -> Result<(), Fail> {
     Ok(())
 }
 
+// Three frames of two channels at 8 bits: 1 to 3 on the left, 11 to 13 on the right.
+const STEREO_8: &[u8; 50] =
+    b"RIFF\x2a\0\0\0WAVEfmt \x10\0\0\0\x01\0\x02\0\x80\xbb\0\0\0\x77\x01\0\x02\0\x08\0data\x06\0\0\0\x81\x8b\x82\x8c\x83\x8d";
+
+#[test]
+fn a_capture_of_8_bits(rt: HostRuntime) -> Result<(), Fail> {
+    let source = MemorySource::new(rt.alloc(), STEREO_8.to_vec(rt.alloc())?);
+    let Ok(wave) = Wave::open(source) else {
+        return Err(Fail::from("no wave"));
+    };
+    let Ok(mut capture) = Capture::new(rt.alloc(), wave, 4) else {
+        return Err(Fail::from("no room"));
+    };
+    assert!(rt; capture.read(4).is_ok());
+    assert_eq!(rt;
+        capture.channel(0),
+        [1 << 24, 2 << 24, 3 << 24, 0].as_slice()
+    );
+    assert_eq!(rt;
+        capture.channel(1),
+        [11 << 24, 12 << 24, 13 << 24, 0].as_slice()
+    );
+    Ok(())
+}
+
 #[test]
 fn blocks_of_a_file(rt: HostRuntime) -> Result<(), Fail> {
     let source = MemorySource::new(rt.alloc(), STEREO.to_vec(rt.alloc())?);

@@ -2,3 +2,4 @@ mod InputLemmas
 mod ContentLemmas
 mod ChunkLemmas
 mod FrameLemmas
+mod PairLemmas

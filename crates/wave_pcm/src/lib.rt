@@ -4,6 +4,7 @@
 mod chunks;
 mod formats;
 mod input;
+mod pairs;
 #[cfg(test)]
 mod tests;
 mod wave;

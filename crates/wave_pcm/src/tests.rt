@@ -139,3 +139,44 @@ fn a_refused_read_is_told(rt: HostRuntime) -> Result<(), Fail> {
     assert_eq!(rt; opened(rt.alloc(), PLAIN, 9)?, Ok(Some(5)));
     Ok(())
 }
+
+// Three frames of two channels of 16 bits: 1 to 3 on the left, 11 to 13 on the right.
+const STEREO: &[u8; 56] =
+    b"RIFF\x30\0\0\0WAVEfmt \x10\0\0\0\x01\0\x02\0\x80\xbb\0\0\0\xee\x02\0\x04\0\x10\0data\x0c\0\0\0\x01\0\x0b\0\x02\0\x0c\0\x03\0\x0d\0";
+
+// The frames of a stereo wave of 16 bits, at most 4 of them.
+fn pairs_of<S: Source>(
+    wave: &mut Wave<S>,
+    left: &mut [i32; 4],
+    right: &mut [i32; 4],
+) -> Option<usize>
+    requires { wave.old.failed ≡ false }
+{
+    let format = wave.format();
+    if format.channels != 2 {
+        return None;
+    }
+    if format.bits != 16 {
+        return None;
+    }
+    wave.pairs_into(left, right).ok()
+}
+
+#[test]
+fn a_stereo_file_is_read_into_its_channels(rt: HostRuntime) -> Result<(), Fail> {
+    let source = Slow {
+        source: MemorySource::new(rt.alloc(), STEREO.to_vec(rt.alloc())?),
+    };
+    let Ok(mut wave) = opened_from(source) else {
+        return Err(Fail::from("no wave"));
+    };
+    let mut left = [7; 4];
+    let mut right = [7; 4];
+    assert_eq!(rt; pairs_of(&mut wave, &mut left, &mut right), Some(3));
+    assert_eq!(rt; left.as_slice(), [1 << 16, 2 << 16, 3 << 16, 7].as_slice());
+    assert_eq!(rt;
+        right.as_slice(),
+        [11 << 16, 12 << 16, 13 << 16, 7].as_slice()
+    );
+    Ok(())
+}

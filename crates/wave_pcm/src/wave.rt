@@ -3,10 +3,11 @@ ghost use Rattle.jack_host.specs.Causes.{HasCause, Rose};
 ghost use Rattle.session_model.specs.Samples.{samples_of};
 ghost use Rattle.session_model.specs.WaveFiles.{frame_bytes, is_width, IsWave, wave_fault};
 ghost use Rattle.session_model.specs.WaveOpening.{opened, Opened, wave_in};
-ghost use Rattle.wave_pcm.specs.Readings.{AreBytes, Gives, IsReadable, SameReading};
+ghost use Rattle.wave_pcm.specs.Readings.{AreBytes, Gives, GivesPairs, IsReadable, SameReading};
 
 use crate::chunks::read_header;
 use crate::input::{MOST_BYTES, fill};
+use crate::pairs::take_pairs;
 use jack_host::{ReadFailed, Source};
 use jack_types::{Format, WaveFault};
 use samples::from_bytes;
@@ -196,6 +197,67 @@ impl<S: Source> Wave<S> {
                 let got = count / frame;
                 convert(self.format, &bytes[..got * frame], out, got);
                 self.given += (got * frame) as u32;
+                Ok(got)
+            }
+            Err(failed) => {
+                self.failed = true;
+                Err(failed)
+            }
+        }
+    }
+
+    /// Reads the next frames of a stereo file of 16 bits straight to the fronts of its two channels, and says how many frames.
+    ///
+    /// They are as many as the channels have room for, at most 1,024, and fewer only at the file's end; the rest of the
+    /// channels is left as it was, and all of them where it fails. After a failure only `into_source` may be called.
+    pub fn pairs_into(&mut self, left: &mut [i32], right: &mut [i32]) -> Result<usize, ReadFailed>
+        requires going { self.old.failed ≡ false }
+        requires stereo { (self.old.format.channels ≡ 2) × (self.old.format.bits ≡ 16) }
+        requires lengths { length right.old ≡ length left.old }
+        requires short { length left.old ≤ 1024 }
+        ensures samples { IfOk result (λ frames. GivesPairs self.old.left self.new.left frames (length left.old) left.new right.new) }
+        ensures bound { IfOk result (λ frames. frames ≤ length left.old) }
+        ensures rest_left { IfOk result (λ frames. drop frames left.new ≡ drop frames left.old) }
+        ensures rest_right { IfOk result (λ frames. drop frames right.new ≡ drop frames right.old) }
+        ensures kept { OnErr result ((left.new ≡ left.old) × (right.new ≡ right.old)) }
+
+        // Over every source all calls together give less than 2^32 bytes.
+        ensures given { IfOk result (λ frames. self.new.given ≡ self.old.given + frames * 4) }
+        ensures limit { self.new.given < 2 ^ 32 }
+
+        ensures same { SameReading self.old self.new }
+        ensures failed { self.new.failed ≡ is_err result }
+        ensures cause { HasCause self.old.faults self.new.faults result }
+    {
+        let frames = self.frames_left(left.len() * 2);
+        self.read_pairs(&mut left[..frames], &mut right[..frames])
+    }
+
+    // Reads frames to two channels of so many.
+    fn read_pairs(&mut self, left: &mut [i32], right: &mut [i32]) -> Result<usize, ReadFailed>
+        requires going { self.old.failed ≡ false }
+        requires stereo { (self.old.format.channels ≡ 2) × (self.old.format.bits ≡ 16) }
+        requires lengths { length right.old ≡ length left.old }
+        requires short { length left.old ≤ 1024 }
+        requires told { self.old.given + length left.old * 4 ≤ self.old.size }
+        ensures samples { IfOk result (λ got. GivesPairs self.old.left self.new.left got (length left.old) left.new right.new) }
+        ensures bound { IfOk result (λ got. got ≤ length left.old) }
+        ensures rest_left { IfOk result (λ got. drop got left.new ≡ drop got left.old) }
+        ensures rest_right { IfOk result (λ got. drop got right.new ≡ drop got right.old) }
+        ensures kept { OnErr result ((left.new ≡ left.old) × (right.new ≡ right.old) × (self.new.given ≡ self.old.given)) }
+        ensures given { IfOk result (λ got. self.new.given ≡ self.old.given + got * 4) }
+        ensures same { SameReading self.old self.new }
+        ensures failed { self.new.failed ≡ is_err result }
+        ensures cause { HasCause self.old.faults self.new.faults result }
+    {
+        let all = &mut self.bytes[..];
+        let bytes = &mut all[..left.len() * 4];
+        let filled = fill(&mut self.source, bytes);
+        match filled {
+            Ok(count) => {
+                let got = count / 4;
+                take_pairs(&bytes[..got * 4], &mut left[..got], &mut right[..got]);
+                self.given += (got * 4) as u32;
                 Ok(got)
             }
             Err(failed) => {

@@ -3,7 +3,7 @@ use Rattle.std.proofs.lemmas.List.{length-take-le}
 use Rattle.client_kinds.specs.Buffers.{channels_of}
 use Rattle.device_periods.specs.Captures.{AreOf}
 use Rattle.device_periods.proofs.PeriodLemmas.{reads, shape, take_seam}
-use Rattle.device_periods.proofs.captures.read_period.Goals as goal
+use Rattle.device_periods.proofs.captures.read_apart.Goals as goal
 
 pub returns-clause-shape : goal.returns-clause-shape
 returns-clause-shape g c = subst (AreOf c.args.channels c.args.frames) (sym c.take_front.ensures.channels) (shape c.args.channels c.args.frames _)
