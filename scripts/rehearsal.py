@@ -206,8 +206,7 @@ class Session:
         return [(source, feedback) for source, at, _, feedback in self.edges if at == port]
 
     def heard(self, edges, now):
-        parts = [(self.past if feedback else now).get(source) for source, feedback in edges]
-        return mixed([part for part in parts if part is not None])
+        return mixed([self.past[source] if feedback else now[source] for source, feedback in edges])
 
     def cycle(self, order, now):
         """What each client gives, from what the capture does."""
@@ -232,7 +231,7 @@ def summary(number):
         if words[0] == 'lane':
             lanes.append((int(words[3]), words[4:]))
     peak = total = blocks = 0
-    changed, periods = True, periods_of(capture)
+    changed, periods, session.past = True, periods_of(capture), dict.fromkeys(session.kinds, SILENCE)
     for k in range(CYCLES):
         if changed:
             order, ends, changed = session.order(), [session.into(f'system:playback_{q}') for q in (1, 2)], False
