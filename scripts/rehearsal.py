@@ -98,6 +98,7 @@ def wave_of(numbers):
 
 def clamped(sums):
     """The samples nearest to these sums."""
+    # A sum that fits is from 0 to 2^32 - 1 with 2^31 added, so that above bit 32 only the 2^47 is left.
     raised = sums + SILENCE
     high = raised >> 32 & HIGH
     if high == FITS:
