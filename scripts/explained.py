@@ -292,11 +292,9 @@ def play(kind, memory, moment, period, inputs, outputs):
     if name == 'meter':
         return [silence] * outputs, max([memory, *(abs(x) for samples in inputs for x in samples)])
     if name == 'guest':
-        given = []
         if numbers[0] == '0':
-            for x in at(0):
-                given += clamped([x + (memory[0] >> 1)])
-                memory = [*memory[1:], given[-1]]
+            given = clamped([x + (old >> 1) for x, old in zip(at(0), memory)])
+            memory = memory[period:] + given
         elif numbers[0] == '1':
             line = memory + at(0)
             given, memory = clamped([line[n + 2] + 2 * line[n + 1] + line[n] >> 2 for n in range(period)]), line[-2:]
