@@ -20,5 +20,7 @@ sox -D -n -r 48000 -c 2 -b 16 patch.capture.wav synth 2000s sine 440 sine 660 ga
 { printf '\000\100'; head -c 18 /dev/zero; printf '\375\377'; } | mono bench.capture.wav
 # an impulse of 16000
 printf '\200\076' | mono echo.capture.wav
+# 600 frames of a sine
+sox -D -n -r 48000 -c 1 -b 16 threads.capture.wav synth 600s sine 440 gain -3
 # 1,000 frames of six sines
 sox -D -n -r 48000 -c 6 -b 24 periods.capture.wav synth 1000s sine 100 sine 200 sine 300 sine 400 sine 500 sine 600 gain -3

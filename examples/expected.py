@@ -77,4 +77,18 @@ six = read('periods.capture.wav')
 frames, recorded, played = 6 * 64 + 5 * 16 + 3 * 256, 6 * 64 + 2 * 16, 6 * 64 + 5 * 16
 compare('periods.playback.wav', 24, [[0 if k == 3 and n >= played else at(six[5 - k], n) for n in range(frames)] for k in range(6)])
 compare('periods.record0.wav', 24, [[0 if k == 0 and n >= recorded else at(six[k], n) for n in range(frames)] for k in range(6)])
+
+# With threads the report says what each cycle had: the accepted calls up to its number, each by its lane and index. The first
+# call of either lane connects the capture with the playback; the second takes half of it, or the recorder's, away.
+[heard] = read('threads.capture.wav')
+lines = [line.split() for line in open('threads.report')]
+accepted = [line[1:3] for line in lines if line[0] == 'call' and line[3] == 'ok']
+played, recorded = [], []
+for k, number in enumerate(int(line[2]) for line in lines if line[0] == 'cycle'):
+    had, block = accepted[:number], [at(heard, n) for n in range(64 * k, 64 * (k + 1))]
+    half, whole, taped = ['1', '2'] not in had, ['1', '1'] in had or ['2', '1'] in had, ['2', '2'] not in had
+    played += [clamp(half * (x >> 1) + whole * x) for x in block]
+    recorded += [taped * (x >> 1) for x in block]
+compare('threads.playback.wav', 16, [played])
+compare('threads.record0.wav', 16, [recorded])
 sys.exit(differs != 0)

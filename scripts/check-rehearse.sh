@@ -1,6 +1,6 @@
 #!/usr/bin/env bash
 # What the program tells of a rehearsal is what scripts/rehearsal.py computes of its number from docs/FORMATS.md alone, and what
-# a play of its two files gives: for the ends of the numbers and fifty others, drawn from $SEED.
+# a play of its two files gives: for the ends of the numbers and $NUMBERS others (50), drawn from $SEED (1).
 set -u
 # shellcheck source=scripts/program.sh
 . "$(dirname "$0")/program.sh" python3
@@ -10,7 +10,7 @@ python3 - "$jackd" "$folder" <<'PY'
 import os, random, subprocess, sys
 
 jackd, folder = sys.argv[1:]
-others = random.Random(int(os.environ.get('SEED', 1))).sample(range(2**32), 50)
+others = random.Random(int(os.environ.get('SEED', 1))).sample(range(2**32), int(os.environ.get('NUMBERS', 50)))
 numbers, faults = [0, 1, 7, 2**32 - 1, *others], []
 
 

@@ -15,15 +15,22 @@
 # times.
 #
 # A script in serial mode that threads play to the same bytes, in whatever order they run, is played with 1, 2 and 4 workers
-# too, as its row says.
+# too, $TIMES times (once), as its row says. A run that does not end in 60 seconds is a fault.
+#
+# What a row says of a play that ends well is also what scripts/explained.py computes of its script and capture.
 set -u
 # shellcheck source=scripts/program.sh
 . "$(dirname "$0")/program.sh" python3
 
 python3 - "$jackd" <<'PY'
-import fnmatch, os, re, subprocess, sys, tempfile
+import fnmatch, functools, os, re, subprocess, sys, tempfile
 
-jackd, top = sys.argv[1], 'tests/rows'
+sys.dont_write_bytecode = True
+sys.path.insert(0, 'scripts')
+import explained
+
+jackd, top, times = sys.argv[1], 'tests/rows', int(os.environ.get('TIMES', 1))
+threads, explained_once = 0, functools.lru_cache(None)(explained.explain)
 
 
 def wave_of(text):
@@ -70,7 +77,10 @@ def play(words, given):
         for name, held in given.items():
             with open(f'{folder}/{name}', 'wb') as it:
                 it.write(held)
-        ran = subprocess.run([jackd, *words.split()], cwd=folder, capture_output=True, timeout=60)
+        try:
+            ran = subprocess.run([jackd, *words.split()], cwd=folder, capture_output=True, timeout=60)
+        except subprocess.TimeoutExpired:
+            return -1, b'no end in 60 seconds', given
         files = {}
         for name in os.listdir(folder):
             with open(f'{folder}/{name}', 'rb') as it:
@@ -119,9 +129,14 @@ def faults_of_run(row, made, words, given):
     if out != row['out']:
         yield f'standard output is {out[-400:]}, not {row["out"][-400:]}'
     yield from faults_of_files(files, given, made)
+    if status == 0 and words.startswith('play '):
+        found, computed = explained_once(given['s'].decode(), given['c'], row['out'].decode())
+        outputs = [files.get(name, b'') for name in words.split()[3:] if name != '--record']
+        yield from (f'computed: {fault}' for fault in [*found, *explained.differences(outputs, computed)])
 
 
 def faults_of_row(folder):
+    global threads
     row, made, scripts, runs = {}, {}, [], 0
     for name in sorted(os.listdir(folder)):
         held, stem = read(f'{folder}/{name}'), name.split('.')[0]
@@ -132,7 +147,8 @@ def faults_of_row(folder):
         else:
             made.setdefault(stem, []).append(held)
     if 'fronts' not in row:
-        scripts += [other for script in scripts for other in with_threads(script)]
+        others = [other for script in scripts for other in with_threads(script)] * times
+        scripts, threads = scripts + others, threads + len(others)
     for script in scripts:
         given = {'s': script, **({'c': row['c']} if 'c' in row else {})}
         for words in row['words'].decode().splitlines():
@@ -149,6 +165,6 @@ for row in rows:
     wrong += bool(faults)
     for fault in faults[:5]:
         print(f'check-rows: {row}: {fault}')
-print(f'check-rows: {len(rows) - wrong} rows hold' + f', {wrong} do not' * bool(wrong))
+print(f'check-rows: {len(rows) - wrong} rows hold, with {threads} plays by threads' + f', {wrong} do not' * bool(wrong))
 sys.exit(bool(wrong))
 PY

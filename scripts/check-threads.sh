@@ -1,105 +1,158 @@
 #!/usr/bin/env bash
-# Sessions with threads over real files, in orders that nobody chose: four lanes connect and disconnect two clients and a
-# recorder while 300 cycles run. Each report has to be one that can be, and playback and record have to be what it says, by a
-# computation that knows nothing of the program: calls in their lanes' order, each with the reply of the connections before it;
-# numbers that never fall, and of no call before the cycle that it asks for; each cycle's samples by the connections of its
-# number; the blocks of all cycles but the printed overruns.
+# Sessions with threads over real files, in orders that nobody chose. Each report has to be one that can be, and the files have
+# to be what it says, by scripts/explained.py, which knows nothing of the program. Played are
+#
+#   $SESSIONS sessions (24), from the seed $SEED (0) on: in turn one of few clients and many connections and one of all kinds of
+#       clients and all commands, of several segments and periods; with 1, 2, 4 and 16 workers
+#   $RUNS runs (12) of one script with forty calls on four lanes
+#
+# A report or a file that is altered has to be found. A run that does not end in 100 seconds is a fault. That explained.py
+# computes what is right is shown in serial mode: check-rows.sh and check-examples.sh hold it against values from paper.
 set -u
 # shellcheck source=scripts/program.sh
 . "$(dirname "$0")/program.sh" python3
 
 python3 - "$jackd" <<'PY'
-import random, struct, subprocess, sys, tempfile
+import os, random, subprocess, sys, tempfile
 
-jackd, CYCLES, PERIOD, RING = sys.argv[1], 300, 4, 4
-EDGES = [('system:capture_1', 'a:in'), ('a:out', 'system:playback_1'), ('system:capture_1', 'b:in'), ('b:out', 'system:playback_1'),
-         ('system:capture_1', 'tape:in')]
-OPENED = ['open a pass', 'register a:in in audio', 'register a:out out audio', 'activate a',
-          'open b pass', 'register b:in in audio', 'register b:out out audio', 'activate b',
-          'open tape record 0', 'register tape:in in audio', 'activate tape']
+sys.dont_write_bytecode = True
+sys.path.insert(0, 'scripts')
+import explained
 
-
-def wave(samples):
-    data = struct.pack(f'<{len(samples)}h', *samples)
-    shape = struct.pack('<4sIHHIIHH', b'fmt ', 16, 1, 1, 8000, 16000, 2, 16)
-    return b'RIFF' + struct.pack('<I', 36 + len(data)) + b'WAVE' + shape + b'data' + struct.pack('<I', len(data)) + data
+jackd = sys.argv[1]
+sessions, first, runs = (int(os.environ.get(name, value)) for name, value in (('SESSIONS', 24), ('SEED', 0), ('RUNS', 12)))
+faults, beside, reports = [], 0, set()
 
 
-def session(chance, workers):
-    """A script, and the calls of each lane: the cycle that it asks for, whether it connects, and what."""
-    lanes = {lane: sorted((chance.randrange(CYCLES + 1), chance.random() < 0.6, chance.randrange(len(EDGES))) for _ in range(30))
-             for lane in range(1, 5)}
-    lines = ['jackd 1', 'rate 8000', f'period {PERIOD}', 'capture 1', 'playback 1 16', f'mode threads {workers}', f'ring {RING}', 'recorder 1 16']
-    lines += [f'do {command}' for command in OPENED] + [f'run {CYCLES}']
-    for lane, calls in lanes.items():
-        lines += [f'lane {lane} at {asked} {"connect" if joins else "disconnect"} {" ".join(EDGES[edge])}' for asked, joins, edge in calls]
-    return '\n'.join(lines) + '\n', lanes
+def head(version, period, channels, bits, workers, *rest):
+    return [f'jackd {version}', 'rate 8000', f'period {period}', f'capture {channels}', f'playback {channels} {bits}', f'mode threads {workers}', *rest]
 
 
-def faults(report, lanes, capture, playback, record):
-    lines = [line.split() for line in report.splitlines()]
-    calls = [line[1:] for line in lines if line[0] == 'call']
-    made, edges, behind = {lane: 0 for lane in lanes}, set(), [frozenset()] * (len(OPENED) + 1)
-    for lane, index, *reply in calls[len(OPENED):]:
-        lane = int(lane)
-        asked, joins, edge = lanes[lane][made[lane]]
-        made[lane] += 1
-        if int(index) != made[lane]:
-            yield f'call {lane} {index} is out of order'
-        if joins == (edge in edges):
-            wanted = ['refused', '16', 'Exists'] if joins else ['refused', '18', 'NotConnected']
-        else:
-            edges ^= {edge}
-            wanted = ['ok', str(len(behind))]
-            behind.append(frozenset(edges))
-            late = [k for k, line in enumerate((line for line in lines if line[0] == 'cycle'), 1) if int(line[2]) >= len(behind) - 1 and k <= asked]
-            if late:
-                yield f'cycle {late[0]} has the call {lane} {index} that asks for cycle {asked}'
-        if reply != wanted:
-            yield f'call {lane} {index} is {reply}, not {wanted}'
-    if [len(calls) for calls in lanes.values()] != list(made.values()):
-        yield f'calls are missing: {made}'
-    numbers = [int(line[2]) for line in lines if line[0] == 'cycle']
-    if len(numbers) != CYCLES or numbers != sorted(numbers) or not all(len(OPENED) <= n < len(behind) for n in numbers):
-        yield f'numbers are {numbers}'
-        return
-    overruns = {int(line[2]): (int(line[3]), int(line[4])) for line in lines if line[0] == 'overrun'}
-    heard, kept, before = [], [], 0
-    for k, number in enumerate(numbers, 1):
-        now, block = behind[number], capture[PERIOD * (k - 1):PERIOD * k]
-        times = ({0, 1} <= now) + ({2, 3} <= now)
-        heard += [times * sample for sample in block]
-        if k not in overruns:
-            kept += [sample * (4 in now) for sample in block]
-        elif overruns[k][0] != len(kept) // PERIOD or overruns[k][0] - overruns[k][1] != RING or overruns[k][1] < before:
-            yield f'overrun {k} is {overruns[k]} behind {len(kept) // PERIOD} blocks'
-        before = overruns.get(k, (0, before))[1]
-    if playback != wave(heard):
-        yield 'the playback is not what the numbers say'
-    if record != wave(kept):
-        yield 'the record is not what the numbers and overruns say'
-    if ['recorder', '0', str(len(kept) // PERIOD), str(len(overruns))] not in lines or lines[-1] != ['end']:
-        yield 'the report ends otherwise'
+def connections(chance, workers):
+    """Two clients and a recorder, which four lanes connect and disconnect while 300 cycles run."""
+    edges = ['system:capture_1 a:in', 'a:out system:playback_1', 'system:capture_1 b:in', 'b:out system:playback_1', 'system:capture_1 tape:in']
+    lines = head(1, 4, 1, 16, workers, 'ring 4', 'recorder 1 16')
+    for name, kind in (('a', 'pass'), ('b', 'pass'), ('tape', 'record 0')):
+        lines += [f'do open {name} {kind}', f'do register {name}:in in audio', f'do activate {name}']
+    lines += ['do register a:out out audio', 'do register b:out out audio', 'run 300']
+    for lane in range(1, 5):
+        calls = sorted((chance.randrange(301), chance.random() < 0.6, chance.choice(edges)) for _ in range(30))
+        lines += [f'lane {lane} at {asked} {"connect" if joins else "disconnect"} {edge}' for asked, joins, edge in calls]
+    return lines
 
 
-wrong, beside = 0, 0
-for seed in range(24):
-    chance, workers = random.Random(seed), (1, 2, 4, 16)[seed % 4]
-    script, lanes = session(chance, workers)
-    capture = [chance.randrange(-9999, 9999) for _ in range(CYCLES * PERIOD)]
+KINDS = ['pass', 'pass', 'gain {a} 8', 'mix', 'mix', 'delay {b}', 'tone {c} {a}', 'click {a}', 'meter', 'record 0', 'record 1', 'guest 0', 'guest 1', 'guest 2']
+
+
+def command(chance):
+    """Any command, on few names, so that some are refused."""
+    client = f'c{chance.randrange(10)}'
+    ports = [f'c{chance.randrange(10)}:{way}{chance.randrange(2)}' for way in 'oi']
+    port, system = chance.choice(ports), chance.randrange(1, 3)
+    kind = chance.choice(KINDS).format(a=chance.randrange(-32768, 32768), b=chance.choice([0, 3, 8, 20, 100]), c=chance.randrange(1, 40))
+    some = lambda *words: words[chance.randrange(len(words))]
+    ends = some(' '.join(ports), ' '.join(ports), f'system:capture_{system} {ports[1]}', f'{ports[0]} system:playback_{system}', f'system:capture_{system} system:playback_{system}')
+    return chance.choices(
+        [f'connect {ends}', f'disconnect {ends}', f'open {client} {kind}', f'close {client}', f'activate {client}', f'deactivate {client}',
+         f'register {port} {"out" if ":o" in port else "in"} {some("audio", "audio", "audio", "midi")}', f'unregister {port}',
+         some('start', 'stop', f'locate {chance.randrange(20000)}'), some(f'timeout {chance.randrange(9)}', f'slow {client} {chance.randrange(5)}'),
+         f'timebase{some("", "_if")} {client} {chance.randrange(1000, 999999)} {chance.randrange(1, 9)} {chance.randrange(1, 960)}', f'release {client}',
+         f'latency {some("capture", "playback")} {port}'],
+        [30, 12, 4, 2, 6, 3, 6, 2, 4, 2, 2, 1, 3])[0]
+
+
+def commands(chance, workers):
+    """Ten clients with most of their ports, and then any calls, between segments and on all lanes."""
+    lines = head(2, 8, 2, chance.choice([8, 16, 24, 32]), workers, f'ring {chance.randrange(1, 9)}', 'recorder 2 16', 'recorder 1 24')
+    for k in range(10):
+        kind = chance.choice(KINDS).format(a=chance.randrange(-512, 512), b=chance.choice([0, 3, 8, 20]), c=chance.randrange(1, 40))
+        lines += [f'do open c{k} {kind}', *(f'do register c{k}:{way}{place} {long} audio' for way, long in (('i', 'in'), ('o', 'out')) for place in range(2)), f'do activate c{k}']
+    for _ in range(chance.randrange(1, 4)):
+        lines += [f'do {command(chance)}' for _ in range(chance.randrange(25))]
+        if chance.random() < 0.3:
+            lines.append(f'period {chance.choice([4, 8, 16])}')
+        kind, cycles = ('freewheel', chance.randrange(1, 20)) if chance.random() < 0.2 else ('run', chance.randrange(1, 80))
+        lines.append(f'{kind} {cycles}')
+        for lane in range(1, 5):
+            lines += [f'lane {lane} at {asked} {command(chance)}' for asked in sorted(chance.randrange(cycles + 1) for _ in range(chance.randrange(12)))]
+    return lines
+
+
+def played(lines, capture, what):
+    """Plays a script; its report and files, or none where that is a fault. Each has to be explained."""
+    script = ''.join(f'{line}\n' for line in lines)
+    recorders = [line for line in lines if line.startswith('recorder ')]
+    records = [f'r{k}' for k in range(len(recorders))]
     with tempfile.TemporaryDirectory() as folder:
-        for name, held in (('s', script.encode()), ('c', wave(capture))):
+        for name, held in (('s', script.encode()), ('c', capture)):
             with open(f'{folder}/{name}', 'wb') as it:
                 it.write(held)
-        ran = subprocess.run([jackd, 'play', 's', 'c', 'p', '--record', 'r'], cwd=folder, capture_output=True, timeout=60)
-        files = [open(f'{folder}/{name}', 'rb').read() if ran.returncode == 0 else b'' for name in 'pr']
+        words = [word for name in records for word in ('--record', name)]
+        try:
+            ran = subprocess.run([jackd, 'play', 's', 'c', 'p', *words], cwd=folder, capture_output=True, timeout=100)
+        except subprocess.TimeoutExpired:
+            faults.append(f'{what}: no end in 100 seconds')
+            return None
+        if ran.returncode:
+            faults.append(f'{what}: exit code {ran.returncode}: {ran.stdout.decode()[-200:]}')
+            return None
+        files = []
+        for name in ['p', *records]:
+            with open(f'{folder}/{name}', 'rb') as it:
+                files.append(it.read())
     report = ran.stdout.decode()
-    found = [f'exit code {ran.returncode}'] if ran.returncode else list(faults(report, lanes, capture, *files))
-    numbers = {line.split()[2] for line in report.splitlines() if line.startswith('cycle')}
+    faults.extend(f'{what}: {fault}' for fault in explained.faults_of(script, capture, report, files)[:5])
+    return script, report, files
+
+
+def wave(chance, channels, frames):
+    samples = [chance.randrange(-9999, 9999) * 65536 for _ in range(channels * frames)]
+    return explained.wave_of(8000, channels, 16, samples)
+
+
+for seed in range(first, first + sessions):
+    chance, workers = random.Random(seed), (1, 2, 4, 16)[seed // 2 % 4]
+    session, channels = ((connections, 1), (commands, 2))[seed % 2]
+    run = played(session(chance, workers), wave(chance, channels, chance.choice([0, 500, 1500])), f'seed {seed}')
+    numbers = {line.split()[2] for line in run[1].splitlines() if line.startswith('cycle')} if run else ()
     beside += len(numbers) > 1
-    wrong += bool(found)
-    for fault in found[:5]:
-        print(f'check-threads: seed {seed}: {fault}')
-print(f'check-threads: {24 - wrong} sessions hold, {beside} of them with calls between their cycles' + f', {wrong} do not' * bool(wrong))
-sys.exit(bool(wrong))
+if sessions and not beside:
+    faults.append('no session had a call between its cycles')
+
+# One script: ten calls on each lane, all asking for early cycles, so that the lanes meet.
+chance = random.Random(7)
+capture, one = wave(chance, 2, 900), commands(random.Random(11), 4)
+one = [line for line in one if line.split()[0] not in ('lane', 'run', 'freewheel', 'period') or line == 'period 8'] + ['run 120']
+one += [f'lane {lane} at {asked} {command(chance)}' for lane in range(1, 5) for asked in sorted(chance.randrange(100) for _ in range(10))]
+for k in range(runs):
+    run = played(one, capture, f'run {k}')
+    reports.add(run and run[1])
+
+# What is altered is found: a line that is missing, that stands twice, or that has another number; and one byte of each file. The
+# number of a cycle is raised by more than there are calls, since one that is raised by one may be another report that can be.
+run = played(commands(random.Random(2), 2), capture, 'altered')
+altered = []
+if run:
+    script, report, files = run
+    lines = report.splitlines(keepends=True)
+    for k, line in enumerate(lines):
+        words = line.split()
+        others = [[], [line, line]]
+        for j, word in enumerate(words):
+            if word.isdigit():
+                more = 1000 if words[0] == 'cycle' and j == 2 else 1
+                others.append([' '.join([*words[:j], str(int(word) + more), *words[j + 1:]]) + '\n'])
+        altered += [(''.join(lines[:k] + other + lines[k + 1:]), files) for other in others]
+    altered = chance.sample(altered, 150)
+    altered += [(report, [*files[:k], file[:-3] + bytes([file[-3] ^ 1]) + file[-2:], *files[k + 1:]]) for k, file in enumerate(files)]
+    for other, held in altered:
+        if not explained.faults_of(script, capture, other, held):
+            at = next((b for a, b in zip(lines, other.splitlines(keepends=True)) if a != b), 'a file')
+            faults.append(f'an alteration is not found: {at}')
+
+for fault in faults[:40]:
+    print('check-threads:', fault)
+if not faults:
+    print(f'check-threads: passed, {sessions} sessions, {beside} of them with calls between their cycles; {runs} runs of one script with {len(reports)} reports; {len(altered)} alterations found')
+sys.exit(bool(faults))
 PY

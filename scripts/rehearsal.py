@@ -7,14 +7,27 @@ rehearsal.py --played P R OUT    prints the summary's lines, but for the first, 
 
 It is a second computation of all that `jackd rehearse` does: the draws of PCG32 (XSH RR, O'Neill 2014), the calls and their
 refusals, feedback, and every sample of every client.
+
+A period of samples is one integer, so that one operation of Python does all frames: the sample x of frame n is the number
+x + 2^31 in the 48 bits from bit 48 n on. Sums and products of samples are kept plus 2^47, so that no place is below zero.
 """
 import multiprocessing
 import struct
 import sys
+from array import array
 
 CLIENTS, PERIOD, CYCLES, FRAMES = 32, 64, 10_000, 640_000
-LEAST, MOST = -(2**31), 2**31 - 1
 WORD, LONG = 2**32 - 1, 2**64 - 1
+PLACE = 48
+
+
+def each(number, frames=PERIOD):
+    """The number at so many places."""
+    return int.from_bytes(number.to_bytes(PLACE // 8, 'little') * frames, 'little')
+
+
+SILENCE, ZEROS, ONES, LOW, WHOLE = each(2**31), each(2**47), each(1), each(2**32 - 1), each(2**PLACE - 1)
+HIGH, FITS, ABOVE, SHIFTED, SHIFTED_ZEROS = each(2**16 - 1), each(2**15), each(2**15 - 1), each(2**40 - 1), each(2**47 - 2**39)
 
 
 class Draws:
@@ -35,6 +48,16 @@ class Draws:
 
     def below(self, most):
         return self.word() % most
+
+    def low_halves(self, count):
+        """The low halves of the next so many words, each as a number of 16 bits; the same steps as in `word`, in one loop."""
+        state, halves = self.state, []
+        for _ in range(count):
+            mixed, turn = (state >> 18 ^ state) >> 27 & WORD, state >> 59
+            halves.append(((mixed >> turn | mixed << 32 - turn) + 0x8000 & 0xFFFF) - 0x8000)
+            state = state * 6364136223846793005 + 3 & LONG
+        self.state = state
+        return halves
 
 
 def drawn(number):
@@ -60,8 +83,7 @@ def drawn(number):
         source = draws.below(32)
         ends = f'c{source}:o c{draws.below(32)}:i'
         lines += [f'lane 1 at {100 * j} connect {ends}', f'lane 1 at {100 * (j + 1)} disconnect {ends}']
-    low = [draws.word() & 0xFFFF for _ in range(2 * FRAMES)]
-    return lines, [x - 0x10000 if x >= 0x8000 else x for x in low]
+    return lines, draws.low_halves(2 * FRAMES)
 
 
 def script_of(lines):
@@ -74,10 +96,45 @@ def wave_of(numbers):
     return struct.pack('<4sI4s4sIHHIIHH4sI', b'RIFF', 36 + len(data), b'WAVE', b'fmt ', 16, 1, 2, 48000, 192000, 4, 16, b'data', len(data)) + data
 
 
-def clamped(samples):
-    if max(samples) > MOST or min(samples) < LEAST:
-        return [max(LEAST, min(MOST, x)) for x in samples]
-    return samples
+def clamped(sums):
+    """The samples nearest to these sums."""
+    # A sum that fits is from 0 to 2^32 - 1 with 2^31 added, so that above bit 32 only the 2^47 is left.
+    raised = sums + SILENCE
+    high = raised >> 32 & HIGH
+    if high == FITS:
+        return raised & LOW
+    over, under = high + ABOVE >> 16 & ONES, (high >> 15 & ONES) ^ ONES
+    most = over * (2**32 - 1)
+    return raised & (LOW ^ (most | under * (2**32 - 1))) | most
+
+
+def mixed(parts):
+    return clamped(sum(parts) + ZEROS - len(parts) * SILENCE) if len(parts) > 1 else parts[0] if parts else SILENCE
+
+
+def gained(samples, factor):
+    """The samples times a factor below 512, shifted by 8."""
+    products = (samples - SILENCE) * factor + ZEROS
+    return clamped((products >> 8 & SHIFTED) + SHIFTED_ZEROS)
+
+
+def periods_of(numbers):
+    """The first of two channels of numbers of 16 bits, as samples, period by period."""
+    words = array('H', bytes(PLACE // 8 * FRAMES))
+    words[1::3] = array('H', [x + 2**15 for x in numbers[::2]])
+    held, size = little(words).tobytes(), PLACE // 8 * PERIOD
+    return [int.from_bytes(held[at:at + size], 'little') for at in range(0, len(held), size)]
+
+
+def stored(samples):
+    """The samples of a period as a file of 16 bits has them, each plus 2^15."""
+    return little(array('H', samples.to_bytes(PLACE // 8 * PERIOD, 'little')))[1::3]
+
+
+def little(words):
+    if sys.byteorder == 'big':
+        words.byteswap()
+    return words
 
 
 class Session:
@@ -102,7 +159,7 @@ class Session:
         if words[0] == 'open':
             self.kinds[words[1]] = words[2:]
             if words[2] == 'delay':
-                self.rest[words[1]] = [0] * int(words[3])
+                self.rest[words[1]] = each(2**31, int(words[3]))
         if words[0] == 'connect':
             return self.connect(words[1], words[2])
         if words[0] == 'disconnect':
@@ -150,22 +207,17 @@ class Session:
         return [(source, feedback) for source, at, _, feedback in self.edges if at == port]
 
     def heard(self, edges, now):
-        parts = [(self.past if feedback else now).get(source) for source, feedback in edges]
-        parts = [part for part in parts if part]
-        if not parts:
-            return [0] * PERIOD
-        return clamped([sum(frame) for frame in zip(*parts)]) if len(parts) > 1 else parts[0]
+        return mixed([self.past[source] if feedback else now[source] for source, feedback in edges])
 
     def cycle(self, order, now):
         """What each client gives, from what the capture does."""
         for node, kind, edges in order:
             samples = self.heard(edges, now)
             if kind[0] == 'gain':
-                factor, shift = int(kind[1]), int(kind[2])
-                samples = clamped([x * factor >> shift for x in samples])
+                samples = gained(samples, int(kind[1]))
             if kind[0] == 'delay':
-                line = self.rest[node] + samples
-                samples, self.rest[node] = line[:PERIOD], line[PERIOD:]
+                line = self.rest[node] | samples << PLACE * int(kind[1])
+                samples, self.rest[node] = line & WHOLE, line >> PLACE * PERIOD
             now[node] = samples
         return now
 
@@ -180,15 +232,14 @@ def summary(number):
         if words[0] == 'lane':
             lanes.append((int(words[3]), words[4:]))
     peak = total = blocks = 0
-    changed = True
+    changed, periods, session.past = True, periods_of(capture), dict.fromkeys(session.kinds, SILENCE)
     for k in range(CYCLES):
         if changed:
             order, ends, changed = session.order(), [session.into(f'system:playback_{q}') for q in (1, 2)], False
-        first = [x << 16 for x in capture[2 * PERIOD * k : 2 * PERIOD * (k + 1) : 2]]
-        now = session.cycle(order, {'system:capture_1': first})
+        now = session.cycle(order, {'system:capture_1': periods[k]})
         for edges in ends:
-            units = [x >> 16 for x in session.heard(edges, now)]
-            peak, total = max(peak, max(units), -min(units)), total + sum(units)
+            units = stored(session.heard(edges, now))
+            peak, total = max(peak, max(units) - 2**15, 2**15 - min(units)), total + sum(units) - PERIOD * 2**15
         session.past = now
         blocks += 'tape' in session.kinds
         while lanes and lanes[0][0] <= k + 1:
