@@ -53,8 +53,8 @@ returns-clause-out_cut g c =
               (Some []) (Some text) text first c.perform-session.ensures.others
               (apart-front (made_by c.args.names.now) c.args.names.now.disks c.requires.apart.1.1) c.hand_back-handed.ensures.stand c.back.ensures.files is
               (ok-known c.perform-session.result.1 _ broken.0.0 c.perform-session.ensures.whole) (ok-known c.perform-session.result.1 _ broken.0.0 c.perform-session.ensures.explained) (ok-known c.perform-session.result.1 _ broken.0.0 c.perform-session.ensures.serial) refl;
-          front = broken.2;
-          puts = subst (λ (report : List ℕ). Gains (g.K.Sink.content c.args.out.now) (g.K.Sink.content c.conclude-reported.new.out) (take broken.2 report)) c.hand_back-handed.ensures.report broken.3;
+          front = broken.2.0;
+          puts = subst (λ (report : List ℕ). Gains (g.K.Sink.content c.args.out.now) (g.K.Sink.content c.conclude-reported.new.out) (take broken.2.0 report)) c.hand_back-handed.ensures.report broken.2.1;
         },
       )
     ])
