@@ -34,7 +34,7 @@ use Rattle.driver_laws.specs.Drivers.{IsOwnRing, Remembered, frames_run, channel
 use Rattle.driver_laws.specs.Openings.{IsNew}
 use Rattle.recorder_rings.specs.Sending.{no_ring}
 use Rattle.task_laws.specs.Calls.{guests_needed, open_kinds}
-use Rattle.stage_laws.specs.Standing.{OnStage, StandsOn}
+use Rattle.cycle_laws.specs.Gears.{OnStage, StandsOn}
 use Rattle.cycle_laws.specs.Gears.{Gear, IsGear, IsServed, driver_of}
 use Rattle.cycle_driver.specs.Makings.{AreNewRings, IsMade, IsNewStage, IsNewTransport, IsOpeningPlan, IsUnread}
 use Rattle.cycle_driver.specs.declared.opening.Made.{Made}

@@ -24,7 +24,7 @@ use Rattle.recorder_rings.specs.Openings.{IsNew}
 use Rattle.recorder_rings.specs.Sending.{Sent}
 use Rattle.playback_mix.specs.Mixes.{PlaybackRoom}
 use Rattle.task_laws.specs.Calls.{open_kinds}
-use Rattle.stage_laws.specs.Standing.{OnStage, StandsOn}
+use Rattle.cycle_laws.specs.Gears.{OnStage, StandsOn}
 use Rattle.cycle_driver.specs.declared.opening.Lists.{Lists}
 use Rattle.cycle_driver.specs.declared.opening.Made.{Made}
 use Rattle.cycle_driver.specs.declared.opening.Outfit.{Outfit}

@@ -21,7 +21,7 @@ use Rattle.client_seats.specs.Seatings.{memories}
 use Rattle.recorder_rings.specs.Sending.{Sent}
 use Rattle.task_laws.specs.Calls.{guests_needed, open_kinds}
 use Rattle.stage_laws.specs.Stages.{bench_on}
-use Rattle.stage_laws.specs.Standing.{OnStage, StandsOn}
+pub use Rattle.stage_laws.specs.Standing.{OnStage, StandsOn}
 
 pub record Gear : Type 0 where
   pub script : Script

@@ -5,7 +5,7 @@ use Rattle.port_registry.specs.Registered.{open_clients}
 use Rattle.cycle_plan.specs.Plans.{state_of_plan}
 use Rattle.graph_word.specs.Publications.{Reading}
 use Rattle.transport.specs.Standings.{HasTarget}
-use Rattle.stage_laws.specs.Standing.{StandsOn}
+use Rattle.cycle_laws.specs.Gears.{StandsOn}
 use Rattle.cycle_blocks.specs.Blocks.{Sends}
 use Rattle.cycle_driver.specs.Insides.{gear_of}
 use Rattle.cycle_driver.proofs.ResultLemmas.{last-row, on-err}
