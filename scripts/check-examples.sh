@@ -22,8 +22,9 @@ for session in "$examples"/*.session; do
     words+=(--record "$name.record$r.wav")
     files+=("$name.record$r.wav")
   done
-  if ! "$jackd" "${words[@]}" > "$name.report"; then
+  if ! "$jackd" "${words[@]}" > "$name.report" 2> told; then
     echo "check-examples: $name: not played: $(tail -n 1 "$name.report")"
+    cat told
     status=1
     continue
   fi
@@ -44,7 +45,7 @@ for session in "$examples"/*.session; do
 done
 mkdir tool rehearsal
 ln -s "$jackd" tool/jackd
-if ! PATH=$PWD/tool:$PATH sh "$examples/rehearsal.sh" rehearsal > told; then
+if ! PATH=$PWD/tool:$PATH sh "$examples/rehearsal.sh" rehearsal > told 2>&1; then
   echo "check-examples: the rehearsal is not what its play shows"
   cat told
   status=1
