@@ -1,5 +1,6 @@
 #!/usr/bin/env bash
-# Each library that crates.txt names for a crate is cited by a file of that crate, in src/, specs/ or proofs/.
+# Each library that crates.txt names for a crate is cited by a file of that crate, in src/, specs/ or proofs/; and few paths lead
+# down from a crate, since the toolchain reads the sources below it once for each path.
 set -u
 cd "$(dirname "$0")/.." || exit 1
 status=0
@@ -14,5 +15,21 @@ while IFS=: read -r crate names; do
   done
 done < <(sed -e 's/#.*//' -e '/^[[:space:]]*$/d' crates.txt)
 
-[ $status -eq 0 ] && echo "check-crates: passed"
+# A crate that stands on others has a path to itself, and those of each crate that it names.
+most=$(sed -e 's/#.*//' -e 's/:/ /' crates.txt | awk '
+  NF { name[NR] = $1; known[$1] = 1; for (i = 2; i <= NF; i++) below[$1] = below[$1] " " $i }
+  function paths(crate,  names, count, i, sum) {
+    if (crate in found) return found[crate]
+    count = split(below[crate], names, " ")
+    sum = 1
+    for (i = 1; i <= count; i++) if (names[i] in known) sum += paths(names[i])
+    return found[crate] = sum
+  }
+  END { for (at in name) if (paths(name[at]) > most) most = paths(name[at]); print most }')
+if [ "$most" -gt 80000 ]; then
+  echo "check-crates: $most paths lead down from a crate: pass on by \`pub use\` what it cites of far lower ones"
+  status=1
+fi
+
+[ $status -eq 0 ] && echo "check-crates: passed, $most paths at the most"
 exit $status
