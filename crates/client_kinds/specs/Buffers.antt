@@ -1,15 +1,12 @@
 -- Planar buffers.
 --     buffers_of count period samples      so many buffers of a period, one after another
 --     with_buffer period place samples buffer      the samples with another buffer at a place
---     channels_of count period block      the channels of an interleaved block
 use Rattle.std.specs.Prelude.{ℕ, ◌+◌, ◌*◌, List, ◌++◌, map, take, drop, slice_range, ℤ}
-use Rattle.session_model.specs.Samples.{below, sample}
+use Rattle.session_model.specs.Samples.{below}
+pub use Rattle.samples.specs.Channels.{channels_of}
 
 abbrev pub buffers_of : ℕ → ℕ → List ℤ → List (List ℤ)
 buffers_of count period samples = map (λ j. slice_range samples (j * period) (j * period + period)) (below count)
 
 abbrev pub with_buffer : ℕ → ℕ → List ℤ → List ℤ → List ℤ
 with_buffer period place samples buffer = take (place * period) samples ++ (buffer ++ drop (place * period + period) samples)
-
-abbrev pub channels_of : ℕ → ℕ → List ℤ → List (List ℤ)
-channels_of count period block = map (λ j. map (λ i. sample block (i * count + j)) (below period)) (below count)

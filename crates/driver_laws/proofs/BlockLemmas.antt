@@ -10,7 +10,7 @@ use Rattle.session_model.specs.Courses.{DiskFile, block_channel}
 use Rattle.session_model.specs.Disks.{blocks_of}
 use Rattle.session_model.specs.Samples.{below, interleaved, sample}
 use Rattle.session_laws.proofs.ActivationLemmas.{get_or-map_below, length-map_below}
-use Rattle.client_kinds.specs.Buffers.{channels_of}
+use Rattle.samples.specs.Channels.{channels_of}
 
 -- two functions that agree below n
 pub map-below_same : {X : Type 0} (f g : ℕ → X) (n : ℕ) → ((i : ℕ) → i < n → f i ≡ g i) → map f (below n) ≡ map g (below n)

@@ -14,7 +14,7 @@ use Rattle.session_model.specs.Disks.{file_blocks}
 use Rattle.session_model.specs.Rings.{RingBlock}
 use Rattle.session_model.specs.Samples.{below, sample}
 use Rattle.session_model.specs.Scripts.{Script}
-use Rattle.client_kinds.specs.Buffers.{channels_of}
+use Rattle.samples.specs.Channels.{channels_of}
 use Rattle.record_ring.specs.Rings.{Getting}
 use Rattle.driver_laws.specs.Drivers.{Driver, run, turn_of, graph_now, has_disk, underruns_on}
 use Rattle.driver_laws.specs.Keeping.{Fits, FitsDisk, Keeps, KeepsDisk, file_block}

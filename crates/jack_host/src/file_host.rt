@@ -55,7 +55,7 @@ fn lock(file: &File) -> Result<(), Reason> {
 }
 
 impl<'a, R: Files<File = File>> FileHost<'a, R> {
-    /// A host over this runtime, with no object out, for so many different files, and with a room of 32 KiB for each.
+    /// A host over this runtime, with no object out, for so many different files, and with a room of 64 KiB for each.
     pub fn new(alloc: Global, files: &'a R, most: usize) -> Result<FileHost<'a, R>, Memory>
         ensures rooms { IfOk result (λ host. length host.rooms.items ≡ most) }
         ensures reads { IfOk result (λ host. host.reads.faults.count ≡ 0) }

@@ -8,7 +8,7 @@ use crate::{Failed, FailureKind, Source};
 use std::fs::File;
 use std::io::Read;
 
-/// A file that is read, some 32 KiB at a time where there is room for them. It tells no bytes.
+/// A file that is read, some 64 KiB at a time where there is room for them. It tells no bytes.
 #[derive(Drop)]
 pub struct FileSource {
     file: File,

@@ -93,7 +93,7 @@ impl Target {
     }
 }
 
-/// A file that is written, some 32 KiB at a time where there is room for them. It tells neither its name nor its bytes.
+/// A file that is written, some 64 KiB at a time where there is room for them. It tells neither its name nor its bytes.
 ///
 /// What stood in the file before is given up with the first byte that is written out. A failed write of gathered bytes
 /// shows at the next write, or when the file is handed back.

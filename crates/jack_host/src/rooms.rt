@@ -5,7 +5,7 @@ ghost use Rattle.std.specs.Prelude.{◌≡◌, IfOk, length};
 use std::alloc::{AllocError, Global};
 
 /// How many bytes one call of the system moves at most, so that a period of frames costs none.
-const GATHERED: usize = 32_768;
+const GATHERED: usize = 65_536;
 
 /// How many bytes a name has at most that the system takes.
 const LONGEST_NAME: usize = 4_096;
