@@ -20,14 +20,19 @@ use device_periods::Capture;
 use jack_host::{Gate, Source};
 use std::thread::Threads;
 
-/// The work of a cycle of so many frames: its clients and its connections, times the frames.
+/// The work of a cycle of so many frames, as far as it can be shared: clients and connections, times the frames,
+/// and none where there is one client.
 fn work_of(plan: &Plan, frames: usize) -> u64
     requires frames { frames ≤ 4096 }
-    ensures work { result ≡ (length plan.now.nodes + length plan.now.network.set.edges) * frames }
+    ensures alone { length plan.now.nodes ≤ 1 → result ≡ 0 }
+    ensures work { 1 < length plan.now.nodes → result ≡ (length plan.now.nodes + length plan.now.network.set.edges) * frames }
     ensures few { length plan.now.network.set.edges ≤ 512 }
 {
     let nodes = plan.nodes();
     let edges = plan.edges();
+    if nodes.len() <= 1 {
+        return 0;
+    }
     ((nodes.len() + edges.len()) * frames) as u64
 }
 

@@ -20,6 +20,8 @@ mod running;
 #[cfg(test)]
 mod scores;
 #[cfg(test)]
+mod sharing;
+#[cfg(test)]
 mod threads;
 #[cfg(test)]
 mod unplayed;

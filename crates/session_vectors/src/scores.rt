@@ -1,8 +1,10 @@
 //! A guest that fails.
 
 use crate::building::{MONO, failing_guest, wave};
+use crate::gates::{Held, HoldingGate};
 use crate::overruns::{FOUR_WORKERS, ONE_WORKER, SERIAL};
 use crate::running::{PLAY, has_file, play_with};
+use crate::sharing::{LONGEST_PERIOD, two_clients};
 use jack_control::Status;
 use jack_host::FreeGate;
 use std::test::Fail;
@@ -49,5 +51,25 @@ fn a_guest_that_failed_is_silent_until_it_is_opened_again(rt: HostRuntime) -> Re
         assert_eq!(rt; played.status, Status::Ok, "{mode}");
         has_file(&rt, &played, "p", &wave(rt.alloc(), MONO, &heard)?);
     }
+    Ok(())
+}
+
+// The guest beside two clients with so much work that all workers play: its cycles are of 4,096 frames.
+#[test]
+fn a_guest_that_failed_on_four_workers_is_silent_too(rt: HostRuntime) -> Result<(), Fail> {
+    let mut samples = vec![in rt.alloc(); 0; 5 * 4096]?;
+    for (place, sample) in samples.iter_mut().enumerate() {
+        *sample = place as i32;
+    }
+    let capture = wave(rt.alloc(), MONO, &samples)?;
+    samples[2 * 4096..4 * 4096].fill(0);
+    let clients = two_clients(rt.alloc())?;
+    let script = [LONGEST_PERIOD, FOUR_WORKERS, clients.as_str(), FAILING];
+    let guests = failing_guest(rt.alloc())?;
+    let gate = HoldingGate::new(Held::Clients);
+    let played = play_with(&rt, &PLAY, &script, &capture, guests, &gate)?;
+    assert_eq!(rt; gate.given_up(), 0, "the clients were not played at once");
+    assert_eq!(rt; played.status, Status::Ok);
+    has_file(&rt, &played, "p", &wave(rt.alloc(), MONO, &samples)?);
     Ok(())
 }

@@ -4,6 +4,7 @@ use crate::building::{MONO, wave};
 use crate::gates::{Held, HoldingGate};
 use crate::overruns::{FORMAT, ONE_WORKER, SAMPLES, TWO_WORKERS, drained_host, play_under};
 use crate::running::{PLAY, Played, has_file, has_out, play, play_with};
+use crate::sharing::{LONGEST_PERIOD, two_clients};
 use jack_control::Status;
 use jack_host::MemorySink;
 use std::process::Abort;
@@ -103,18 +104,11 @@ cycle 5 ";
     Ok(())
 }
 
-// Two clients that nothing connects.
-const APART: &str = "\
-do open a pass
-do activate a
-do open b pass
-do activate b
-run 1
-";
-
 #[test]
 fn two_clients_play_at_once(rt: HostRuntime) -> Result<(), Fail> {
-    play_held(&rt, &[DEVICE, TWO_WORKERS, APART], Held::Clients)?;
+    let calls = two_clients(rt.alloc())?;
+    let script = [LONGEST_PERIOD, TWO_WORKERS, calls.as_str(), "run 1\n"];
+    play_held(&rt, &script, Held::Clients)?;
     Ok(())
 }
 
