@@ -1,15 +1,16 @@
 -- What a name's bytes have, where the files are told.
 --     if_bytes_map, if_bytes_before      another fact, and the files before
 --     if-some-map      the same of a source
---     fault-told      the fault of a script
+--     fault-told, kept-err      the fault of a script, and one that is handed on
 use Rattle.std.proofs.Common.{◌≡◌, ◌≢◌, ℕ, List, Option, Some, None, refl, sym, ◌∙◌, ap, subst, take}
-use Rattle.std.specs.Prelude.{IfSome}
+use Rattle.std.specs.Prelude.{IfErr, IfSome, IsErrAnd, Result, Ok, Err}
 use Rattle.jack_types.specs.declared.scripts.Cause.{Cause}
 use Rattle.jack_types.specs.declared.scripts.Cause.TheVariants as cause
 use Rattle.jack_types.specs.declared.scripts.ScriptFault.{ScriptFault}
 use Rattle.jack_host.specs.Files.{IsThere, SameFiles}
 use Rattle.session_model.specs.Reading.{script_fault}
 use Rattle.session_graph.specs.Files.{Files, IfBytes, IsOfScript, fault_by, fault_of_script}
+use Rattle.session_graph.specs.declared.faults.GraphFault.{GraphFault}
 use Rattle.session_graph.specs.declared.faults.GraphFault.TheVariants.{BadScript}
 
 pub if_bytes_map : (files : Option Files) (name : List ℕ) (P Q : List ℕ → Type 0) → ((bytes : List ℕ) → P bytes → Q bytes) → IfBytes files name P → IfBytes files name Q
@@ -53,3 +54,8 @@ fault-told files name bytes fault h f = go fault.cause refl
     go (cause.TooMany many limit) e = told (cause.TooMany many limit) e (λ is. cc)
     go cause.TooLong e = told cause.TooLong e (λ is. cc)
     go cause.Memory e = tt
+
+-- the fault that ends a `?` is the one that was met
+pub kept-err : {T : Type 0} (r : Result T GraphFault) (e : GraphFault) (P : GraphFault → Type 0) → IsErrAnd r (λ y. y ≡ e) → P e → IfErr r P
+kept-err (Ok x) e P h p = tt
+kept-err (Err y) e P h p = subst P (sym h) p

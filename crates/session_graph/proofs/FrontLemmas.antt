@@ -1,11 +1,13 @@
 -- What was read of a report, line by line.
 --     read-first, read-more      before the first line, and one more
 --     front-read      up to the cycle's line
---     broken-at      up to a line that may not come
+--     broken-at, step-fault      up to a line that may not come
+--     told-front, goes-on      the same by the place that was reached
 use Rattle.std.proofs.Common.{◌≡◌, ℕ, zero, suc, ◌+◌, ◌<◌, ◌≤◌, List, [], ◌∷◌, ◌++◌, All, length, length-append, map, filter_map, take, slice_get, Option, Some, None, refl, sym, ◌∙◌, ap, subst, arith, append-nil, append_assoc}
 use Rattle.std.specs.Prelude.{IfSome, option_and_then, ◌-◌}
 use Rattle.std.proofs.lemmas.List.{map-append, take_all}
 use Rattle.std.proofs.lemmas.List.Elements.{filter_map-append}
+use Rattle.jack_types.specs.declared.replies.Row.{Row}
 use Rattle.session_model.specs.Checking.{BeginsReport, IsForm, IsWrongLine, ended_lines}
 use Rattle.session_model.specs.Grammar.{IsScript}
 use Rattle.session_model.specs.Reports.{report_lines}
@@ -28,8 +30,10 @@ use Rattle.report_laws.specs.declared.places.Limits.{Limits}
 use Rattle.report_laws.specs.declared.places.Place.{Place}
 use Rattle.report_laws.specs.declared.places.Place.TheVariants.{Start, Cycles, Done}
 use Rattle.session_graph.specs.Fronts.{IsBefore, IsBroken, IsFront, call_in, calls_in}
-use Rattle.session_graph.specs.Readings.{AreLimits, GoesOn, HasRead, IsStuck, Steps}
-use Rattle.session_graph.proofs.AdvanceLemmas.{next-as}
+use Rattle.session_graph.specs.Readings.{AreLimits, GoesOn, HasRead, IsNear, IsOfReport, IsOfStep, IsStuck, Steps}
+use Rattle.session_graph.specs.declared.faults.GraphFault.{GraphFault}
+use Rattle.session_graph.specs.declared.faults.GraphFault.TheVariants.{NoMemory, Words, ReadFault, BadScript, WriteFault, Wrong}
+use Rattle.session_graph.proofs.AdvanceLemmas.{Advances, advance, advance-other, next-as}
 use Rattle.session_graph.proofs.StepLemmas.{goes-nil, goes-trans}
 
 none-some : {X : Type 0} (x : X) → None ≡ Some x → ⊥
@@ -105,10 +109,10 @@ module _ (script : Script) (limits : Limits) (are : AreLimits script limits) (cy
 
   -- the bytes, the lines that were read, and what is left
   module _ (xs ys : List ℕ) (goes : ended_lines xs ≡ map line_text read.lines ++ ended_lines ys) (stuck : IsStuck limits place ys) where
-    texts : List (List ℕ)
+    abbrev texts : List (List ℕ)
     texts = map line_text read.lines
 
-    n : ℕ
+    abbrev n : ℕ
     n = length read.lines
 
     size : length texts ≡ n
@@ -165,3 +169,31 @@ module _ (script : Script) (limits : Limits) (are : AreLimits script limits) (cy
       go (Some xs) (Some ys) goes stuck =
           let same : suc (length read.lines) ≡ number + 1 = let old = read.number_is in omega (arith, old) in
           subst (IsBroken script xs cycle) same (broken xs ys goes stuck)
+
+  pub step-fault : (fault : GraphFault) → IsOfStep limits place left (number + 1) fault → IsOfReport script start cycle fault
+  step-fault NoMemory h = absurd h
+  step-fault Words h = absurd h
+  step-fault ReadFault h = tt
+  step-fault (BadScript fault) h = absurd h
+  step-fault WriteFault h = absurd h
+  step-fault (Wrong row) h = (
+    ap (λ (r : Row). r.what) h.0,
+    ap (λ (r : Row). r.place) h.0,
+    subst (λ n. IfSome start (λ bytes. IsBroken script bytes cycle n)) (sym (ap (λ (r : Row). r.number) h.0)) (broken-at h.1),
+  )
+
+  module _ (near : IsNear limits place number (length calls)) (after : Option (List ℕ)) (line : Line) (behind : Place) (step : Steps limits place left after line behind) where
+    next-there : Advances limits cycle number (length calls) behind line
+    next-there = advance limits cycle number (length calls) place behind line lo hi before near step.there
+
+    pub told-front : (told : CycleLine) → line ≡ Cycle told → IfSome start (λ bytes. IsFront script bytes calls told)
+    told-front told e =
+        front-read after told behind (subst (λ (l : Line). Steps limits place left after l behind) e step)
+        (subst (Advances limits cycle number (length calls) behind) e next-there).0
+
+    pub goes-on : (more : List CallLine) → ((told : CycleLine) → line ≡ Cycle told → told.cycle ≡ cycle → ⊥) → more ≡ calls ++ calls_in (line ∷ [])
+        → HasRead script start after behind (number + 1) more × IsBefore cycle behind × IsNear limits behind (number + 1) (length more)
+    goes-on more other e =
+        let size : length more ≡ length calls + length (calls_in (line ∷ [])) = ap (λ (cs : List CallLine). length cs) e ∙ length-append calls (calls_in (line ∷ [])) in
+        let there = advance-other limits cycle number (length calls) (length more) behind line next-there other size in
+        (read-more after line behind more step e, there.0, there.1)

@@ -148,7 +148,7 @@ module _ (script : Script) (lines : List CallLine) (i number : ℕ) (state : Sta
       }
 
   pub wrong-call : (line : CallLine) → slice_get lines i ≡ Some line → next ≤ number → (IsRight script (take i lines) line → ⊥) → IsWrongCall script lines number (i + 1)
-  wrong-call line at few no =
+  wrong-call line at few isnt =
       let same : (i + 1) - 1 ≡ i = omega arith in
       let old = is.next_is in
       record {
@@ -156,7 +156,7 @@ module _ (script : Script) (lines : List CallLine) (i number : ℕ) (state : Sta
         line = line;
         at = subst (λ (n : ℕ). slice_get lines n ≡ Some line) (sym same) at;
         counted = omega arith;
-        wrong = subst (λ (n : ℕ). IsRight script (take n lines) line → ⊥) (sym same) no;
+        wrong = subst (λ (n : ℕ). IsRight script (take n lines) line → ⊥) (sym same) isnt;
         fewer = subst (λ (n : ℕ). length (accepted (history_told script (take n lines))) < number) (sym same) (omega (arith, old, few));
       }
 

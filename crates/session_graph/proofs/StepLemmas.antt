@@ -45,25 +45,23 @@ first-with : (b : ℕ) (lines : List (List ℕ)) → slice_index_or (with_byte b
 first-with b [] = refl
 first-with b (text ∷ lines) = refl
 
+abbrev lines_by : Bool → ℕ → List ℕ → List (List ℕ)
+lines_by t b bytes = cond t ((10 ∷ []) ∷ ended_lines bytes) (with_byte b (ended_lines bytes))
+
+cut-next : (n b : ℕ) (body bytes : List ℕ) (rest : List (List ℕ)) → (take n (first_line bytes) ≡ body ++ 10 ∷ [] → ended_lines bytes ≡ (body ++ 10 ∷ []) ∷ rest) → (t : Bool)
+    → take (suc n) (slice_index_or (lines_by t b bytes) 0 []) ≡ b ∷ body ++ 10 ∷ [] → lines_by t b bytes ≡ (b ∷ body ++ 10 ∷ []) ∷ rest
+cut-next n b body bytes rest before true k =
+    let len : length (take (suc n) (10 ∷ [])) ≡ length (b ∷ body ++ 10 ∷ []) = ap (λ (zs : List ℕ). length zs) k in
+    absurd (omega (arith, len, length-take (suc n) (10 ∷ []), length-append body (10 ∷ [])))
+cut-next n b body bytes rest before false k =
+    let front : b ∷ take n (first_line bytes) ≡ b ∷ body ++ 10 ∷ [] = sym (ap (λ (zs : List ℕ). take (suc n) zs) (first-with b (ended_lines bytes))) ∙ k in
+    ap (with_byte b) (before (tail-same b b (take n (first_line bytes)) (body ++ 10 ∷ []) front))
+
 -- a text that ends with an LF and is the front of the first line is that line
 cut : (n : ℕ) (body rest : List ℕ) → take n (first_line ((body ++ 10 ∷ []) ++ rest)) ≡ body ++ 10 ∷ [] → ended_lines ((body ++ 10 ∷ []) ++ rest) ≡ (body ++ 10 ∷ []) ∷ ended_lines rest
 cut n [] rest h = refl
 cut zero (b ∷ body) rest h = absurd (nil-cons b (body ++ 10 ∷ []) h)
-cut (suc n) (b ∷ body) rest h = go (b == 10) h
-  where
-    tail : List ℕ
-    tail = (body ++ 10 ∷ []) ++ rest
-
-    lines : Bool → List (List ℕ)
-    lines t = cond t ((10 ∷ []) ∷ ended_lines tail) (with_byte b (ended_lines tail))
-
-    go : (t : Bool) → take (suc n) (slice_index_or (lines t) 0 []) ≡ b ∷ body ++ 10 ∷ [] → lines t ≡ (b ∷ body ++ 10 ∷ []) ∷ ended_lines rest
-    go true k =
-        let len : length (take (suc n) (10 ∷ [])) ≡ length (b ∷ body ++ 10 ∷ []) = ap (λ (zs : List ℕ). length zs) k in
-        absurd (omega (arith, len, length-take (suc n) (10 ∷ []), length-append body (10 ∷ [])))
-    go false k =
-        let front : b ∷ take n (first_line tail) ≡ b ∷ body ++ 10 ∷ [] = sym (ap (λ (zs : List ℕ). take (suc n) zs) (first-with b (ended_lines tail))) ∙ k in
-        ap (with_byte b) (cut n body rest (tail-same b b (take n (first_line tail)) (body ++ 10 ∷ []) front))
+cut (suc n) (b ∷ body) rest h = cut-next n b body ((body ++ 10 ∷ []) ++ rest) (ended_lines rest) (cut n body rest) (b == 10) h
 
 pub steps-line : (limits : Limits) (place behind : Place) (read : ReportLine) (a b : Option (List ℕ)) → TakesNext a b (Line read) → next limits place read ≡ Some behind → Steps limits place a b read behind
 steps-line limits place behind read a b h e = record { form = h.form.0; there = e; text = text a b h }
@@ -94,15 +92,15 @@ next-is bytes text h short = ap (λ (t : List ℕ). take 513 t) (first-is bytes 
 same-line : (x y : ReportLine) → IsLineForm x → IsLineForm y → line_text x ≡ line_text y → x ≡ y
 same-line x y g h e = slice-some x y (sym (line-again (spaced (words_of x)) x g (sym (text-words x))) ∙ line-again (spaced (words_of x)) y h (sym (text-words x) ∙ e))
 
-stuck-line : (limits : Limits) (place : Place) (read : ReportLine) (bytes : List ℕ) → IsNext (next_text bytes) (Line read) → next limits place read ≡ None → IsStuck limits place bytes
+pub stuck-line : (limits : Limits) (place : Place) (read : ReportLine) (bytes : List ℕ) → IsNext (next_text bytes) (Line read) → next limits place read ≡ None → IsStuck limits place bytes
 stuck-line limits place read bytes h none line form at short =
     ap (next limits place) (same-line line read form h.0 (sym (next-is bytes (line_text line) at short) ∙ h.1)) ∙ none
 
-stuck-other : (limits : Limits) (place : Place) (bytes : List ℕ) → IsNext (next_text bytes) Other → IsStuck limits place bytes
+pub stuck-other : (limits : Limits) (place : Place) (bytes : List ℕ) → IsNext (next_text bytes) Other → IsStuck limits place bytes
 stuck-other limits place bytes h line form at short = absurd (h.1 line form (next-is bytes (line_text line) at short))
 
-stuck-end : (limits : Limits) (place : Place) (bytes : List ℕ) → IsNext (next_text bytes) End → IsStuck limits place bytes
+pub stuck-end : (limits : Limits) (place : Place) (bytes : List ℕ) → IsNext (next_text bytes) End → IsStuck limits place bytes
 stuck-end limits place bytes h line form at short =
     let none : [] ≡ spaced (words_of line) ++ 10 ∷ [] = sym h ∙ next-is bytes (line_text line) at short ∙ text-words line in
-    let len : length {X = ℕ} [] ≡ length (spaced (words_of line) ++ 10 ∷ []) = ap (λ (t : List ℕ). length t) none in
+    let len : 0 ≡ length (spaced (words_of line) ++ 10 ∷ []) = ap (λ (t : List ℕ). length t) none in
     absurd (omega (arith, len, length-append (spaced (words_of line)) (10 ∷ [])))
