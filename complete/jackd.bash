@@ -5,7 +5,17 @@ _sagbufe_jackd()
     local word=${COMP_WORDS[COMP_CWORD]}
     COMPREPLY=()
     if ((COMP_CWORD == 1)); then
-        mapfile -t COMPREPLY < <(compgen -W 'play rehearse --help --version' -- "$word")
+        mapfile -t COMPREPLY < <(compgen -W 'play rehearse graph --help --version' -- "$word")
+        return
+    fi
+    if [[ ${COMP_WORDS[1]} == graph ]]; then
+        # Words 2 to 4 are SCRIPT, REPORT and CYCLE; then comes --dot.
+        if ((COMP_CWORD == 5)); then
+            mapfile -t COMPREPLY < <(compgen -W --dot -- "$word")
+        elif ((COMP_CWORD <= 3)); then
+            compopt -o filenames 2>/dev/null
+            mapfile -t COMPREPLY < <(compgen -f -- "$word")
+        fi
         return
     fi
     [[ ${COMP_WORDS[1]} == play ]] || return

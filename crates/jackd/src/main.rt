@@ -9,16 +9,21 @@ use crate::handed::hand_in;
 use jack_control::{Status, jackd};
 use jack_host::{FileHost, FreeGate, WriterSink};
 use report_listener::ListeningSink;
+use session_graph::graph;
 use std::alloc::Global;
 use std::env::Env;
+use std::fs::{File, Files};
 use std::process::ExitCode;
 use std::{env, io};
 
 // The exit code where the help or the version can't be made or printed.
 const UNPRINTED: u8 = 6;
 
-// The most files of a call: the script, the capture, the playback, and a file of each of four recorders.
+// The most files of a play: the script, the capture, the playback, and a file of each of four recorders.
 const MOST_FILES: usize = 7;
+
+// The files of a graph: the script and the report.
+const GRAPH_FILES: usize = 2;
 
 // The words of the command line, without the program's name.
 fn words(rt: &(impl Env + AllocGlobal)) -> io::Result<Vec<String>> {
@@ -34,7 +39,9 @@ fn ask_help(words: &[String]) -> bool {
     match words {
         [only] => { only.as_str() == "--help" || only.as_str() == "-h" || only.as_str() == "help" }
         [command, help] => {
-            (command.as_str() == "play" || command.as_str() == "rehearse")
+            (command.as_str() == "play"
+                || command.as_str() == "rehearse"
+                || command.as_str() == "graph")
                 && (help.as_str() == "--help" || help.as_str() == "-h")
         }
         _ => false,
@@ -46,6 +53,14 @@ fn ask_version(words: &[String]) -> bool {
     match words {
         [only] => only.as_str() == "--version" || only.as_str() == "-V",
         _ => false,
+    }
+}
+
+// Whether these words ask for the graph of a cycle.
+fn ask_graph(words: &[String]) -> bool {
+    match words {
+        [command, ..] => command.as_str() == "graph",
+        [] => false,
     }
 }
 
@@ -63,6 +78,24 @@ fn out_of_memory(rt: &impl Eprint) -> ExitCode {
     ExitCode::from(Status::NoMemory.code())
 }
 
+// Puts out the graph of a cycle.
+fn show_graph<R: Files<File = File> + Env + AllocGlobal + Eprint + Print>(
+    rt: &R,
+    words: &[String],
+) -> ExitCode {
+    let Ok(mut host) = FileHost::new(rt.alloc(), rt, GRAPH_FILES) else {
+        return out_of_memory(rt);
+    };
+    let mut out = WriterSink::new(io::writer(rt));
+    match graph(rt.alloc(), words, &mut host, &mut out) {
+        Ok(()) => ExitCode::SUCCESS,
+        Err(fault) => {
+            telling::tell_graph(rt, words, &host, &out, fault);
+            ExitCode::from(fault.code())
+        }
+    }
+}
+
 fn main(rt: HostRuntime) -> ExitCode {
     let words = match words(&rt) {
         Ok(words) => words,
@@ -74,6 +107,9 @@ fn main(rt: HostRuntime) -> ExitCode {
     }
     if ask_version(&words) {
         return code_of(usage::print_version(&rt));
+    }
+    if ask_graph(&words) {
+        return show_graph(&rt, &words);
     }
     let Ok(guests) = hand_in(rt.alloc()) else {
         return out_of_memory(&rt);

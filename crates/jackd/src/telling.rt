@@ -6,15 +6,16 @@ use jack_types::{ScriptFault, WaveFault};
 use play_words::{Names, play_names, rehearsal_number};
 use refused_calls::Notes;
 use report_listener::ListeningSink;
+use session_graph::GraphFault;
 use std::alloc::{AllocError, Global};
 use std::env::{Env, FillError};
 use std::fs::{File, Files};
 use std::os::unix::fs::MetadataExt;
 use std::{fs, io};
 use told_reasons::{
-    Reason, of_channels, of_disks, of_foreign_word, of_guests, of_input, of_making, of_open_output,
-    of_rate, of_records, of_refusals, of_report, of_script, of_summary, of_wave, of_words,
-    of_writing, read_again, standing_in,
+    Reason, of_channels, of_disks, of_foreign_word, of_graph, of_guests, of_input, of_making,
+    of_open_output, of_rate, of_records, of_refusals, of_report, of_script, of_summary, of_wave,
+    of_words, of_writing, of_wrong, read_again, standing_in,
 };
 
 /// The reason of exit code 1.
@@ -22,6 +23,9 @@ pub(crate) const NO_MEMORY: &str = "jackd: out of memory; no file was made\n";
 
 // What is told where no memory is left for the reason.
 const UNTOLD: &str = "jackd: no memory is left to tell the reason\n";
+
+// The most bytes of a report that are read again.
+const MOST_OF_REPORT: usize = 1_048_576;
 
 // The most bytes of a script that are read: one more than it may have.
 const MOST_OF_SCRIPT: usize = 1_048_577;
@@ -45,8 +49,23 @@ pub(crate) fn tell<R: Files<File = File> + Env + AllocGlobal + Eprint, W>(
     out: &ListeningSink<WriterSink<W>>,
     status: Status,
 ) {
-    let _ = match reason_of(rt, words, host, out, status) {
-        Ok(Some(reason)) => print(rt, &reason),
+    print_told(rt, &reason_of(rt, words, host, out, status));
+}
+
+/// Tells on standard error why no graph was put out.
+pub(crate) fn tell_graph<R: Files<File = File> + Env + AllocGlobal + Eprint, W>(
+    rt: &R,
+    words: &[String],
+    host: &FileHost<'_, R>,
+    out: &WriterSink<W>,
+    fault: GraphFault,
+) {
+    print_told(rt, &reason_of_graph(rt, words, host, out, fault));
+}
+
+fn print_told(rt: &impl Eprint, told: &Told) {
+    let _ = match told {
+        Ok(Some(reason)) => print(rt, reason),
         Ok(None) => Ok(()),
         Err(_) => rt.eprint(UNTOLD),
     };
@@ -85,6 +104,35 @@ fn reason_of<R: Files<File = File> + Env + AllocGlobal + Eprint, W>(
         Status::BadScript(fault) => reason_of_script(rt, alloc, names.script, fault),
         Status::Differs(difference) => reason_of_difference(rt, alloc, &names, difference),
         _ => Ok(None),
+    }
+}
+
+fn reason_of_graph<R: Files<File = File> + Env + AllocGlobal + Eprint, W>(
+    rt: &R,
+    words: &[String],
+    host: &FileHost<'_, R>,
+    out: &WriterSink<W>,
+    fault: GraphFault,
+) -> Told {
+    let alloc = rt.alloc();
+    match (fault, words) {
+        (GraphFault::NoMemory, _) => {
+            let _ = rt.eprint(NO_MEMORY);
+            Ok(None)
+        }
+        (GraphFault::ReadFault, _) => reason_of_reading(alloc, host),
+        (GraphFault::WriteFault, _) => match out.last_failure() {
+            Some(error) => Ok(Some(of_graph(alloc, error)?)),
+            None => Ok(None),
+        },
+        (GraphFault::BadScript(fault), [_, script, ..]) => {
+            reason_of_script(rt, alloc, script.as_str(), fault)
+        }
+        (GraphFault::Wrong(row), [_, _, report, ..]) => {
+            let text = read_again(alloc, rt, report.as_str(), MOST_OF_REPORT);
+            Ok(Some(of_wrong(alloc, report.as_str(), &text, row)?))
+        }
+        _ => reason_of_words(rt, words),
     }
 }
 

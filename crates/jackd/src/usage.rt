@@ -7,6 +7,7 @@ use std::io;
 // The lists of words that are taken.
 const USAGE: &str = "jackd play SCRIPT CAPTURE PLAYBACK [--record PATH]..
        jackd rehearse NUMBER
+       jackd graph SCRIPT REPORT CYCLE [--dot]
        jackd --help
        jackd --version";
 
@@ -20,9 +21,12 @@ of the script were refused, goes to standard error.
 NUMBER, from 0 to 4294967295, makes a session of 10,000 cycles, which is played in memory. Six lines
 on it go to standard output.
 
-Exit codes: 0 played, 1 no memory, 2 other words, 3 a file could not be read, 4 the capture is no
-WAVE file that is read, 5 the script can't be played, 6 a file could not be written, 7 the script
-and what it is played with differ.
+REPORT is what a play of SCRIPT printed, and CYCLE the number of one of its cycles. The graph that
+the cycle used goes to standard output: as lines, or with --dot as a digraph for graphviz.
+
+Exit codes: 0 played, 1 no memory, 2 other words or no such cycle, 3 a file could not be read, 4 the
+capture is no WAVE file that is read, 5 the script can't be played, 6 a file could not be written, 7
+the script and what it is played with differ, 8 the report is none of the script's.
 
 The sources have the formats of scripts and reports in docs/FORMATS.md, and sessions in examples/.";
 
@@ -32,6 +36,7 @@ fn program<'a>(alloc: Global) -> Result<Command<'a>, AllocError> {
     let rehearse = Command::new(alloc, "rehearse").about(
         "Plays a large session made from a number, and sums it up",
     );
+    let graph = Command::new(alloc, "graph").about("Prints the graph that a cycle of a play used");
     let help = Arg::new(alloc, "help")
         .long("help")
         .action(ArgAction::SetTrue)
@@ -52,6 +57,7 @@ fn program<'a>(alloc: Global) -> Result<Command<'a>, AllocError> {
         .disable_version_flag(true)
         .subcommand(play)?
         .subcommand(rehearse)?
+        .subcommand(graph)?
         .arg(help)?
         .arg(version)
 }

@@ -1,3 +1,12 @@
 mod PlaceLemmas
 mod TextLemmas
+mod LimitLemmas
+mod StepLemmas
+mod AdvanceLemmas
+mod LawfulLemmas
+mod ShortLemmas
 mod ReplayLemmas
+mod FrontLemmas
+mod FileLemmas
+mod WordLemmas
+mod TopLemmas

@@ -1,2 +1,9 @@
+pub mod Askings
+pub mod Faults
+pub mod Files
+pub mod Fronts
 pub mod Told
 pub mod Texts
+pub mod Graphs
+pub mod Readings
+pub mod Replays

@@ -1,6 +1,7 @@
 //! The line that tells why no graph is put out.
 
-ghost use Rattle.std.specs.Prelude.{◌+◌, ◌≤◌, length};
+ghost use Rattle.std.specs.Prelude.{◌≡◌, ◌+◌, ◌≤◌, ◌++◌, IfNone, IfSome, None, Some, decimal, length};
+ghost use Rattle.session_graph.specs.Faults.{PutsFault, cause_name, fault_line, part_name};
 
 use crate::faults::GraphFault;
 use arrayvec::ArrayString;
@@ -12,8 +13,8 @@ use jack_types::{Cause, Part, Row, ScriptFault};
 type Line = ArrayString<64>;
 
 fn text_of(text: &str) -> Line
-    requires { length text.now ≤ 16 }
-    ensures { length result.bytes ≤ 16 }
+    requires { length text.now ≤ 64 }
+    ensures { result.bytes ≡ text.now }
 {
     let mut line = Line::new();
     line.push_str(text);
@@ -22,14 +23,16 @@ fn text_of(text: &str) -> Line
 
 // Appends a number.
 fn add_number(line: &mut Line, number: u32)
-    requires { length line.old.bytes ≤ 32 }
-    ensures { length line.new.bytes ≤ length line.old.bytes + 20 }
+    requires { length line.old.bytes + 20 ≤ 64 }
+    ensures bytes { line.new.bytes ≡ line.old.bytes ++ decimal number }
+    ensures short { length line.new.bytes ≤ length line.old.bytes + 20 }
 {
     line.push_str(Buffer::new().format(u64::from(number)));
 }
 
-fn cause_name(cause: Cause) -> &'static str
-    ensures { length result.now ≤ 8 }
+fn name_of_cause(cause: Cause) -> &'static str
+    ensures name { result.now ≡ cause_name cause }
+    ensures short { length result.now ≤ 7 }
 {
     match cause {
         Cause::Header => "Header",
@@ -46,8 +49,9 @@ fn cause_name(cause: Cause) -> &'static str
     }
 }
 
-fn part_name(part: Part) -> &'static str
-    ensures { length result.now ≤ 8 }
+fn name_of_part(part: Part) -> &'static str
+    ensures name { result.now ≡ part_name part }
+    ensures short { length result.now ≤ 8 }
 {
     match part {
         Part::Report => "report",
@@ -64,25 +68,34 @@ fn part_name(part: Part) -> &'static str
     }
 }
 
-fn line_of_script(fault: ScriptFault) -> Line {
-    let mut line = text_of("fault 5 script ");
+fn line_of_script(fault: ScriptFault) -> Line
+    ensures { Some result.bytes ≡ fault_line (GraphFault.BadScript fault) }
+{
+    let mut line = Line::new();
+    line.push_str("fault 5 script ");
     add_number(&mut line, fault.line);
     line.push_str(" ");
-    line.push_str(cause_name(fault.cause));
+    line.push_str(name_of_cause(fault.cause));
     line.push_str("\n");
     line
 }
 
-fn line_of_row(row: Row) -> Line {
-    let mut line = text_of("check wrong ");
-    line.push_str(part_name(row.what));
+fn line_of_row(row: Row) -> Line
+    ensures { Some result.bytes ≡ fault_line (GraphFault.Wrong row) }
+{
+    let mut line = Line::new();
+    line.push_str("check wrong ");
+    line.push_str(name_of_part(row.what));
     line.push_str(" ");
     add_number(&mut line, row.number);
     line.push_str("\n");
     line
 }
 
-fn line_of(fault: GraphFault) -> Option<Line> {
+fn line_of(fault: GraphFault) -> Option<Line>
+    ensures some { IfSome result (λ line. Some line.bytes ≡ fault_line fault) }
+    ensures none { IfNone result (fault_line fault ≡ None) }
+{
     match fault {
         GraphFault::Words => Some(text_of("fault 2 words\n")),
         GraphFault::ReadFault => Some(text_of("fault 3 read\n")),
@@ -92,8 +105,11 @@ fn line_of(fault: GraphFault) -> Option<Line> {
     }
 }
 
-/// Puts out the line of a fault, where it has one.
-pub(crate) fn put_fault<K: Sink>(out: &mut K, fault: GraphFault) {
+/// Puts out the line of a fault, where it has one, as far as that goes.
+pub(crate) fn put_fault<K: Sink>(out: &mut K, fault: GraphFault)
+    ensures line { PutsFault (K.content out.old) (K.content out.new) (K.faults out.old) (K.faults out.new) fault }
+    ensures later { K.faults out.old ≤ K.faults out.new }
+{
     if let Some(line) = line_of(fault) {
         let _ = out.put(line.as_str().as_bytes());
     }

@@ -24,8 +24,13 @@ pub enum GraphFault {
 }
 
 impl GraphFault {
+    ghost use Rattle.std.specs.Prelude.{◌≡◌};
+    ghost use Rattle.session_graph.specs.Faults.{code_of};
+
     /// The exit code.
-    pub fn code(&self) -> u8 {
+    pub fn code(&self) -> u8
+        ensures { result ≡ code_of self.now }
+    {
         match self {
             GraphFault::NoMemory => 1,
             GraphFault::Words => 2,
@@ -38,7 +43,9 @@ impl GraphFault {
 }
 
 /// A part that is wrong at a number.
-pub(crate) fn wrong(what: Part, number: u32) -> GraphFault {
+pub(crate) fn wrong(what: Part, number: u32) -> GraphFault
+    ensures { result ≡ GraphFault.Wrong (record { what = what; number = number; place = 0 }) }
+{
     GraphFault::Wrong(Row {
         what,
         number,

@@ -1,51 +1,69 @@
 //! The replay of a report's calls.
 
-ghost use Rattle.std.specs.Prelude.{◌≡◌, ◌≤◌, [], ◌∷◌, IfOk, IfSome, IsTrue, length, map, take, slice_index_or};
+ghost use Rattle.std.specs.Prelude.{◌≡◌, ◌==◌, ◌+◌, ◌<◌, ◌≤◌, ◌++◌, ◌↔◌, [], ◌∷◌, IfErr, IfOk, IsFalse, IsTrue, count_by, length, map};
 ghost use Rattle.std.specs.Option.{option_map};
-ghost use Rattle.cycle_plan.specs.Graphs.{HasTempo, state_of};
+ghost use Rattle.cycle_plan.specs.Graphs.{state_of};
 ghost use Rattle.lane_calls.specs.Plans.{plan_of};
-ghost use Rattle.session_graph.specs.Told.{IsDone, Replays, call_told, changes_told, run_changes};
-ghost use Rattle.session_model.specs.Replies.{is_change};
+ghost use Rattle.report_reader.specs.Reports.{reply_row};
+ghost use Rattle.report_reader.specs.declared.rows.CallLine.{CallLine as CallValue};
+ghost use Rattle.session_graph.specs.Replays.{IsOfReplay, IsReplay};
+ghost use Rattle.session_graph.specs.Told.{IsRight, IsUsed, call_told};
+ghost use Rattle.jack_types.specs.declared.commands.Call.{Call as CalledValue};
+ghost use Rattle.session_model.specs.Histories.{accepted};
 ghost use Rattle.session_model.specs.Samples.{below};
 ghost use Rattle.session_model.specs.Scripts.{Script as ScriptValue, planned_of};
 
 use crate::faults::{GraphFault, wrong};
 use cycle_plan::Graph;
-use jack_types::{Command, Part, Refusal};
+use graph_replies::{Latencies, answer};
+use jack_types::{Memory, Part, Reply};
 use lane_calls::{LaneCalls, PlannedCall};
 use report_reader::{CallLine, ReplyLine};
 use session_script::Script;
 use std::alloc::Global;
-use tempo_map::Tempo;
 
-// Whether a new master's numbers are a tempo, as those of a script are.
-fn has_tempo(command: &Command) -> bool
-    ensures { IsTrue result → HasTempo command.now }
+// How a report's line writes a reply.
+fn row_of(reply: Reply) -> ReplyLine
+    ensures { result ≡ reply_row reply }
 {
-    match command {
-        Command::Timebase {
-            client: _,
-            mbpm,
-            beats,
-            ticks,
-        } => Tempo::new(*mbpm, *beats, *ticks).is_some(),
-        Command::TimebaseIf {
-            client: _,
-            mbpm,
-            beats,
-            ticks,
-        } => Tempo::new(*mbpm, *beats, *ticks).is_some(),
-        _ => true,
+    match reply {
+        Reply::Accepted(number) => ReplyLine::Accepted(number),
+        Reply::Refused(refusal) => ReplyLine::Refused(refusal),
+        Reply::Latency(range) => ReplyLine::Latency(u64::from(range.min), u64::from(range.max)),
     }
 }
 
-fn is_change(command: &Command) -> bool
-    ensures { result ≡ is_change command.now }
+// Whether a line tells this reply.
+fn is_told(reply: Reply, row: ReplyLine) -> bool
+    ensures { IsTrue result ↔ row ≡ reply_row reply }
 {
-    match command {
-        Command::Latency { .. } => false,
-        _ => true,
+    row == row_of(reply)
+}
+
+// How many changes a reply makes.
+fn changes_by(reply: Reply) -> u32
+    ensures count { (call : CalledValue) → result ≡ length (accepted (record { call = call; reply = reply } ∷ [])) }
+    ensures few { result ≤ 1 }
+{
+    match reply {
+        Reply::Accepted(_) => 1,
+        Reply::Refused(_) => 0,
+        Reply::Latency(_) => 0,
     }
+}
+
+// How many of the lines are of a lane.
+fn made_by(lines: &[CallLine], lane: u64) -> u64
+    ensures count { result ≡ count_by (λ (line : CallValue). line.lane == lane) lines.now }
+    ensures few { result ≤ length lines.now }
+{
+    let mut made = 0;
+    for line in lines {
+        if line.lane == lane {
+            made += 1;
+        }
+    }
+    made
 }
 
 // The script's call that a line tells of.
@@ -58,37 +76,56 @@ fn call_told(calls: &LaneCalls, line: &CallLine) -> Option<PlannedCall>
     calls.get(line.lane as usize, line.index as usize - 1)
 }
 
-// The answer of the graph to a change. None is that of no change.
-fn change(graph: &mut Graph, command: &Command, number: u32) -> Option<Result<(), Refusal>>
-    ensures { IfSome result (IsDone (state_of graph.old) number command.now (state_of graph.new)) }
-{
-    if !is_change(command) || !has_tempo(command) {
-        return None;
-    }
-    Some(graph.apply(number, command))
+// The graph behind right calls, with what is needed to go on.
+#[derive(Drop)]
+struct Replay {
+    graph: Graph,
+    latencies: Latencies,
+    calls: LaneCalls,
+    // The number that the next change gets.
+    next: u32,
 }
 
-// Goes on by a line's call. Where the script has it and the graph's answer is as the line says, answers how many changes it made.
-fn go_on(graph: &mut Graph, calls: &LaneCalls, line: &CallLine, number: u32) -> Option<u32>
-    ensures state { IfSome result (λ n. (script : ScriptValue) → calls.now ≡ map (planned_of script) (below 5) → Replays (state_of graph.old) (changes_told script (line.now ∷ [])) (state_of graph.new) n) }
-    ensures few { IfSome result (λ n. n ≤ 1) }
-{
-    let planned = call_told(calls, line)?;
-    let command = planned.call.command;
-    match line.reply {
-        ReplyLine::Latency(_, _) => Some(0),
-        ReplyLine::Refused(told) => match change(graph, &command, number)? {
-            Err(refusal) if refusal == told => Some(0),
-            _ => None,
-        },
-        ReplyLine::Accepted(told) => match change(graph, &command, number)? {
-            Ok(()) if told == number => Some(1),
-            _ => None,
-        },
+impl Replay {
+    // Before the first call.
+    fn new(alloc: Global, script: &Script) -> Result<Replay, Memory>
+        ensures { IfOk result (λ replay. IsReplay script.now [] (state_of replay.graph) replay.calls replay.next) }
+    {
+        let header = script.header();
+        Ok(Replay {
+            graph: Graph::new(alloc, header.capture, header.playback)?,
+            latencies: Latencies::new(alloc)?,
+            calls: LaneCalls::of(alloc, script)?,
+            next: 1,
+        })
+    }
+
+    // Makes the call of a line behind others. Whether it is right.
+    fn make(&mut self, script: &Script, before: &[CallLine], line: &CallLine) -> bool
+        requires behind { IsReplay script.now before.now (state_of self.old.graph) self.old.calls self.old.next }
+        requires few { self.old.next ≤ 4096 }
+        ensures right { IsTrue result → IsReplay script.now (before.now ++ line.now ∷ []) (state_of self.new.graph) self.new.calls self.new.next }
+        ensures wrong { IsFalse result → ¬ IsRight script.now before.now line.now }
+        ensures step { self.new.next ≤ self.old.next + 1 }
+    {
+        let Some(planned) = call_told(&self.calls, line) else {
+            return false;
+        };
+        if line.index != made_by(before, line.lane) + 1 {
+            return false;
+        }
+        let reply = answer(
+            &mut self.graph,
+            &mut self.latencies,
+            self.next,
+            &planned.call.command,
+        );
+        self.next += changes_by(reply);
+        is_told(reply, line.reply)
     }
 }
 
-/// The graph after the first `number` accepted calls. Each call before is the script's, and each change is answered as its line says.
+/// The graph behind the first `number` accepted calls. Each call before is right.
 pub(crate) fn replayed(
     alloc: Global,
     script: &Script,
@@ -97,23 +134,20 @@ pub(crate) fn replayed(
     cycle: u32,
 ) -> Result<Graph, GraphFault>
     requires { length lines.now ≤ 4096 }
-    ensures { IfOk result (λ graph. state_of graph ≡ run_changes script.now (take number (changes_told script.now lines.now))) }
+    ensures used { IfOk result (λ graph. IsUsed script.now lines.now number (state_of graph)) }
+    ensures fault { IfErr result (IsOfReplay script.now lines.now number cycle) }
 {
-    let header = script.header();
-    let mut graph = Graph::new(alloc, header.capture, header.playback)?;
-    let calls = LaneCalls::of(alloc, script)?;
-    let mut accepted: u32 = 0;
+    let mut replay = Replay::new(alloc, script)?;
     for place in 0..lines.len() {
-        if u64::from(accepted) == number {
-            return Ok(graph);
+        if u64::from(replay.next - 1) == number {
+            return Ok(replay.graph);
         }
-        match go_on(&mut graph, &calls, &lines[place], accepted + 1) {
-            Some(more) => accepted += more,
-            None => return Err(wrong(Part::Call, place as u32 + 1)),
+        if !replay.make(script, &lines[..place], &lines[place]) {
+            return Err(wrong(Part::Call, place as u32 + 1));
         }
     }
-    if u64::from(accepted) == number {
-        return Ok(graph);
+    if u64::from(replay.next - 1) == number {
+        return Ok(replay.graph);
     }
     Err(wrong(Part::Cycle, cycle))
 }

@@ -1,6 +1,17 @@
 //! The command.
 
-ghost use Rattle.std.specs.Prelude.{◌≡◌, ◌<◌, ◌≤◌, IfOk, length};
+ghost use Rattle.std.specs.Prelude.{◌≡◌, ◌≢◌, ◌<◌, ◌≤◌, ◌⊎◌, ℕ, IfErr, IfOk, IsErrOf, OnErr, OnOk, length, map, string_bytes, take};
+ghost use Rattle.cycle_plan.specs.Graphs.{state_of};
+ghost use Rattle.jack_host.specs.Bytes.{Gains};
+ghost use Rattle.jack_host.specs.Causes.{HasCause, Rose};
+ghost use Rattle.jack_host.specs.Files.{IsThere, SameFiles};
+ghost use Rattle.session_model.specs.Scripts.{turns};
+ghost use Rattle.session_graph.specs.Askings.{Asking, IsGraph};
+ghost use Rattle.session_graph.specs.Faults.{PutsFault};
+ghost use Rattle.session_graph.specs.Files.{IfBoth, IfBytes, LacksFile};
+ghost use Rattle.session_graph.specs.Fronts.{IsFront};
+ghost use Rattle.session_graph.specs.Graphs.{HasFault, IsCut, IsFaultOf, IsPut, IsShown, IsTextOf};
+ghost use Rattle.session_graph.specs.Readings.{IsOfFront};
 
 use crate::dots::dot_of;
 use crate::fault_lines::put_fault;
@@ -10,47 +21,84 @@ use crate::replaying::replayed;
 use crate::reports::{Told, cycles_of, read_report};
 use crate::texts::text_of;
 use crate::words::{Asked, read_words};
+use cycle_plan::Graph;
 use jack_host::{Host, Sink};
-use report_reader::Lines;
-use std::alloc::Global;
+use report_reader::{CycleLine, Lines};
+use session_script::Script;
+use std::alloc::{AllocError, Global};
 
-// What the report tells up to the cycle.
-fn told<H: Host>(alloc: Global, host: &mut H, asked: &Asked<'_>) -> Result<Told, GraphFault>
-    requires { H.lent host.old < 1000 }
+// What the report tells up to the cycle, which the script has.
+fn told<H: Host>(
+    alloc: Global,
+    script: &Script,
+    host: &mut H,
+    asked: &Asked<'_>,
+) -> Result<Told, GraphFault>
+    requires out { H.lent host.old < 1000 }
+    requires counted { 1 ≤ asked.now.cycle }
+    requires there { asked.now.cycle ≤ length (turns script.now) }
+    ensures front { IfOk result (λ told. IfBytes (H.files host.old) asked.now.report (λ bytes. IsFront script.now bytes told.calls.items told.cycle)) }
+    ensures cycle { IfOk result (λ told. told.cycle.cycle ≡ asked.now.cycle) }
     ensures few { IfOk result (λ told. length told.calls.items ≤ 4096) }
+    ensures fault { IfErr result (IsOfFront (H.files host.old) asked.now script.now) }
+    ensures read { IsErrOf result GraphFault.ReadFault →
+        Rose (H.read_faults host.old) (H.read_faults host.new) ⊎ ¬ IsThere (H.files host.old) asked.now.report }
+
+    ensures later { H.read_faults host.old ≤ H.read_faults host.new }
+    ensures kept { OnOk result (H.read_faults host.new ≡ H.read_faults host.old) }
+    ensures writes { H.write_faults host.new ≡ H.write_faults host.old }
+    ensures files { SameFiles (H.files host.old) (H.files host.new) }
     ensures lent { H.lent host.new ≡ H.lent host.old }
 {
     let source = host.open_in(asked.report)?;
     let mut lines = Lines::of(source);
-    let told = read_report(alloc, &mut lines, asked.cycle);
+    let told = read_report(alloc, script, &mut lines, asked.cycle);
     host.back(lines.into_source());
     told
 }
 
+// The text of a graph of the kind that is asked for.
+fn text_by(alloc: Global, graph: &Graph, cycle: &CycleLine, dot: bool) -> Result<String, AllocError>
+    ensures { IfOk result (λ text. IsTextOf dot cycle.now (state_of graph.now) (string_bytes text)) }
+{
+    if dot {
+        dot_of(alloc, graph, cycle)
+    } else {
+        text_of(alloc, graph, cycle)
+    }
+}
+
 // The text that is asked for.
-fn text<H: Host>(alloc: Global, host: &mut H, words: &[String]) -> Result<String, GraphFault>
-    requires { H.lent host.old < 1000 }
+fn text<H: Host>(alloc: Global, host: &mut H, asked: &Asked<'_>) -> Result<String, GraphFault>
+    requires out { H.lent host.old < 1000 }
+    requires counted { 1 ≤ asked.now.cycle }
+    ensures shown { IfOk result (λ text. IfBoth (H.files host.old) asked.now (λ script report. IsShown asked.now script report (string_bytes text))) }
+    ensures fault { IfErr result (HasFault (H.files host.old) asked.now) }
+    ensures read { IsErrOf result GraphFault.ReadFault → Rose (H.read_faults host.old) (H.read_faults host.new) ⊎ LacksFile (H.files host.old) asked.now }
+
+    ensures later { H.read_faults host.old ≤ H.read_faults host.new }
+    ensures kept { OnOk result (H.read_faults host.new ≡ H.read_faults host.old) }
+    ensures writes { H.write_faults host.new ≡ H.write_faults host.old }
+    ensures files { SameFiles (H.files host.old) (H.files host.new) }
     ensures lent { H.lent host.new ≡ H.lent host.old }
 {
-    let Some(asked) = read_words(words) else {
-        return Err(GraphFault::Words);
-    };
     let script = read_script(alloc, host, asked.script)?;
-    if u64::from(asked.cycle) > cycles_of(&script) {
+    if asked.cycle > cycles_of(&script) {
         return Err(GraphFault::Words);
     }
-    let told = told(alloc, host, &asked)?;
+    let told = told(alloc, &script, host, asked)?;
     let graph = replayed(alloc, &script, &told.calls, told.cycle.number, asked.cycle)?;
-    let text = if asked.dot {
-        dot_of(alloc, &graph, &told.cycle)?
-    } else {
-        text_of(alloc, &graph, &told.cycle)?
-    };
+    let text = text_by(alloc, &graph, &told.cycle, asked.dot)?;
     Ok(text)
 }
 
 // Puts a text out.
-fn put_text<K: Sink>(out: &mut K, text: &str) -> Result<(), GraphFault> {
+fn put_text<K: Sink>(out: &mut K, text: &str) -> Result<(), GraphFault>
+    ensures put { OnOk result (Gains (K.content out.old) (K.content out.new) text.now) }
+    ensures cut { OnErr result ((k : ℕ) × (k ≤ length text.now) × Gains (K.content out.old) (K.content out.new) (take k text.now)) }
+    ensures fault { IfErr result (λ fault. fault ≡ GraphFault.WriteFault) }
+    ensures cause { HasCause (K.faults out.old) (K.faults out.new) result }
+{
     match out.put(text.as_bytes()) {
         Ok(()) => Ok(()),
         Err(_) => Err(GraphFault::WriteFault),
@@ -68,9 +116,33 @@ pub fn graph<H: Host, K: Sink>(
     out: &mut K,
 ) -> Result<(), GraphFault>
     requires { H.lent host.old < 1000 }
+
+    // What is put out is the graph behind the first calls of the report, as many accepted ones as the cycle's line says.
+    ensures shown { OnOk result ((asking : Asking) × IsGraph (map string_bytes words.now) asking × IsPut (H.files host.old) (K.content out.old) (K.content out.new) asking) }
+
+    // A fault comes only where the words and the files have it, or the outside failed.
+    ensures fault { IfErr result (λ fault. fault ≢ GraphFault.WriteFault → IsFaultOf (H.files host.old) (map string_bytes words.now) fault) }
+    ensures read { IsErrOf result GraphFault.ReadFault → (asking : Asking) × IsGraph (map string_bytes words.now) asking ×
+        (Rose (H.read_faults host.old) (H.read_faults host.new) ⊎ LacksFile (H.files host.old) asking) }
+    ensures write { IsErrOf result GraphFault.WriteFault → Rose (K.faults out.old) (K.faults out.new) }
+    ensures cut { IsErrOf result GraphFault.WriteFault → (asking : Asking) × IsGraph (map string_bytes words.now) asking ×
+        IsCut (H.files host.old) (K.content out.old) (K.content out.new) asking }
+    ensures line { IfErr result (λ fault. fault ≢ GraphFault.WriteFault → PutsFault (K.content out.old) (K.content out.new) (K.faults out.old) (K.faults out.new) fault) }
+
+    // No file is touched.
+    ensures files { SameFiles (H.files host.old) (H.files host.new) }
+    ensures writes { H.write_faults host.new ≡ H.write_faults host.old }
     ensures lent { H.lent host.new ≡ H.lent host.old }
+    ensures later { (H.read_faults host.old ≤ H.read_faults host.new) × (K.faults out.old ≤ K.faults out.new) }
+
+    // Where the graph is put out, nothing of the host or the sink has failed.
+    ensures kept { OnOk result ((H.read_faults host.new ≡ H.read_faults host.old) × (K.faults out.new ≡ K.faults out.old)) }
 {
-    match text(alloc, host, words) {
+    let Some(asked) = read_words(words) else {
+        put_fault(out, GraphFault::Words);
+        return Err(GraphFault::Words);
+    };
+    match text(alloc, host, &asked) {
         Ok(text) => put_text(out, text.as_str()),
         Err(fault) => {
             put_fault(out, fault);

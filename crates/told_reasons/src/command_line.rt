@@ -3,13 +3,23 @@
 ghost use Rattle.std.specs.Prelude.{IfOk};
 ghost use Rattle.told_reasons.specs.Reasons.{IsReason};
 
-use crate::forms::{OPTIONS, PROGRAM};
+use crate::forms::{GRAPH_OPTIONS, OPTIONS, PROGRAM};
 use crate::nearest::nearest;
 use crate::reason::Reason;
+use script_words::Words;
 use std::alloc::{AllocError, Global};
 
 // The words of a play before its options.
 const NAMED: [&str; 3] = ["SCRIPT", "CAPTURE", "PLAYBACK"];
+
+// The words of a graph before its option.
+const SHOWN: [&str; 3] = ["SCRIPT", "REPORT", "CYCLE"];
+
+// The greatest number of a cycle.
+const MOST_CYCLE: i64 = 4_294_967_295;
+
+// The most digits of a number.
+const MOST_DIGITS: usize = 10;
 
 // How many files of recorders, or of disks, are named at most.
 const MOST_FILES: usize = 4;
@@ -71,6 +81,7 @@ fn say_words(alloc: Global, reason: &mut Reason, words: &[String]) -> Result<(),
     match command.as_str() {
         "play" => say_play(alloc, reason, rest),
         "rehearse" => say_rehearsal(reason, rest),
+        "graph" => say_graph(alloc, reason, rest),
         _ => say_no_command(alloc, reason, command),
     }
 }
@@ -97,6 +108,67 @@ fn say_rehearsal(reason: &mut Reason, words: &[String]) -> Result<(), AllocError
         }
         [_, more, ..] => say_one_too_many(reason, more, 1),
     }
+}
+
+// Why the words behind `graph` ask for no graph. Where they do, the script has no such cycle.
+fn say_graph(alloc: Global, reason: &mut Reason, words: &[String]) -> Result<(), AllocError> {
+    for place in 0..SHOWN.len() {
+        if place >= words.len() {
+            reason.say("graph needs SCRIPT, REPORT and CYCLE; ")?;
+            reason.say(SHOWN[place])?;
+            return reason.say(" is missing");
+        }
+        let word = &words[place];
+        if word.as_str() == "--dot" {
+            return reason.say("\"--dot\" comes behind SCRIPT, REPORT and CYCLE");
+        }
+        if place + 1 < SHOWN.len() && say_name(reason, word, place)? {
+            return Ok(());
+        }
+    }
+    match words {
+        [script, report, ..] if script == report => {
+            reason.say("words 2 and 3 name one file: ")?;
+            reason.show(script.as_bytes())
+        }
+        [_, _, cycle, ..] if !is_cycle(cycle.as_bytes()) => {
+            reason.quote(cycle.as_bytes())?;
+            reason.say(" is no cycle: a number from 1 to 4294967295 of one to ten digits")
+        }
+        [_, _, _, option, more, ..] if option.as_str() == "--dot" => {
+            say_one_too_many(reason, more, 4)
+        }
+        [_, _, _, option, ..] if option.as_str() != "--dot" => {
+            say_no_graph_option(alloc, reason, option)
+        }
+        [script, _, cycle, ..] => {
+            reason.show(script.as_bytes())?;
+            reason.say(": has no cycle ")?;
+            reason.show(cycle.as_bytes())
+        }
+        _ => Ok(()),
+    }
+}
+
+fn is_cycle(word: &[u8]) -> bool {
+    word.len() <= MOST_DIGITS
+        && word.iter().all(|b| b.is_ascii_digit())
+        && Words::of(word).number(1, MOST_CYCLE).is_ok()
+}
+
+// Tells of a word that is no option of a graph.
+fn say_no_graph_option(
+    alloc: Global,
+    reason: &mut Reason,
+    word: &String,
+) -> Result<(), AllocError> {
+    if word.as_bytes().first() == Some(&b'-') {
+        reason.say("no option ")?;
+        reason.quote(word.as_bytes())?;
+    } else {
+        say_one_too_many(reason, word, 3)?;
+    }
+    say_meant(alloc, reason, word.as_bytes(), &GRAPH_OPTIONS)
 }
 
 // Why the words behind `play` are no play.

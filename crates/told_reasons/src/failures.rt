@@ -152,6 +152,13 @@ pub fn of_summary(alloc: Global, error: io::Error) -> Result<Reason, AllocError>
     of_sink(alloc, error, "the lines are cut")
 }
 
+/// Why a graph could not be put out.
+pub fn of_graph(alloc: Global, error: io::Error) -> Result<Reason, AllocError>
+    ensures { IfOk result IsReason }
+{
+    of_sink(alloc, error, "the graph is cut")
+}
+
 // Why standard output could not be written, and what came of that.
 fn of_sink(alloc: Global, error: io::Error, end: &str) -> Result<Reason, AllocError>
     ensures { IfOk result IsReason }

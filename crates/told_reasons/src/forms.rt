@@ -82,9 +82,10 @@ pub const SIDES: [&str; 2] = ["capture", "playback"];
 pub const AT: [&str; 1] = ["at"];
 
 /// The program's commands and options.
-pub const PROGRAM: [&str; 7] = [
+pub const PROGRAM: [&str; 8] = [
     "play",
     "rehearse",
+    "graph",
     "help",
     "--help",
     "--version",
@@ -94,3 +95,6 @@ pub const PROGRAM: [&str; 7] = [
 
 /// The options of a play.
 pub const OPTIONS: [&str; 2] = ["--record PATH", "--disk PATH"];
+
+/// The option of a graph.
+pub const GRAPH_OPTIONS: [&str; 1] = ["--dot"];

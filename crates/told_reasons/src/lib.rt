@@ -5,6 +5,7 @@ mod command_line;
 mod differing;
 mod failures;
 mod forms;
+mod graphs;
 mod lines;
 mod nearest;
 mod reason;
@@ -19,8 +20,9 @@ mod waves;
 pub use command_line::{of_foreign_word, of_words};
 pub use differing::{of_channels, of_disks, of_guests, of_rate, of_records};
 pub use failures::{
-    of_input, of_making, of_open_output, of_report, of_summary, of_writing, standing_in,
+    of_graph, of_input, of_making, of_open_output, of_report, of_summary, of_writing, standing_in,
 };
+pub use graphs::of_wrong;
 pub use reason::Reason;
 pub use refusals::of_refusals;
 pub use rereading::read_again;

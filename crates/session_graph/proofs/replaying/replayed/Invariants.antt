@@ -1,10 +1,11 @@
-use Rattle.std.proofs.Common.{◌≡◌, ◌≤◌}
+use Rattle.std.proofs.Common.{◌≤◌, ◌+◌, take}
 use Rattle.cycle_plan.specs.Graphs.{state_of}
-use Rattle.session_graph.proofs.ReplayLemmas.{IsBehind}
+use Rattle.session_graph.specs.Replays.{IsReplay}
 use Rattle.session_graph.proofs.replaying.replayed.Given as goal
 
 abbrev pub invariant-loop-place : goal.invariant-loop-place
 invariant-loop-place l = record {
-  behind : IsBehind l.script l.lines l.place (state_of l.graph) l.accepted;
-  few : l.accepted ≤ l.place;
+  behind : IsReplay l.script (take l.place l.lines) (state_of l.replay.graph) l.replay.calls l.replay.next;
+  within : l.replay.next ≤ l.number + 1;
+  few : l.replay.next ≤ l.place + 1;
 }
