@@ -2,6 +2,7 @@
 --     find-first, find-none      the first that passes, and none
 --     heard-step      one connection more, into this input or not
 --     inputs-more      one input more
+--     filter-more      one element more, that passes or not
 --     made-more      one element more that is made into another, or into none
 use Rattle.std.proofs.Common.{◌≡◌, ℕ, zero, suc, ◌+◌, ◌<◌, Bool, true, false, cond, List, [], ◌∷◌, ◌++◌, length, map, filter, filter_map, take, get_or, find, Option, Some, None, refl, sym, ◌∙◌, ap, arith}
 use Rattle.std.proofs.lemmas.List.{append-nil, map-append, take_more}
@@ -26,7 +27,7 @@ find-none p [] d others = refl
 find-none p (x ∷ xs) d others = ap (λ b. cond b (Some x) (find p xs)) (others 0 (omega arith)) ∙ find-none p xs d (λ k l. others (suc k) (omega (arith, l)))
 
 -- one element more of those that pass
-filter-more : {X : Type 0} (test : X → Bool) (xs : List X) (i : ℕ) (d : X) → i < length xs → filter test (take (i + 1) xs) ≡ filter test (take i xs) ++ cond (test (get_or xs i d)) (get_or xs i d ∷ []) []
+pub filter-more : {X : Type 0} (test : X → Bool) (xs : List X) (i : ℕ) (d : X) → i < length xs → filter test (take (i + 1) xs) ≡ filter test (take i xs) ++ cond (test (get_or xs i d)) (get_or xs i d ∷ []) []
 filter-more test xs i d h = ap (filter test) (take_more xs i d h) ∙ filter-append test (take i xs) (get_or xs i d ∷ [])
 
 module _ {X : Type 0} (test : X → Bool) (brought : X → List Event) (xs : List X) (i : ℕ) (d : X) (h : i < length xs) where

@@ -1,4 +1,6 @@
 -- A stage of MIDI clients hears its plan.
+--     owner-decided      who owns a bench, if somebody does
+--     quiet      other kinds play no event
 --     HearsPlan-stage      where each MIDI client has its bench and played on it
 use Rattle.std.proofs.Common.{◌≡◌, ℕ, zero, suc, ◌<◌, Bool, true, false, cond, ◌==◌, ◌⊎◌, inl, inr, List, [], ◌∷◌, find, filter_map, get_or, length, map, replicate, Contains, Option, Some, None, nat_lt, refl, sym, ◌∙◌, ap, ap₂, arith, eq-eqb, eqb-true, ltb-false, ltb-true}
 use Rattle.std.specs.List.{cons_option}
@@ -33,7 +35,7 @@ one : {X : Type 0} (x y : X) → Some x ≡ Some y → x ≡ y
 one x y e = cc
 
 -- other kinds play no event and remember what they did
-quiet : (list : List (ℕ × Event)) (kind : Kind) (memory : Memory) (outputs : ℕ) (moment : Moment) (period : ℕ) (inputs : List (List Event)) → (IsMidi kind → ⊥)
+pub quiet : (list : List (ℕ × Event)) (kind : Kind) (memory : Memory) (outputs : ℕ) (moment : Moment) (period : ℕ) (inputs : List (List Event)) → (IsMidi kind → ⊥)
     → midi_play list kind memory outputs moment period inputs ≡ (let played : MidiPlayed = record { outputs = replicate outputs []; memory = memory } in played)
 quiet list (Midiplay _) memory outputs moment period inputs other = absurd (other tt)
 quiet list Midithru memory outputs moment period inputs other = absurd (other tt)
@@ -50,7 +52,7 @@ quiet list (Guest _) memory outputs moment period inputs other = refl
 quiet list (Disk _) memory outputs moment period inputs other = refl
 
 -- who owns a bench, if somebody does
-owner-decided : (owners : List (Option ℕ)) (birth : ℕ) → ((b : ℕ) × (get_or owners b None ≡ Some birth)) ⊎ ((b : ℕ) → get_or owners b None ≡ Some birth → ⊥)
+pub owner-decided : (owners : List (Option ℕ)) (birth : ℕ) → ((b : ℕ) × (get_or owners b None ≡ Some birth)) ⊎ ((b : ℕ) → get_or owners b None ≡ Some birth → ⊥)
 owner-decided [] birth = inr (λ b e. nothing-some birth e)
 owner-decided (owner ∷ owners) birth = first owner refl (owner-decided owners birth)
   where

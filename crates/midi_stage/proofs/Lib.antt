@@ -1,6 +1,10 @@
 mod HeardLemmas
 mod HearLemmas
-mod SeatLemmas
-mod SeatsLemmas
+mod OpeningLemmas
+mod PartLemmas
+mod PerformLemmas
+mod PlayLemmas
 mod StableLemmas
+mod StageLemmas
+mod TurnLemmas
 mod ViewLemmas

@@ -2,6 +2,7 @@
 --     heard-stable      of each input
 --     all-stable      of all
 --     played-more, rest-more, played-same      one node more, with a seat or without
+--     kind-played      a bench that plays is for the same kind
 use Rattle.std.proofs.Common.{◌≡◌, ◌≢◌, ℕ, ◌+◌, ◌<◌, ◌≤◌, ◌⊎◌, inl, inr, Bool, ◌&&◌, ◌==◌, List, [], ◌∷◌, map, filter, get_or, Contains, Option, Some, None, refl, sym, ◌∙◌, ap, ap₂, subst, arith, eqb-true}
 use Rattle.std.proofs.lemmas.Bool.{cases_eq}
 use Rattle.jack_types.specs.declared.events.Event.{Event}
@@ -122,3 +123,12 @@ module _ (lists : List (List (ℕ × Event))) (nodes : List Client) (wiring : Mi
     rest-more b none =
         other_benches b no_standing (λ same. none k (omega arith) (seat-first k b (seat ∙ ap Some (sym same))))
         ∙ rest b (λ n low e. none n (omega (arith, low)) e)
+
+-- a bench that plays is for the same kind
+pub kind-played : (before after : List Standing) (bench : ℕ) → (get_or after bench no_standing).kind ≡ (get_or before bench no_standing).kind
+    → ((b : ℕ) (d : Standing) → b ≢ bench → get_or after b d ≡ get_or before b d) → (b : ℕ) → (get_or after b no_standing).kind ≡ (get_or before b no_standing).kind
+kind-played before after bench kind others b = go (cases_eq b bench)
+  where
+    go : (b ≡ bench) ⊎ (b ≢ bench) → (get_or after b no_standing).kind ≡ (get_or before b no_standing).kind
+    go (inl at) = ap (λ c. (get_or after c no_standing).kind) at ∙ kind ∙ ap (λ c. (get_or before c no_standing).kind) (sym at)
+    go (inr other) = ap (λ (standing : Standing). standing.kind) (others b no_standing other)

@@ -1,3 +1,5 @@
-pub mod Seating
+pub mod Insides
+pub mod Openings
 pub mod Sounding
 pub mod Stages
+pub mod Standing

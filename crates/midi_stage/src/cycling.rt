@@ -62,6 +62,7 @@ pub fn play_nodes(
     requires frames { moment.now.frame + period < 2 ^ 32 }
     ensures played { HavePlayed lists.now nodes.now wiring.now moment.now period (length sounds.old.seats.items) benches.old benches.new (sounded sounds.new) }
     ensures others { (b : ℕ) → ((n : ℕ) → slice_index_or sounds.old.seats.items n None ≡ Some b → ⊥) → slice_index_or benches.new b no_standing ≡ slice_index_or benches.old b no_standing }
+    ensures kinds { (b : ℕ) → (slice_index_or benches.new b no_standing).kind ≡ (slice_index_or benches.old b no_standing).kind }
     ensures benches { length benches.new ≡ length benches.old }
     ensures gives { length sounds.new.gives.items ≡ length sounds.old.gives.items }
     ensures seats { sounds.new.seats ≡ sounds.old.seats }

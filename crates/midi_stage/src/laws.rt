@@ -1,12 +1,12 @@
-//! Laws of a stage of MIDI clients: which bench a client gets, and that the stage hears its plan.
+//! Laws of a stage of MIDI clients: it hears its plan, and what it carries.
 
-ghost use Rattle.std.specs.Prelude.{◌≡◌, ◌<◌, ◌⊎◌, ℕ, List, None, Some, length, slice_index_or};
+ghost use Rattle.std.specs.Prelude.{ℕ};
 ghost use Rattle.jack_types.specs.declared.moments.Moment.{Moment as MomentValue};
+ghost use Rattle.session_model.specs.Scripts.{Script};
 ghost use Rattle.cycle_plan.specs.Plans.{IsPlanned, Planned};
-ghost use Rattle.midi_wiring.specs.Hearings.{HearsPlan};
-ghost use Rattle.midi_stage.specs.declared.seating.Owned.{Owned as OwnedRecord};
-ghost use Rattle.midi_stage.specs.Seating.{no_owned, seat_for};
+ghost use Rattle.midi_wiring.specs.Hearings.{AreCarried, Heard, HearsPlan};
 ghost use Rattle.midi_stage.specs.Stages.{IsSeating, MidiStaged, PlaysMidi, heard_in};
+ghost use Rattle.midi_stage.specs.Standing.{HearsNobody, quiet_heard};
 
 use midi_wiring::laws::births_are_apart;
 
@@ -17,10 +17,8 @@ pub fn a_stage_hears_its_plan()
     births_are_apart();
 }
 
-/// The bench that a client gets is for its kind, and was its own; or nobody's, where the client had none.
-pub fn a_seat_is_its_clients()
-    ensures within { (benches : List OwnedRecord) (birth code place : ℕ) → seat_for birth code benches ≡ Some place → place < length benches }
-    ensures kind { (benches : List OwnedRecord) (birth code place : ℕ) → seat_for birth code benches ≡ Some place → (slice_index_or benches place no_owned).code ≡ code }
-    ensures was { (benches : List OwnedRecord) (birth code place : ℕ) → seat_for birth code benches ≡ Some place
-        → ((slice_index_or benches place no_owned).owner ≡ Some birth) ⊎ (((slice_index_or benches place no_owned).owner ≡ None) × ((b : ℕ) → (slice_index_or benches b no_owned).owner ≡ Some birth → ⊥)) }
+/// Before the first cycle, and in one that nobody played, each MIDI output of a plan carries what its client played: nothing.
+pub fn what_is_carried()
+    ensures first { (script : Script) (plan : Planned) (period : ℕ) → AreCarried plan (quiet_heard script period) }
+    ensures nobody { (old new : Heard) (plan : Planned) (period : ℕ) → HearsNobody old period new → AreCarried plan new }
 {}

@@ -1,15 +1,18 @@
 //! The MIDI clients of a session: what they hear and play in each cycle, beside the crew.
 #![tactic(auto)]
 
-pub mod carrying;
-pub mod cycling;
-pub mod hearing;
+mod carrying;
+mod cycling;
+mod hearing;
 pub mod laws;
-pub mod playing;
-pub mod seating;
-pub mod sounds;
+mod opening;
+mod parts;
+mod performing;
+mod playing;
+mod sounds;
+mod stage;
 #[cfg(test)]
 mod tests;
+mod turning;
 
-pub use seating::{NoBench, Owned};
-pub use sounds::{Output, Sounds};
+pub use stage::MidiStage;

@@ -4,3 +4,4 @@ mod ListLemmas
 mod PlayerLemmas
 mod PortLemmas
 mod SettingLemmas
+mod TaskLemmas

@@ -1,5 +1,5 @@
-use Rattle.midi_stage.proofs.SeatLemmas.{seat-kind, seat-was, seat-within}
-use Rattle.midi_stage.proofs.laws.a_seat_is_its_clients.Goals as goal
+use Rattle.midi_seats.proofs.SeatLemmas.{seat-kind, seat-was, seat-within}
+use Rattle.midi_seats.proofs.laws.a_seat_is_its_clients.Goals as goal
 
 pub returns-clause-within : goal.returns-clause-within
 returns-clause-within c = seat-within

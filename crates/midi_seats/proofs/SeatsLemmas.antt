@@ -1,12 +1,12 @@
 -- Seats of node after node.
 --     seats-none      of no node
 --     seats-more      one node more
-use Rattle.std.proofs.Common.{◌≡◌, ◌≢◌, ℕ, zero, suc, ◌+◌, ◌<◌, ◌⊎◌, inl, inr, List, [], ◌∷◌, ◌++◌, get_or, length, set, Option, Some, None, get_or-set_other, get_or-set_same, length-append, refl, sym, ◌∙◌, ap, arith, subst}
+use Rattle.std.proofs.Common.{◌≡◌, ◌≢◌, ℕ, zero, suc, ◌+◌, ◌<◌, ◌⊎◌, inl, inr, List, [], ◌∷◌, ◌++◌, get_or, length, set, Option, Some, None, get_or-set_other, get_or-set_same, length-append, length-set, refl, sym, ◌∙◌, ap, arith, subst}
 use Rattle.std.proofs.lemmas.Bool.{cases_eq}
 use Rattle.jack_types.specs.declared.ports.Client.{Client}
-use Rattle.midi_stage.specs.declared.seating.Owned.{Owned}
-use Rattle.midi_stage.specs.Seating.{HasSeat, SeatsAll, client_at, midi_code, no_owned, owner_of, seat_for, with_owner}
-use Rattle.midi_stage.proofs.SeatLemmas.{seat-kind, seat-was, seat-within}
+use Rattle.midi_seats.specs.declared.seating.Owned.{Owned}
+use Rattle.midi_seats.specs.Seating.{HasSeat, SeatsAll, client_at, midi_code, no_owned, owner_of, seat_for, with_owner}
+use Rattle.midi_seats.proofs.SeatLemmas.{seat-kind, seat-was, seat-within}
 
 one : (a b : ℕ) → Some a ≡ Some b → a ≡ b
 one a b e = cc
@@ -33,6 +33,7 @@ seats-none nodes before = record {
   seated = λ b birth e. inl e;
   apart = λ apart. apart;
   codes = λ b. refl;
+  benches = refl;
 }
 
 module _ (nodes : List Client) (k : ℕ) (seats : List (Option ℕ)) (before mid after : List Owned) (client : Client) (is : client ≡ client_at nodes k) (h : SeatsAll nodes k seats before mid) where
@@ -65,6 +66,7 @@ module _ (nodes : List Client) (k : ℕ) (seats : List (Option ℕ)) (before mid
       seated = λ b birth e. seated b birth (h.seated b birth e);
       apart = h.apart;
       codes = h.codes;
+      benches = h.benches;
     })
       where
         owns : (n b : ℕ) → n < k + 1 → (n ≡ k) ⊎ (n ≢ k) → get_or (seats ++ None ∷ []) n None ≡ Some b → owner_of mid b ≡ Some (client_at nodes n).birth
@@ -126,6 +128,7 @@ module _ (nodes : List Client) (k : ℕ) (seats : List (Option ℕ)) (before mid
       seated = λ b birth e. seated b birth (cases_eq b place) e;
       apart = λ apart b c birth e f. apart-now (h.apart apart) b c birth (cases_eq b place) (cases_eq c place) e f;
       codes = λ b. code-kept b ∙ h.codes b;
+      benches = length-set mid place taken ∙ h.benches;
     })
       where
         owns : (n b : ℕ) → n < k + 1 → (n ≡ k) ⊎ (n ≢ k) → get_or (seats ++ Some place ∷ []) n None ≡ Some b → owner_of (set mid place taken) b ≡ Some (client_at nodes n).birth

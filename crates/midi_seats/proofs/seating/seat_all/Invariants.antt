@@ -1,7 +1,7 @@
 use Rattle.std.proofs.Common.{◌≡◌}
 use Rattle.std.specs.Vec.{vec_capacity}
-use Rattle.midi_stage.specs.Seating.{SeatsAll}
-use Rattle.midi_stage.proofs.seating.seat_all.Given as goal
+use Rattle.midi_seats.specs.Seating.{SeatsAll}
+use Rattle.midi_seats.proofs.seating.seat_all.Given as goal
 
 abbrev pub invariant-loop-client : goal.invariant-loop-client
 invariant-loop-client l = record {

@@ -1,9 +1,9 @@
 use Rattle.std.proofs.Common.{◌≡◌, ◌+◌, ◌∙◌, arith, length, subst, sym}
 use Rattle.std.proofs.lemmas.List.{get_or_default}
 use Rattle.port_registry.specs.Registered.{system_entry}
-use Rattle.midi_stage.specs.Seating.{SeatsAll}
-use Rattle.midi_stage.proofs.SeatsLemmas.{seats-more, seats-none}
-use Rattle.midi_stage.proofs.seating.seat_all.Goals as goal
+use Rattle.midi_seats.specs.Seating.{SeatsAll}
+use Rattle.midi_seats.proofs.SeatsLemmas.{seats-more, seats-none}
+use Rattle.midi_seats.proofs.seating.seat_all.Goals as goal
 
 pub loop-client-init : goal.loop-client-init
 loop-client-init c = record {

@@ -10,7 +10,7 @@ use Rattle.jack_types.specs.declared.kinds.Kind.{Kind}
 use Rattle.jack_types.specs.declared.kinds.Kind.TheVariants.{Midiplay, Midithru, Midilog}
 use Rattle.jack_types.specs.declared.ports.Client.{Client}
 use Rattle.port_registry.specs.Registered.{system_entry}
-use Rattle.midi_stage.specs.declared.seating.Owned.{Owned}
+use Rattle.midi_seats.specs.declared.seating.Owned.{Owned}
 
 -- each MIDI kind has its own
 abbrev pub midi_code : Kind → Option ℕ
@@ -68,6 +68,7 @@ pub record SeatsAll (nodes : List Client) (count : ℕ) (seats : List (Option �
   pub seated : (b birth : ℕ) → owner_of after b ≡ Some birth → (owner_of before b ≡ Some birth) ⊎ ((owner_of before b ≡ None) × (n : ℕ) × (slice_index_or seats n None ≡ Some b))
   pub apart : ((b c birth : ℕ) → owner_of before b ≡ Some birth → owner_of before c ≡ Some birth → b ≡ c) → (b c birth : ℕ) → owner_of after b ≡ Some birth → owner_of after c ≡ Some birth → b ≡ c
   pub codes : (b : ℕ) → (slice_index_or after b no_owned).code ≡ (slice_index_or before b no_owned).code
+  pub benches : length after ≡ length before
 
 -- those before a client that can have no bench
 pub record SeatsSome (nodes : List Client) (seats : List (Option ℕ)) (before after : List Owned) : Type 0 where

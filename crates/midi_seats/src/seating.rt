@@ -2,7 +2,7 @@
 
 ghost use Rattle.std.specs.Prelude.{◌≡◌, ◌<◌, ◌≤◌, IfOk, IfSome, IsErr, OnErr, OnOk, length, position};
 ghost use Rattle.std.specs.Vec.{vec_capacity};
-ghost use Rattle.midi_stage.specs.Seating.{HasNoSeat, HasSeat, SeatsAll, SeatsSome, is_free, is_owned_by, midi_code, seat_for, with_owner};
+ghost use Rattle.midi_seats.specs.Seating.{HasNoSeat, HasSeat, SeatsAll, SeatsSome, is_free, is_owned_by, midi_code, seat_for, with_owner};
 
 use jack_types::{Client, Kind};
 

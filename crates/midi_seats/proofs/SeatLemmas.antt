@@ -1,4 +1,7 @@
 -- Which bench a client gets.
+--     past      nobody's past the last
+--     own-is      whose bench it is
+--     nobodys      no bench is
 --     seat-within, seat-kind, seat-was      one that is there, of its kind, that was its own, or nobody's where it had none
 use Rattle.std.proofs.Common.{◌≡◌, ℕ, zero, suc, ◌<◌, ◌≤◌, Bool, true, false, cond, ◌==◌, ◌⊎◌, inl, inr, List, [], ◌∷◌, get_or, length, position, Option, Some, None, is_none, nat_lt, refl, sym, ◌∙◌, ap, arith, eq-eqb, eqb-true, ltb-false, ltb-true, true≢false}
 use Rattle.std.specs.List.{position_or_len}
@@ -6,8 +9,8 @@ use Rattle.std.proofs.lemmas.List.{get_or_default}
 use Rattle.std.proofs.lemmas.List.Quantifiers.{position-Some}
 use Rattle.session_laws.proofs.LoopLemmas.{and_parts}
 use Rattle.session_laws.proofs.PlaceLemmas.{position-found}
-use Rattle.midi_stage.specs.declared.seating.Owned.{Owned}
-use Rattle.midi_stage.specs.Seating.{is_free, is_own, is_owned_by, no_owned, seat_for, seat_from}
+use Rattle.midi_seats.specs.declared.seating.Owned.{Owned}
+use Rattle.midi_seats.specs.Seating.{is_free, is_own, is_owned_by, no_owned, seat_for, seat_from}
 
 one : (a b : ℕ) → Some a ≡ Some b → a ≡ b
 one a b e = cc
@@ -15,12 +18,12 @@ one a b e = cc
 nothing-some : (a : ℕ) → None ≡ Some a → ⊥
 nothing-some a e = cc
 
-past : (benches : List Owned) (b : ℕ) → length benches ≤ b → get_or benches b no_owned ≡ no_owned
+pub past : (benches : List Owned) (b : ℕ) → length benches ≤ b → get_or benches b no_owned ≡ no_owned
 past [] b h = refl
 past (bench ∷ benches) zero h = absurd (omega (arith, h))
 past (bench ∷ benches) (suc b) h = past benches b (omega (arith, h))
 
-own-is : (birth : ℕ) (owner : Option ℕ) → is_own birth owner ≡ true → owner ≡ Some birth
+pub own-is : (birth : ℕ) (owner : Option ℕ) → is_own birth owner ≡ true → owner ≡ Some birth
 own-is birth None e = absurd (true≢false (sym e))
 own-is birth (Some other) e = ap Some (eqb-true other birth e)
 
@@ -33,7 +36,7 @@ free-is None e = refl
 free-is (Some other) e = absurd (true≢false (sym e))
 
 -- whose birth no bench has
-nobodys : (benches : List Owned) (birth : ℕ) → position (is_owned_by birth) benches ≡ None → (b : ℕ) → (get_or benches b no_owned).owner ≡ Some birth → ⊥
+pub nobodys : (benches : List Owned) (birth : ℕ) → position (is_owned_by birth) benches ≡ None → (b : ℕ) → (get_or benches b no_owned).owner ≡ Some birth → ⊥
 nobodys benches birth none b e = go (nat_lt b (length benches)) refl
   where
     go : (t : Bool) → nat_lt b (length benches) ≡ t → ⊥

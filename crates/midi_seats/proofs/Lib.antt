@@ -1,0 +1,4 @@
+pub mod KnownLemmas
+mod EnoughLemmas
+pub mod SeatLemmas
+mod SeatsLemmas

@@ -1,0 +1,7 @@
+//! Which bench plays which MIDI client of a session.
+#![tactic(auto)]
+
+pub mod laws;
+pub mod seating;
+
+pub use seating::{NoBench, Owned, seat_all};
