@@ -1,35 +1,53 @@
 #!/usr/bin/env bash
-# Want of memory, at each allocation of a play in turn, is answered by exit code 1, which is told, with no report and no file
-# made, or makes no difference, as where a vector's growth then asks for less (two at most); and a longer session makes no more
-# allocations. The program runs under an allocator that refuses one call.
+# Want of memory, at each allocation of a play in turn, in serial mode and with threads, is answered by exit code 1, which is
+# told, with no report and no file made, or makes no difference, as where a vector's growth then asks for less (two at most);
+# and a longer session makes no more allocations. Each start of a thread takes memory of its own; where that is refused or the
+# start is, each in turn and all of them, the play is as with it. Workers are started in heavy cycles alone. The program runs
+# under an allocator that refuses one call, and a start of threads that refuses one or all.
 set -u
 # shellcheck source=scripts/program.sh
 . "$(dirname "$0")/program.sh" python3 gcc
 folder=$(mktemp -d)
 trap 'rm -rf "$folder"' EXIT
 
-# An allocator in front of the C library's: it refuses the call of the number $REFUSED, and writes into $COUNT how many
-# calls there were.
+# An allocator and a start of threads in front of the C library's: they refuse the allocation of the number $REFUSED and the
+# start of the number $UNSTARTED, or all starts where that is `all`, and write into $COUNT how many of each there were.
 cat > "$folder/refusing.c" <<'C'
 #define _GNU_SOURCE
 #include <dlfcn.h>
 #include <errno.h>
 #include <fcntl.h>
+#include <pthread.h>
+#include <stdio.h>
 #include <stdlib.h>
 #include <string.h>
 #include <sys/syscall.h>
 #include <unistd.h>
 
-static unsigned long calls, refused;
+static unsigned long calls, refused, starts, unstarted;
+
+static unsigned long number_of(const char *name) {
+    const char *text = getenv(name);
+    if (text && !strcmp(text, "all")) return -1UL;
+    return text ? strtoul(text, 0, 10) : 0;
+}
 
 __attribute__((constructor)) static void begin(void) {
-    const char *number = getenv("REFUSED");
-    refused = number ? strtoul(number, 0, 10) : 0;
-    calls = 0;
+    refused = number_of("REFUSED");
+    unstarted = number_of("UNSTARTED");
+    calls = starts = 0;
 }
 
 static int refuses(void) {
-    return ++calls == refused;
+    return __atomic_add_fetch(&calls, 1, __ATOMIC_SEQ_CST) == refused;
+}
+
+int pthread_create(pthread_t *thread, const pthread_attr_t *kind, void *(*run)(void *), void *given) {
+    static int (*real)(pthread_t *, const pthread_attr_t *, void *(*)(void *), void *);
+    unsigned long number = __atomic_add_fetch(&starts, 1, __ATOMIC_SEQ_CST);
+    if (unstarted == number || unstarted == -1UL) return EAGAIN;
+    if (!real) real = dlsym(RTLD_NEXT, "pthread_create");
+    return real(thread, kind, run, given);
 }
 
 void *malloc(size_t size) {
@@ -60,12 +78,10 @@ void *aligned_alloc(size_t align, size_t size) {
 }
 
 static void end(int code) {
-    char digits[24];
-    int at = sizeof digits;
+    char text[64];
     int file = open(getenv("COUNT"), O_WRONLY | O_CREAT | O_TRUNC, 0600);
-    unsigned long rest = calls;
-    do digits[--at] = '0' + rest % 10; while (rest /= 10);
-    if (file < 0 || write(file, digits + at, sizeof digits - at) < 0) code = 99;
+    int length = snprintf(text, sizeof text, "%lu %lu", calls, starts);
+    if (file < 0 || write(file, text, length) < 0) code = 99;
     syscall(SYS_exit_group, code);
 }
 
@@ -79,47 +95,93 @@ python3 - "$jackd" "$folder" <<'PY'
 import os, subprocess, sys
 jackd, folder = sys.argv[1:3]
 os.chdir(folder)
-data = bytes(range(256)) * 8
-header = b'RIFF' + (36 + len(data)).to_bytes(4, 'little') + b'WAVEfmt ' + (16).to_bytes(4, 'little')
-header += bytes([1, 0, 1, 0]) + (48000).to_bytes(4, 'little') + (96000).to_bytes(4, 'little') + bytes([2, 0, 16, 0])
-open('capture', 'wb').write(header + b'data' + len(data).to_bytes(4, 'little') + data)
-lines = ['jackd 1', 'rate 48000', 'period 64', 'capture 1', 'playback 2 16', 'mode serial', 'recorder 1 16',
-    'do open a delay 5', 'do register a:i in audio', 'do register a:o out audio', 'do activate a',
-    'do open t record 0', 'do register t:i in audio', 'do activate t',
-    'do connect system:capture_1 a:i', 'do connect a:o system:playback_1', 'do connect a:o t:i', 'do start']
-changes = ['lane 1 at 2 connect system:capture_1 system:playback_2', 'lane 1 at 3 disconnect a:o t:i']
 made = ['playback', 'record']
 
-def play(cycles, refused):
-    for name in made:
+
+def wave(data):
+    header = b'RIFF' + (36 + len(data)).to_bytes(4, 'little') + b'WAVEfmt ' + (16).to_bytes(4, 'little')
+    header += bytes([1, 0, 1, 0]) + (48000).to_bytes(4, 'little') + (96000).to_bytes(4, 'little') + bytes([2, 0, 16, 0])
+    return header + b'data' + len(data).to_bytes(4, 'little') + data
+
+
+def script(mode, period, calls, cycles, changes):
+    lines = ['jackd 1', 'rate 48000', f'period {period}', 'capture 1', 'playback 2 16', f'mode {mode}', 'ring 16', 'recorder 1 16',
+        'do open a delay 5', 'do register a:i in audio', 'do register a:o out audio', 'do activate a',
+        'do open t record 0', 'do register t:i in audio', 'do activate t',
+        'do connect system:capture_1 a:i', 'do connect a:o system:playback_1', 'do connect a:o t:i', *calls, 'do start', f'run {cycles}']
+    return '\n'.join([*lines, *changes]) + '\n'
+
+
+def serial(cycles):
+    return script('serial', 64, [], cycles, ['lane 1 at 2 connect system:capture_1 system:playback_2', 'lane 1 at 3 disconnect a:o t:i'])
+
+
+def threads(cycles, period=4096):
+    """A lane, whose calls no cycle has, and a recorder in threads, and cycles with so much work that two workers share them."""
+    heard = [f'do {call}' for port in range(1, 17) for call in (f'register m:{port} in audio', f'connect system:capture_1 m:{port}')]
+    calls = ['do open m meter', 'do activate m', *heard]
+    return script('threads 2', period, calls, cycles, [f'lane 1 at {cycles} connect system:capture_1 system:playback_2',
+        f'lane 1 at {cycles} disconnect a:o t:i'])
+
+
+def light(cycles):
+    """Cycles with less work, for which no worker is started."""
+    return threads(cycles, 64)
+
+
+def play(text, refused=0, unstarted=0):
+    for name in [*made, 'count']:
         if os.path.exists(name):
             os.remove(name)
-    open('script', 'w').write('\n'.join([*lines, f'run {cycles}', *changes]) + '\n')
-    where = {**os.environ, 'LD_PRELOAD': f'{folder}/refusing.so', 'COUNT': 'count', 'REFUSED': str(refused)}
+    with open('script', 'w') as it:
+        it.write(text)
+    where = {**os.environ, 'LD_PRELOAD': f'{folder}/refusing.so', 'COUNT': 'count', 'REFUSED': str(refused), 'UNSTARTED': str(unstarted)}
     words = [jackd, 'play', 'script', 'capture', 'playback', '--record', 'record']
-    ran = subprocess.run(words, env=where, capture_output=True)
+    ran = subprocess.run(words, env=where, capture_output=True, timeout=60)
     files = [open(name, 'rb').read() if os.path.exists(name) else None for name in made]
-    return (ran.returncode, ran.stdout, ran.stderr, *files), int(open('count').read())
+    counts = open('count').read().split() if os.path.exists('count') else [0, 0]
+    return (ran.returncode, ran.stdout, ran.stderr, *files), *map(int, counts)
 
-whole, count = play(8, 0)
-longer, same = play(800, 0)
-faults = []
-if whole[0] or longer[0]:
-    faults.append(f'with ample memory it ended with {whole[0]} and {longer[0]}: {whole[1][-80:]}')
-if count == 0:
-    faults.append('no allocation was counted')
-if count != same:
-    faults.append(f'{count} allocations for 8 cycles, and {same} for 800')
-harmless = 0
-for refused in range(1, count + 1):
-    got, _ = play(8, refused)
-    harmless += got == whole
-    if got != whole and got != (1, b'', b'jackd: out of memory; no file was made\n', None, None):
-        faults.append(f'allocation {refused} of {count} refused: it ended with {got[0]}, {got[1][:80]}, {got[2][:80]}, files {[it is not None for it in got[3:]]}')
-if harmless > 2:
-    faults.append('more than two allocations make no difference')
-for fault in faults[:10]:
+
+def told(got):
+    return f'it ended with {got[0]}, {got[1][-80:]}, {got[2][:80]}, files {[it is not None for it in got[3:]]}'
+
+
+def faults(session, workers):
+    whole, count, starts = play(session(8))
+    longer, more, later = play(session(800))
+    if whole[0] or longer[0]:
+        yield f'with ample memory {told(whole)}, and {told(longer)}'
+        return
+    if count == 0:
+        yield 'no allocation was counted'
+    if count - starts != more - later:
+        yield f'{count} allocations and {starts} threads for 8 cycles, and {more} and {later} for 800'
+    if later - starts != workers * 792:
+        yield f'{starts} threads for 8 cycles, and {later} for 800'
+    if session is light:
+        return
+    harmless = 0
+    for refused in range(1, count + 1):
+        got, *_ = play(session(8), refused=refused)
+        harmless += got == whole
+        if got != whole and got != (1, b'', b'jackd: out of memory; no file was made\n', None, None):
+            yield f'allocation {refused} of {count} refused: {told(got)}'
+    if harmless > 2 + starts:
+        yield f'{harmless} allocations make no difference, with {starts} threads'
+    for unstarted in [*range(1, starts + 1), 'all']:
+        got, *_ = play(session(8), unstarted=unstarted)
+        if got != whole:
+            yield f'thread {unstarted} of {starts} not started: {told(got)}'
+    print(f'check-memory: {session.__name__}: {count} allocations refused, one a play: {count - harmless} answered by 1 with no file, '
+        f'{harmless} made no difference; {starts} threads not started, one a play and all')
+
+
+with open('capture', 'wb') as it:
+    it.write(wave(bytes(range(256)) * 8))
+sessions = ((serial, 0), (threads, 1), (light, 0))
+wrong = [f'{session.__name__}: {fault}' for session, workers in sessions for fault in faults(session, workers)]
+for fault in wrong[:10]:
     print('check-memory:', fault)
-print(f'check-memory: {count} allocations refused, one a play: {count - harmless} answered by 1 with no file, {harmless} made no difference' + ', wrong' * bool(faults))
-sys.exit(bool(faults))
+sys.exit(bool(wrong))
 PY

@@ -2,8 +2,9 @@
 # Sessions with threads over real files, in orders that nobody chose. Each report has to be one that can be, and the files have
 # to be what it says, by scripts/explained.py, which knows nothing of the program. Played are
 #
-#   $SESSIONS sessions (24), from the seed $SEED (0) on: in turn one of few clients and many connections and one of all kinds of
-#       clients and all commands, of several segments and periods; with 1, 2, 4 and 16 workers
+#   $SESSIONS sessions (24), from the seed $SEED (0) on: in turn one of few clients and many connections, one of all kinds of
+#       clients and all commands, of several segments and periods, and one whose cycles have so much work that workers share
+#       them; with 1, 2, 4 and 16 workers
 #   $RUNS runs (12) of one script with forty calls on four lanes
 #
 # A report or a file that is altered has to be found. A run that does not end in 100 seconds is a fault. That explained.py
@@ -28,17 +29,27 @@ def head(version, period, channels, bits, workers, *rest):
     return [f'jackd {version}', 'rate 8000', f'period {period}', f'capture {channels}', f'playback {channels} {bits}', f'mode threads {workers}', *rest]
 
 
-def connections(chance, workers):
-    """Two clients and a recorder, which four lanes connect and disconnect while 300 cycles run."""
+# Eight clients with 16 connections each: with 4,096 frames that is work for 16 workers.
+CROWD = [line for name in 'cdefghij' for line in (f'do open {name} pass', f'do activate {name}', *(
+    made for port in range(16) for made in (f'do register {name}:{port} in audio', f'do connect system:capture_1 {name}:{port}')))]
+
+
+def connections(chance, workers, period=4, cycles=300, crowd=()):
+    """Two clients and a recorder, which four lanes connect and disconnect while cycles run."""
     edges = ['system:capture_1 a:in', 'a:out system:playback_1', 'system:capture_1 b:in', 'b:out system:playback_1', 'system:capture_1 tape:in']
-    lines = head(1, 4, 1, 16, workers, 'ring 4', 'recorder 1 16')
+    lines = head(1, period, 1, 16, workers, 'ring 4', 'recorder 1 16')
     for name, kind in (('a', 'pass'), ('b', 'pass'), ('tape', 'record 0')):
         lines += [f'do open {name} {kind}', f'do register {name}:in in audio', f'do activate {name}']
-    lines += ['do register a:out out audio', 'do register b:out out audio', 'run 300']
+    lines += ['do register a:out out audio', 'do register b:out out audio', *crowd, f'run {cycles}']
     for lane in range(1, 5):
-        calls = sorted((chance.randrange(301), chance.random() < 0.6, chance.choice(edges)) for _ in range(30))
+        calls = sorted((chance.randrange(cycles + 1), chance.random() < 0.6, chance.choice(edges)) for _ in range(30))
         lines += [f'lane {lane} at {asked} {"connect" if joins else "disconnect"} {edge}' for asked, joins, edge in calls]
     return lines
+
+
+def shared(chance, workers):
+    """The same, in cycles that workers share."""
+    return connections(chance, workers, 4096, 12, CROWD)
 
 
 KINDS = ['pass', 'pass', 'gain {a} 8', 'mix', 'mix', 'delay {b}', 'tone {c} {a}', 'click {a}', 'meter', 'record 0', 'record 1', 'guest 0', 'guest 1', 'guest 2']
@@ -111,8 +122,8 @@ def wave(chance, channels, frames):
 
 
 for seed in range(first, first + sessions):
-    chance, workers = random.Random(seed), (1, 2, 4, 16)[seed // 2 % 4]
-    session, channels = ((connections, 1), (commands, 2))[seed % 2]
+    chance, workers = random.Random(seed), (1, 2, 4, 16)[seed // 3 % 4]
+    session, channels = ((connections, 1), (commands, 2), (shared, 1))[seed % 3]
     run = played(session(chance, workers), wave(chance, channels, chance.choice([0, 500, 1500])), f'seed {seed}')
     numbers = {line.split()[2] for line in run[1].splitlines() if line.startswith('cycle')} if run else ()
     beside += len(numbers) > 1
