@@ -1,0 +1,5 @@
+pub mod Feeding
+pub mod Cycling
+pub mod Openings
+pub mod Steps
+pub mod Insides
