@@ -15,7 +15,7 @@ use Rattle.jack_types.specs.declared.replies.Underrun.{Underrun}
 use Rattle.session_model.specs.Rings.{RingBlock}
 use Rattle.session_model.specs.Samples.{below, sample, silence}
 use Rattle.session_model.specs.State.{OpenClient}
-use Rattle.client_kinds.specs.Buffers.{channels_of}
+use Rattle.samples.specs.Channels.{channels_of}
 use Rattle.record_ring.specs.Rings.{Getting}
 use Rattle.driver_laws.specs.Cycling.{GetsOne, Silent, Heard, Over, Missed}
 use Rattle.driver_laws.specs.Drivers.{Driver, run, underruns_on}

@@ -9,7 +9,7 @@
 use Rattle.std.specs.Prelude.{◌≡◌, ℕ, ◌+◌, ◌*◌, ◌<◌, ◌≤◌, false, List, [], length, map, slice_index, slice_index_or, All, ℤ, Option, None}
 use Rattle.std.specs.Option.{option_map_or}
 use Rattle.jack_types.specs.declared.replies.Underrun.{Underrun}
-use Rattle.client_kinds.specs.Buffers.{channels_of}
+use Rattle.samples.specs.Channels.{channels_of}
 use Rattle.record_ring.specs.Rings.{Sending, Getting}
 
 -- by disk: the end of its ring that gets, the end that puts until it is handed out, its channels, how many blocks were got, and the block
