@@ -60,8 +60,8 @@ fn limits_of(script: &Script) -> Limits {
         cycles: 0,
         meters: 0,
         events: 0,
-        recorders: header.recorders.len() as u32,
-        disks: header.disks.len() as u32,
+        recorders: header.recorders.as_slice().len() as u32,
+        disks: header.disks.as_slice().len() as u32,
     };
     for line in script.lines() {
         limits.cycles = limits.cycles.saturating_add(cycles_on(line));

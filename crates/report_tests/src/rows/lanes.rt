@@ -101,7 +101,7 @@ pub const LESS: [(usize, usize, Wrong); 20] = [
     (5, 1, Wrong::Call(4)),
     (6, 1, Wrong::Call(5)),
     (6, 2, Wrong::Call(5)),
-    (7, 0, Wrong::Call(6)),
+    (7, 0, Wrong::Call(7)),
     (7, 1, Wrong::Call(6)),
     (7, 2, Wrong::Call(6)),
     (8, 0, Wrong::Call(7)),
