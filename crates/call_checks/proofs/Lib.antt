@@ -1,0 +1,7 @@
+mod ItemLemmas
+mod ScriptLemmas
+mod LaneLemmas
+mod RoomLemmas
+mod StateLemmas
+mod NextLemmas
+mod KeptLemmas

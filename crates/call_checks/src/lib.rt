@@ -1,0 +1,8 @@
+//! The calls of a report, checked one by one: each has to be the next of its lane and to have the graph's reply.
+#![tactic(auto)]
+
+mod checks;
+#[cfg(test)]
+mod tests;
+
+pub use checks::CallChecks;
