@@ -151,7 +151,7 @@ FAULTS = (
     ((SCRIPT, REPORT, '4294967296'), 2, 'jackd: "4294967296" is no cycle: a number from 1 to 4294967295 of one to ten digits\n' + HELP),
     ((SCRIPT, REPORT, '21'), 2, f'jackd: {SCRIPT}: has no cycle 21\n{HELP}'),
     ((SCRIPT, REPORT, '1', '--dto'), 2, 'jackd: no option "--dto"; is "--dot" meant?\n' + HELP),
-    ((SCRIPT, REPORT, '1', 'dot'), 2, 'jackd: word 5 is one too many: "dot"; is "--dot" meant?\n' + HELP),
+    ((SCRIPT, REPORT, '1', 'dot'), 2, 'jackd: word 5 is one too many: "dot"\n' + HELP),
     ((SCRIPT, REPORT, '1', '--dot', '2'), 2, 'jackd: word 6 is one too many: "2"\n' + HELP),
     (('--dot', SCRIPT, REPORT, '1'), 2, 'jackd: "--dot" comes behind SCRIPT, REPORT and CYCLE\n' + HELP),
     (('nothing', REPORT, '1'), 3, 'jackd: nothing: No such file or directory\n'),

@@ -52,7 +52,7 @@ cut-next : (n b : ℕ) (body bytes : List ℕ) (rest : List (List ℕ)) → (tak
     → take (suc n) (slice_index_or (lines_by t b bytes) 0 []) ≡ b ∷ body ++ 10 ∷ [] → lines_by t b bytes ≡ (b ∷ body ++ 10 ∷ []) ∷ rest
 cut-next n b body bytes rest before true k =
     let len : length (take (suc n) (10 ∷ [])) ≡ length (b ∷ body ++ 10 ∷ []) = ap (λ (zs : List ℕ). length zs) k in
-    absurd (omega (arith, len, length-take (suc n) (10 ∷ []), length-append body (10 ∷ [])))
+    absurd (omega (arith, len, length-take {A = ℕ} (suc n) (10 ∷ []), length-append body (10 ∷ [])))
 cut-next n b body bytes rest before false k =
     let front : b ∷ take n (first_line bytes) ≡ b ∷ body ++ 10 ∷ [] = sym (ap (λ (zs : List ℕ). take (suc n) zs) (first-with b (ended_lines bytes))) ∙ k in
     ap (with_byte b) (before (tail-same b b (take n (first_line bytes)) (body ++ 10 ∷ []) front))

@@ -1,18 +1,20 @@
 -- What is put out, and where each fault comes, by what was read of the script and the report.
 --     front-fault, replay-fault      of the report's lines, and of its calls
 --     shown      the text
-use Rattle.std.proofs.Common.{◌≡◌, ℕ, List, Option, Some, None, Bool, take, inl, inr, length}
-use Rattle.std.specs.Prelude.{◌⊎◌}
+--     put-shown, put-cut, has-fault      what the command answers
+use Rattle.std.proofs.Common.{◌≡◌, ◌≢◌, ◌≤◌, ℕ, List, Option, Some, None, Bool, take, inl, inr, length, refl, subst}
+use Rattle.std.specs.Prelude.{◌⊎◌, IfErr, OnErr, OnOk, Result, Ok, Err}
+use Rattle.jack_host.specs.Bytes.{Gains}
 use Rattle.jack_host.specs.Files.{SameFiles}
 use Rattle.session_model.specs.Grammar.{Spells}
 use Rattle.session_model.specs.Scripts.{Script}
 use Rattle.session_model.specs.State.{State}
 use Rattle.report_reader.specs.declared.rows.CallLine.{CallLine}
 use Rattle.report_reader.specs.declared.rows.CycleLine.{CycleLine}
-use Rattle.session_graph.specs.Askings.{Asking}
+use Rattle.session_graph.specs.Askings.{Asking, IsGraph}
 use Rattle.session_graph.specs.Files.{Files, IfBoth, IfBytes}
 use Rattle.session_graph.specs.Fronts.{IsBroken, IsFront}
-use Rattle.session_graph.specs.Graphs.{HasFault, IsShown, IsTextOf, IsWrongRow}
+use Rattle.session_graph.specs.Graphs.{HasFault, IsCut, IsFaultOf, IsPut, IsShown, IsTextOf, IsWrongRow}
 use Rattle.session_graph.specs.Readings.{IsOfFront}
 use Rattle.session_graph.specs.Replays.{IsOfReplay}
 use Rattle.session_graph.specs.Told.{IsUsed}
@@ -50,3 +52,37 @@ module _ (files after : Option Files) (same : SameFiles files after) (asking : A
     shown state text used so =
         both (λ r. IsFront script r calls line) (λ s r. IsShown asking s r text)
         (λ s r sp fr. record { script = script; spelled = sp; calls = calls; cycle = line; cycle_is = is; front = fr; state = state; used = used; text_is = so }) front
+
+-- ---- what the command answers, by how its text was put
+
+module _ {T : Type 0} (r : Result T GraphFault) where
+  pub only-write : (P : GraphFault → Type 0) → IfErr r (λ fault. fault ≡ WriteFault) → IfErr r (λ fault. fault ≢ WriteFault → P fault)
+  only-write P h = go r h
+    where
+      go : (s : Result T GraphFault) → IfErr s (λ fault. fault ≡ WriteFault) → IfErr s (λ fault. fault ≢ WriteFault → P fault)
+      go (Ok x) h = tt
+      go (Err fault) h = λ other. absurd (other h)
+
+  pub no-read : IfErr r (λ fault. fault ≡ WriteFault) → r ≡ Err ReadFault → ⊥
+  no-read h e = go (subst (λ s. IfErr s (λ fault. fault ≡ WriteFault)) e h)
+    where
+      go : ReadFault ≡ WriteFault → ⊥
+      go w = cc
+
+  pub at-err : (P : Type 0) (fault : GraphFault) → OnErr r P → r ≡ Err fault → P
+  at-err P fault h e = subst (λ s. OnErr s P) e h
+
+pub put-shown : {T : Type 0} (r : Result T GraphFault) (files : Option Files) (words : List (List ℕ)) (out after : Option (List ℕ)) (asking : Asking) (text : List ℕ) → IsGraph words asking
+    → IfBoth files asking (λ s t. IsShown asking s t text) → OnOk r (Gains out after text) → OnOk r ((asked : Asking) × IsGraph words asked × IsPut files out after asked)
+put-shown (Ok x) files words out after asking text is both h = (asking, is, (text, h, both))
+put-shown (Err fault) files words out after asking text is both h = tt
+
+pub put-cut : (files : Option Files) (words : List (List ℕ)) (out after : Option (List ℕ)) (asking : Asking) (text : List ℕ) → IsGraph words asking → IfBoth files asking (λ s t. IsShown asking s t text)
+    → (k : ℕ) × (k ≤ length text) × Gains out after (take k text) → (asked : Asking) × IsGraph words asked × IsCut files out after asked
+put-cut files words out after asking text is both h = (asking, is, (text, h.0, h.1, h.2, both))
+
+pub has-fault : (files : Option Files) (words : List (List ℕ)) (asking : Asking) (fault : GraphFault) → IsGraph words asking → HasFault files asking fault → IsFaultOf files words fault
+has-fault files words asking fault is h = inl (asking, is, h)
+
+pub no-write : (files : Option Files) (asking : Asking) (fault : GraphFault) → HasFault files asking fault → fault ≡ WriteFault → ⊥
+no-write files asking fault h e = subst (HasFault files asking) e h

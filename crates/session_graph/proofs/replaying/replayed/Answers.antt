@@ -8,7 +8,7 @@ use Rattle.session_graph.specs.Replays.{IsOfReplay, IsReplay}
 use Rattle.session_graph.proofs.ReplayLemmas.{too-many, used-front, wrong-call}
 use Rattle.session_graph.proofs.replaying.replayed.Goals as goal
 
-none : CallLine
+abbrev none : CallLine
 none = record { lane = 0; index = 0; reply = Accepted 0 }
 
 pub returns-then-from-number-clause-used : goal.returns-then-from-number-clause-used
