@@ -3,7 +3,7 @@
 --     all-midi      kinds of MIDI clients are MIDI kinds
 --     Stands-new      new parts stand
 --     heard-new, parts-new      nothing was heard of them
-use Rattle.std.proofs.Common.{◌≡◌, ℕ, zero, suc, ◌+◌, ◌<◌, Bool, true, false, List, [], ◌∷◌, ◌++◌, All, filter, get_or, length, map, nat_lt, replicate, take, Option, Some, None, is_some, unwrap_or, refl, sym, ◌∙◌, ap, ap₂, subst, arith, true≢false, ltb-false, ltb-true}
+use Rattle.std.proofs.Common.{◌≡◌, ℕ, ◌+◌, ◌<◌, Bool, true, false, List, [], ◌∷◌, ◌++◌, All, filter, get_or, length, map, nat_lt, replicate, take, Option, Some, None, is_some, unwrap_or, refl, sym, ◌∙◌, ap, ap₂, subst, true≢false, ltb-false, ltb-true}
 use Rattle.std.proofs.Math.ListN.{get_or-map}
 use Rattle.std.proofs.lemmas.List.{get_or_default, get_or_past, length-map, length-replicate, map-append, replicate-append-replicate, take_more}
 use Rattle.std.proofs.lemmas.List.Elements.{All-from_get_or, All-get_or}
@@ -15,8 +15,8 @@ use Rattle.cycle_plan.specs.Plans.{Planned}
 use Rattle.task_laws.specs.Calls.{open_kinds}
 use Rattle.midi_player.specs.Standings.{IsMidi, Standing}
 use Rattle.midi_seats.specs.declared.seating.Owned.{Owned}
-use Rattle.midi_seats.specs.Owning.{AreKnown, IsFor, code_at, kind_at, midi_kinds}
-use Rattle.midi_seats.specs.Seating.{midi_code, no_owned, owner_of}
+use Rattle.midi_seats.specs.Owning.{AreKnown, IsFor, code_at, midi_kinds}
+use Rattle.midi_seats.specs.Seating.{midi_code, owner_of}
 use Rattle.midi_stage.specs.Insides.{HavePartsOf, Stands, heard_of, kinds_in}
 use Rattle.midi_stage.specs.Openings.{AreForScript, AreNew, new_owned, new_standing}
 use Rattle.midi_stage.specs.Sounding.{events_at, no_standing}

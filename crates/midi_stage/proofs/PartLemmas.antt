@@ -8,7 +8,7 @@
 --     Stands-exchanged, room-turned, free-turned      behind the exchange, and behind the turn
 --     Stands-played, Stands-cleared      and once the clients played, or where nobody does
 --     NAME-turned, NAME-played, NAME-cleared      what stays in each of these steps
-use Rattle.std.proofs.Common.{◌≡◌, ℕ, zero, suc, ◌<◌, ◌≤◌, ◌⊎◌, inl, inr, Bool, true, false, List, [], ◌∷◌, get_or, length, map, nat_lt, Option, Some, None, refl, sym, ◌∙◌, ap, ap₂, subst, arith, ltb-false, ltb-true}
+use Rattle.std.proofs.Common.{◌≡◌, ℕ, ◌<◌, ◌≤◌, Bool, true, false, List, [], get_or, length, map, nat_lt, Option, Some, None, refl, sym, ◌∙◌, ap, subst, arith, ltb-false, ltb-true}
 use Rattle.std.specs.Vec.{vec_capacity}
 use Rattle.std.proofs.Math.ListN.{get_or-map}
 use Rattle.std.proofs.lemmas.List.{get_or_past, length-map}
@@ -18,7 +18,7 @@ use Rattle.jack_types.specs.declared.moments.Moment.{Moment}
 use Rattle.session_model.specs.Benches.{node_at, place_in}
 use Rattle.session_model.specs.Cycles.{player_born}
 use Rattle.session_model.specs.State.{OpenClient}
-use Rattle.port_registry.specs.Registered.{open_client, open_clients}
+use Rattle.port_registry.specs.Registered.{open_clients}
 use Rattle.cycle_plan.specs.Plans.{IsPlanned, Planned, state_of_plan}
 use Rattle.midi_player.specs.Standings.{Standing}
 use Rattle.midi_seats.specs.declared.seating.Owned.{Owned}

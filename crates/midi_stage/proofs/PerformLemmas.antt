@@ -2,11 +2,9 @@
 --     PlaysMidi-performed      each MIDI client has its bench and played on it
 --     HearsNobody-performed      nobody played, and all logs stay
 --     log-owned, log-nobodys      the log of a birth, read from the benches
-use Rattle.std.proofs.Common.{◌≡◌, ℕ, ◌+◌, ◌<◌, ◌≤◌, ◌==◌, ◌⊎◌, inl, inr, Bool, true, false, cond, List, [], filter_map, get_or, length, map, Option, Some, None, refl, sym, ◌∙◌, ap, ap₂, subst, arith}
-use Rattle.std.specs.Vec.{vec_capacity}
+use Rattle.std.proofs.Common.{◌≡◌, ℕ, ◌+◌, ◌==◌, ◌⊎◌, inl, inr, Bool, true, false, cond, [], filter_map, get_or, length, map, Option, Some, None, refl, sym, ◌∙◌, ap, ap₂, subst, arith}
 use Rattle.std.proofs.Math.ListN.{get_or-map}
 use Rattle.std.proofs.lemmas.List.{get_or_past, length-map}
-use Rattle.jack_types.specs.declared.events.Event.{Event}
 use Rattle.jack_types.specs.declared.kinds.Kind.{Kind}
 use Rattle.jack_types.specs.declared.kinds.Kind.TheVariants.{Pass, Gain, Mix, Delay, Tone, Click, Meter, Tape, Guest, Midiplay, Midithru, Midilog, Disk}
 use Rattle.jack_types.specs.declared.moments.Moment.{Moment}
@@ -14,14 +12,14 @@ use Rattle.session_model.specs.Benches.{node_at}
 use Rattle.port_registry.specs.Registered.{open_client, open_clients}
 use Rattle.cycle_plan.specs.Plans.{Planned}
 use Rattle.midi_player.specs.Standings.{IsMidi, Standing}
-use Rattle.midi_wiring.specs.Hearings.{Carried, log_at}
+use Rattle.midi_wiring.specs.Hearings.{log_at}
 use Rattle.midi_wiring.specs.Wirings.{midi_wired_of}
 use Rattle.midi_seats.specs.Owning.{HaveSeats, code_at, kind_at}
 use Rattle.midi_seats.specs.Seating.{midi_code, owner_of}
 use Rattle.midi_seats.proofs.KnownLemmas.{code-one}
 use Rattle.midi_stage.specs.Insides.{Exchanges, PlaysAll, Stands, TurnsTo, kinds_in, staged_by}
 use Rattle.midi_stage.specs.Sounding.{HavePlayed, events_at, no_standing, output_from, seat_at, sounded}
-use Rattle.midi_stage.specs.Stages.{MidiStaged, PlaysMidi, carried_by, heard_in, output_of, owner_at, standing_at}
+use Rattle.midi_stage.specs.Stages.{PlaysMidi, carried_by, heard_in, owner_at}
 use Rattle.midi_stage.specs.Standing.{HearsNobody}
 use Rattle.midi_stage.specs.declared.parts.Parts.{Parts}
 use Rattle.midi_stage.specs.declared.sounds.Sounds.{Sounds}

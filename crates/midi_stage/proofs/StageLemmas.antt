@@ -14,16 +14,15 @@ use Rattle.session_model.specs.Benches.{node_at}
 use Rattle.session_model.specs.Scripts.{Script}
 use Rattle.port_registry.specs.Registered.{open_clients}
 use Rattle.cycle_plan.specs.Plans.{IsPlanned, Planned}
-use Rattle.driver_laws.specs.Keeping.{AreOfCalls}
 use Rattle.session_model.specs.Kinds.{Memory, MidiPlayed}
 use Rattle.midi_wiring.specs.Hearings.{Carried, HearsPlan, PlaysHeard, heard_by, listed_for}
 use Rattle.midi_wiring.specs.Wirings.{midi_wired_of}
 use Rattle.midi_seats.specs.declared.seating.Owned.{Owned}
 use Rattle.midi_seats.specs.Owning.{AreKnown, IsShort, midi_kinds}
-use Rattle.midi_seats.specs.Seating.{client_at, midi_code, no_owned, owner_of}
+use Rattle.midi_seats.specs.Seating.{client_at, midi_code, owner_of}
 use Rattle.midi_seats.proofs.KnownLemmas.{kind-is}
 use Rattle.midi_stage.specs.Insides.{ArePartsOf, GoesOnFrom, HavePartsOf, Stands, kinds_in}
-use Rattle.midi_stage.specs.Standing.{HearsNobody, device_of, quiet_heard}
+use Rattle.midi_stage.specs.Standing.{HearsNobody, quiet_heard}
 use Rattle.midi_stage.specs.declared.parts.Parts.{Parts}
 use Rattle.midi_stage.proofs.HeardLemmas.{quiet}
 use Rattle.midi_stage.proofs.PerformLemmas.{no-midi}

@@ -1,21 +1,18 @@
 -- How the parts turn to a plan.
 --     TurnsTo-turn      to another one
 --     TurnsTo-same      to one of the last one's number
-use Rattle.std.proofs.Common.{◌≡◌, ℕ, ◌⊎◌, inl, inr, Bool, true, false, List, [], get_or, length, take, Option, Some, None, refl, sym, ◌∙◌, ap, ap₂, subst}
+use Rattle.std.proofs.Common.{◌≡◌, ℕ, inl, Bool, true, false, List, [], length, take, Option, Some, refl, sym, ◌∙◌, ap, ap₂, subst}
 use Rattle.std.specs.Vec.{vec_capacity}
 use Rattle.std.proofs.Math.Seq.{take-length}
-use Rattle.graph_word.specs.Publications.{IsFront}
 use Rattle.session_model.specs.Commands.{replay}
-use Rattle.session_model.specs.State.{OpenClient, State}
+use Rattle.session_model.specs.State.{OpenClient}
 use Rattle.port_registry.specs.Registered.{open_clients}
 use Rattle.cycle_plan.specs.Plans.{IsPlanned, Planned, nodes_of, opening_of, state_of_plan}
-use Rattle.midi_wiring.specs.Wirings.{MidiWired, midi_wired, midi_wired_of}
-use Rattle.midi_seats.specs.declared.seating.Owned.{Owned}
+use Rattle.midi_wiring.specs.Wirings.{midi_wired, midi_wired_of}
 use Rattle.midi_seats.specs.Owning.{AreKnown, HaveSeats, IsShort}
 use Rattle.midi_seats.specs.Seating.{SeatsAll, SeatsSome, owner_of}
 use Rattle.midi_stage.specs.Insides.{GoesOnFrom, IsTurned, Stands, TurnsTo, kinds_in}
 use Rattle.midi_stage.specs.declared.parts.Parts.{Parts}
-use Rattle.midi_stage.specs.declared.sounds.Sounds.{Sounds}
 
 untrue : (b : Bool) → b ≡ true → b ≡ false → ⊥
 untrue b e f = cc

@@ -4,7 +4,7 @@
 --     GoesOnFrom last plan      a plan for the same device goes on from another
 --     Exchanges, TurnsTo, PlaysAll      what the steps of a cycle leave
 --     seen_of stage, IsWhole stage      what contracts see of a stage, and what stays true of it
-use Rattle.std.specs.Prelude.{◌≡◌, ℕ, ◌<◌, ◌≤◌, ◌⊎◌, ⊤, Bool, true, false, List, [], filter_map, length, map, slice_index_or, Option, Some, None, if◌then◌else◌}
+use Rattle.std.specs.Prelude.{◌≡◌, ℕ, ◌≤◌, ◌⊎◌, ⊤, Bool, true, false, List, [], filter_map, length, map, slice_index_or, Option, Some, None, if◌then◌else◌}
 use Rattle.std.specs.Vec.{vec_capacity}
 use Rattle.jack_types.specs.declared.kinds.Kind.{Kind}
 use Rattle.jack_types.specs.declared.moments.Moment.{Moment}

@@ -1,4 +1,4 @@
-use Rattle.std.proofs.Common.{◌≡◌, List, ap, filter_map, get_or, length, subst, sym, ◌∙◌}
+use Rattle.std.proofs.Common.{List, ap, filter_map, get_or, length, subst, ◌∙◌}
 use Rattle.std.specs.List.{Contains}
 use Rattle.std.specs.Vec.{vec_capacity}
 use Rattle.std.proofs.lemmas.List.{with_items_is}

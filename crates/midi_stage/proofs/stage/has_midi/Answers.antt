@@ -1,4 +1,4 @@
-use Rattle.std.proofs.Common.{◌≡◌, ◌<◌, ℕ, Option, Some, None, length, is_some, true, true≢false, sym, ◌∙◌, ap, arith, refl}
+use Rattle.std.proofs.Common.{◌≡◌, ℕ, Option, Some, None, length, is_some, true, true≢false, sym, ◌∙◌, ap, arith, refl}
 use Rattle.std.proofs.lemmas.List.{get_or_default}
 use Rattle.jack_types.specs.declared.ports.Client.{Client}
 use Rattle.port_registry.specs.Registered.{open_clients, system_entry}

@@ -1,4 +1,4 @@
-use Rattle.std.proofs.Common.{◌≡◌, ℕ, List, Some, None, ◌⊎◌, inl, inr, ap, sym, ◌∙◌}
+use Rattle.std.proofs.Common.{◌≡◌, ℕ, Some, ◌⊎◌, inl, inr, ap, sym, ◌∙◌}
 use Rattle.cycle_plan.specs.Plans.{Planned}
 use Rattle.midi_wiring.specs.Hearings.{log_at}
 use Rattle.midi_seats.specs.Seating.{owner_of}

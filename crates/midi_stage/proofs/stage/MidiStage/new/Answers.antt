@@ -1,7 +1,7 @@
-use Rattle.std.proofs.Common.{◌≡◌, List, [], ap, subst, sym, ◌∙◌}
+use Rattle.std.proofs.Common.{[], ap, subst, sym, ◌∙◌}
 use Rattle.session_model.specs.Scripts.{Script}
 use Rattle.midi_stage.specs.Insides.{HavePartsOf, no_plan, plan_in, script_in, seen_by}
-use Rattle.midi_stage.specs.Standing.{OnMidi, quiet_heard}
+use Rattle.midi_stage.specs.Standing.{OnMidi}
 use Rattle.midi_stage.proofs.OpeningLemmas.{heard-new, parts-new}
 use Rattle.midi_stage.proofs.stage.MidiStage.new.Goals as goal
 
