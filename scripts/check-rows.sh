@@ -15,7 +15,7 @@
 # times.
 #
 # A script in serial mode that threads play to the same bytes, in whatever order they run, is played with 1, 2 and 4 workers
-# too, $TIMES times (once), as its row says. A run that does not end in 60 seconds is a fault.
+# too, as its row says, and where that is a play to its end $TIMES times (1). A run that does not end in 60 seconds is a fault.
 #
 # What a row says of a play that ends well is also what scripts/explained.py computes of its script and capture.
 set -u
@@ -147,7 +147,7 @@ def faults_of_row(folder):
         else:
             made.setdefault(stem, []).append(held)
     if 'fronts' not in row:
-        others = [other for script in scripts for other in with_threads(script)] * times
+        others = [other for script in scripts for other in with_threads(script)] * (times if int(row['status']) == 0 else 1)
         scripts, threads = scripts + others, threads + len(others)
     for script in scripts:
         given = {'s': script, **({'c': row['c']} if 'c' in row else {})}

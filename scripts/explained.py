@@ -575,14 +575,19 @@ def differences(files, made):
 
 def main(words):
     tells = words[:1] == ['--tell']
+    if len(words) < 3 + tells:
+        sys.exit(__doc__)
     held = []
     for name in words[tells:]:
         with open(name, 'rb') as it:
             held.append(it.read())
     script, capture, report, *files = held
     script, report = script.decode('ascii', 'replace'), report.decode('ascii', 'replace')
-    if tells:
+    try:
         read = Script(script)
+    except (ValueError, IndexError) as fault:
+        sys.exit(f'explained: the script is not lawful in version 1 or 2: {fault}')
+    if tells:
         made = Play(read, samples_of(capture), *left_open(report, len(read.recorders)) if read.threads else ())
         sys.stdout.write(''.join(f'{fault}\n' for fault in made.faults) or made.report())
         return bool(made.faults)
