@@ -1,5 +1,5 @@
 -- What is put out, and where each fault comes, by what was read of the script and the report.
---     front-fault, replay-fault      of the report's lines, and of its calls
+--     front-fault, replay-fault-at      of the report's lines, and of its calls
 --     shown      the text
 --     put-shown, put-cut, has-fault      what the command answers
 use Rattle.std.proofs.Common.{◌≡◌, ◌≢◌, ◌≤◌, ℕ, List, Option, Some, None, Bool, take, inl, inr, length, refl, subst}
@@ -38,7 +38,7 @@ module _ (files after : Option Files) (same : SameFiles files after) (asking : A
       both (λ r. IsBroken script r asking.cycle row.number) (λ s r. IsWrongRow s r asking.cycle row) (λ s r sp b. record { script = script; spelled = sp; place = h.1; wrong = inl (h.0, b) }) h.2
 
   module _ (calls : List CallLine) (line : CycleLine) (is : line.cycle ≡ asking.cycle) (front : IfBytes after asking.report (λ r. IsFront script r calls line)) where
-    pub replay-fault : (fault : GraphFault) → IsOfReplay script calls line.number asking.cycle fault → HasFault files asking fault
+    replay-fault : (fault : GraphFault) → IsOfReplay script calls line.number asking.cycle fault → HasFault files asking fault
     replay-fault NoMemory h = tt
     replay-fault Words h = absurd h
     replay-fault ReadFault h = absurd h
@@ -47,6 +47,10 @@ module _ (files after : Option Files) (same : SameFiles files after) (asking : A
     replay-fault (Wrong row) h =
         both (λ r. IsFront script r calls line) (λ s r. IsWrongRow s r asking.cycle row)
         (λ s r sp fr. record { script = script; spelled = sp; place = h.0; wrong = inr (record { calls = calls; line = line; cycle_is = is; front = fr; wrong = h.1 }) }) front
+
+    pub replay-fault-at : (fault : GraphFault) (lines : List CallLine) (cycle : ℕ) → lines ≡ calls → cycle ≡ asking.cycle → IsOfReplay script lines line.number cycle fault → HasFault files asking fault
+    replay-fault-at fault lines cycle e d h =
+        replay-fault fault (subst (λ (n : ℕ). IsOfReplay script calls line.number n fault) d (subst (λ (ls : List CallLine). IsOfReplay script ls line.number cycle fault) e h))
 
     pub shown : (state : State) (text : List ℕ) → IsUsed script calls line.number state → IsTextOf asking.dot line state text → IfBoth files asking (λ s r. IsShown asking s r text)
     shown state text used so =

@@ -1,4 +1,4 @@
-use Rattle.std.proofs.Common.{◌≡◌, ℕ, List, refl, subst, sym, take}
+use Rattle.std.proofs.Common.{◌≡◌, ℕ, List, ap, subst, take}
 use Rattle.std.specs.Prelude.{string_bytes}
 use Rattle.cycle_plan.specs.Graphs.{state_of}
 use Rattle.session_model.specs.Grammar.{Spells}
@@ -7,9 +7,8 @@ use Rattle.session_graph.specs.Askings.{Asking}
 use Rattle.session_graph.specs.Files.{IfBytes}
 use Rattle.session_graph.specs.Graphs.{HasFault, IsTextOf}
 use Rattle.session_graph.specs.Told.{IsUsed}
-use Rattle.session_graph.specs.Replays.{IsOfReplay}
 use Rattle.session_graph.proofs.FileLemmas.{kept-err}
-use Rattle.session_graph.proofs.TopLemmas.{front-fault, replay-fault, shown}
+use Rattle.session_graph.proofs.TopLemmas.{front-fault, replay-fault-at, shown}
 use Rattle.session_graph.proofs.top.text.Goals as goal
 
 pub returns-in_err-told-clause-fault : goal.returns-in_err-told-clause-fault
@@ -21,11 +20,10 @@ returns-in_err-told-clause-fault g c =
 pub returns-in_err-graph-clause-fault : goal.returns-in_err-graph-clause-fault
 returns-in_err-graph-clause-fault g c =
     let spelled = subst (λ (asking : Asking). IfBytes (g.H.Host.files c.args.host.now) asking.script (λ bytes. Spells (take 1048577 bytes) c.in_ok-script.script)) c.asked.view_is c.in_ok-script.ensures.script in
-    let lines = subst (λ (lines : List CallLine). IsOfReplay c.in_ok-script.script lines c.in_ok-told.told.cycle.number c.asked.inside.cycle _) c.deref.ensures.value c.in_err-graph.ensures.fault in
     kept-err c.from_residual-in_err-graph.result _ (HasFault (g.H.Host.files c.args.host.now) c.args.asked.now) c.from_residual-in_err-graph.ensures.1
-    (replay-fault (g.H.Host.files c.args.host.now) (g.H.Host.files c.read_script.new.host) c.in_ok-script.ensures.files c.args.asked.now c.in_ok-script.script spelled
-    c.in_ok-told.told.calls.items c.in_ok-told.told.cycle c.in_ok-told.ensures.cycle c.in_ok-told.ensures.front _
-    (subst (λ (asking : Asking). IsOfReplay c.in_ok-script.script c.in_ok-told.told.calls.items c.in_ok-told.told.cycle.number asking.cycle _) c.asked.view_is lines))
+    (replay-fault-at (g.H.Host.files c.args.host.now) (g.H.Host.files c.read_script.new.host) c.in_ok-script.ensures.files c.args.asked.now c.in_ok-script.script spelled
+    c.in_ok-told.told.calls.items c.in_ok-told.told.cycle c.in_ok-told.ensures.cycle c.in_ok-told.ensures.front _ c.deref.result.now c.asked.inside.cycle c.deref.ensures.value
+    (ap (λ (asking : Asking). asking.cycle) c.asked.view_is) c.in_err-graph.ensures.fault)
 
 pub returns-clause-shown : goal.returns-clause-shown
 returns-clause-shown g c =
