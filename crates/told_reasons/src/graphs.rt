@@ -9,12 +9,7 @@ use jack_types::{Part, Row};
 use std::alloc::{AllocError, Global};
 
 /// Why a line of a report, a call or a cycle is wrong. `text` is the report's, as far as it can be read again.
-pub fn of_wrong(
-    alloc: Global,
-    report: &str,
-    text: &[u8],
-    row: Row,
-) -> Result<Reason, AllocError>
+pub fn of_wrong(alloc: Global, report: &str, text: &[u8], row: Row) -> Result<Reason, AllocError>
     ensures { IfOk result IsReason }
 {
     let mut reason = Reason::new(alloc)?;

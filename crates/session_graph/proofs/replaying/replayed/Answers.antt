@@ -20,10 +20,12 @@ returns-then-from-number-clause-used c =
 pub returns-then-not-make-clause-fault : goal.returns-then-not-make-clause-fault
 returns-then-not-make-clause-fault c =
     let n = c.loop-place.invariant.behind.next_is in
-    subst (IsOfReplay c.args.script.now c.args.lines.now c.args.number c.args.cycle) (sym c.wrong.ensures)
-    (refl, wrong-call c.args.script.now c.args.lines.now c.loop-place.place c.args.number (state_of c.loop-place.replay.graph) c.loop-place.replay.calls c.loop-place.replay.next c.loop-place.invariant.behind
-    (get_or c.args.lines.now c.loop-place.place none) (slice_get-get_or c.args.lines.now c.loop-place.place none c.loop-place-test.true)
-    (omega (arith, n, c.loop-place.invariant.within, c.if-from-number.false, c.from.ensures)) (c.make.ensures.wrong c.if-not-make.true))
+    subst (IsOfReplay c.args.script.now c.args.lines.now c.args.number c.args.cycle) (sym c.wrong.ensures) (
+      refl,
+      wrong-call c.args.script.now c.args.lines.now c.loop-place.place c.args.number (state_of c.loop-place.replay.graph) c.loop-place.replay.calls c.loop-place.replay.next c.loop-place.invariant.behind
+          (get_or c.args.lines.now c.loop-place.place none) (slice_get-get_or c.args.lines.now c.loop-place.place none c.loop-place-test.true)
+          (omega (arith, n, c.loop-place.invariant.within, c.if-from-number.false, c.from.ensures)) (c.make.ensures.wrong c.if-not-make.true),
+    )
 
 pub loop-place-preserved : goal.loop-place-preserved
 loop-place-preserved c =
@@ -38,6 +40,11 @@ loop-place-preserved c =
 pub returns-clause-fault : goal.returns-clause-fault
 returns-clause-fault c =
     let n = c.loop-place.invariant.behind.next_is in
-    subst (IsOfReplay c.args.script.now c.args.lines.now c.args.number c.args.cycle) (sym c.wrong-2.ensures)
-    (refl, (refl, too-many c.args.script.now c.args.lines.now c.loop-place.place c.args.number (state_of c.loop-place.replay.graph) c.loop-place.replay.calls c.loop-place.replay.next c.loop-place.invariant.behind
-    c.loop-place-test.false (omega (arith, n, c.loop-place.invariant.within, c.if-from-number-2.false, c.from-2.ensures))))
+    subst (IsOfReplay c.args.script.now c.args.lines.now c.args.number c.args.cycle) (sym c.wrong-2.ensures) (
+      refl,
+      (
+        refl,
+        too-many c.args.script.now c.args.lines.now c.loop-place.place c.args.number (state_of c.loop-place.replay.graph) c.loop-place.replay.calls c.loop-place.replay.next c.loop-place.invariant.behind
+            c.loop-place-test.false (omega (arith, n, c.loop-place.invariant.within, c.if-from-number-2.false, c.from-2.ensures)),
+      ),
+    )
