@@ -1,8 +1,8 @@
 -- A driver with a playback that tells nothing.
 use Rattle.std.proofs.Common.{◌≡◌, ◌∙◌, ℤ, false, List, Option, Some, refl, sym, subst, arith}
 use Rattle.jack_types.specs.declared.files.Format.{Format}
-use Rattle.wave_write.specs.Tapes.{HasSamples, SameFile, Tape}
-use Rattle.driver_laws.specs.Cycling.{WritesOnce, Written}
+use Rattle.wave_write.specs.Tapes.{SameFile, Tape}
+use Rattle.driver_laws.specs.Cycling.{WritesOnce}
 use Rattle.driver_laws.specs.Drivers.{Driver, HasPlayback}
 use Rattle.driver_laws.specs.Keeping.{HasTape}
 use Rattle.check_courses.specs.Untold.{untold}
