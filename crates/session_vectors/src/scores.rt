@@ -57,12 +57,14 @@ fn a_guest_that_failed_is_silent_until_it_is_opened_again(rt: HostRuntime) -> Re
 // The guest beside two clients with so much work that all workers play: its cycles are of 4,096 frames.
 #[test]
 fn a_guest_that_failed_on_four_workers_is_silent_too(rt: HostRuntime) -> Result<(), Fail> {
-    let mut samples = vec![in rt.alloc(); 0; 5 * 4096]?;
-    for (place, sample) in samples.iter_mut().enumerate() {
-        *sample = place as i32;
+    let mut samples = Vec::new(rt.alloc());
+    let mut heard = Vec::new(rt.alloc());
+    for sample in 0..5 * 4096 {
+        let silent = (2 * 4096..4 * 4096).contains(&sample);
+        samples.push(sample)?;
+        heard.push(if silent { 0 } else { sample })?;
     }
     let capture = wave(rt.alloc(), MONO, &samples)?;
-    samples[2 * 4096..4 * 4096].fill(0);
     let clients = two_clients(rt.alloc())?;
     let script = [LONGEST_PERIOD, FOUR_WORKERS, clients.as_str(), FAILING];
     let guests = failing_guest(rt.alloc())?;
@@ -70,6 +72,6 @@ fn a_guest_that_failed_on_four_workers_is_silent_too(rt: HostRuntime) -> Result<
     let played = play_with(&rt, &PLAY, &script, &capture, guests, &gate)?;
     assert_eq!(rt; gate.given_up(), 0, "the clients were not played at once");
     assert_eq!(rt; played.status, Status::Ok);
-    has_file(&rt, &played, "p", &wave(rt.alloc(), MONO, &samples)?);
+    has_file(&rt, &played, "p", &wave(rt.alloc(), MONO, &heard)?);
     Ok(())
 }
