@@ -72,7 +72,7 @@ try() {
   [ "$got" = "$wanted" ] || fault "bash offers '$got' behind '$*', not '$wanted'"
 }
 for name in jackd sagbufe-jackd; do
-  try 'play rehearse --help --version' $name ''
+  try 'play rehearse graph --help --version' $name ''
   try 'play' $name p
   try 'rehearse' $name r
   try '' $name rehearse ''

@@ -23,7 +23,7 @@ def same(what, words, wanted):
 helped = told('--help')
 commands = set(re.findall(r'^  (\w+)  ', helped.split('Commands:')[1].split('Options:')[0], re.M))
 wanted = options(helped)
-codes = set(re.findall(r'\b(\d) ', helped.split('Exit codes:')[1]))
+codes = set(re.findall(r'\b(\d)\s', helped.split('Exit codes:')[1]))
 
 page = read('docs/jackd.1').replace(r'\-', '-')
 section = dict(re.findall(r'^\.SH (.*)\n((?:(?!\.SH ).*\n)*)', page, re.M))
