@@ -75,6 +75,9 @@ for name in jackd sagbufe-jackd; do
   try 'play rehearse graph --help --version' $name ''
   try 'play' $name p
   try 'rehearse' $name r
+  try 'graph' $name g
+  try 'one.session' $name graph ''
+  try '--dot' $name graph a b 3 ''
   try '' $name rehearse ''
   try 'one.session' $name play ''
   try 'one.session' $name play a b o
@@ -94,7 +97,7 @@ fi
 if command -v fish >/dev/null; then
   for name in jackd sagbufe-jackd; do
     got=$(cd "$folder/files" && fish --no-config -c "source $folder/free/share/fish/vendor_completions.d/$name.fish; complete -C '$name '; complete -C '$name play a '; complete -C '$name play a b c --'" | cut -f 1 | tr '\n' ' ')
-    [ "$got" = 'play rehearse one.session --record ' ] || fault "fish offers '$got'"
+    [ "$got" = 'graph play rehearse one.session --record ' ] || fault "fish offers '$got'"
   done
 else
   over fish
