@@ -118,8 +118,10 @@ def serial(cycles):
 
 def threads(cycles, period=4096):
     """A lane, whose calls no cycle has, and a recorder in threads, and cycles with so much work that two workers share them."""
-    heard = [f'do {call}' for port in range(1, 17) for call in (f'register m:{port} in audio', f'connect system:capture_1 m:{port}')]
-    calls = ['do open m meter', 'do activate m', *heard]
+    calls = []
+    for meter in range(9):
+        calls += [f'do open m{meter} meter', f'do activate m{meter}', *(f'do {call}' for port in range(1, 17)
+            for call in (f'register m{meter}:{port} in audio', f'connect system:capture_1 m{meter}:{port}'))]
     return script('threads 2', period, calls, cycles, [f'lane 1 at {cycles} connect system:capture_1 system:playback_2',
         f'lane 1 at {cycles} disconnect a:o t:i'])
 

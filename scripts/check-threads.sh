@@ -29,8 +29,8 @@ def head(version, period, channels, bits, workers, *rest):
     return [f'jackd {version}', 'rate 8000', f'period {period}', f'capture {channels}', f'playback {channels} {bits}', f'mode threads {workers}', *rest]
 
 
-# Eight clients with 16 connections each: with 4,096 frames that is work for 16 workers.
-CROWD = [line for name in 'cdefghij' for line in (f'do open {name} pass', f'do activate {name}', *(
+# 30 clients with 16 connections each: with 4,096 frames that is work for 16 workers.
+CROWD = [line for name in (f'crowd{number}' for number in range(30)) for line in (f'do open {name} pass', f'do activate {name}', *(
     made for port in range(16) for made in (f'do register {name}:{port} in audio', f'do connect system:capture_1 {name}:{port}')))]
 
 

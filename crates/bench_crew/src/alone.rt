@@ -1,6 +1,6 @@
 //! A cycle by one seat: each node is played behind its sources, since links go upward.
 ghost use Rattle.std.specs.Prelude.{◌≡◌, ◌≤◌, ◌<◌, ℕ, true, false, [], length, map, Some, All, IsSome, slice_index_or, vec_capacity};
-ghost use Rattle.session_model.specs.Activation.{AreLinks, link_at, place_among};
+ghost use Rattle.session_model.specs.Activation.{link_at, place_among};
 ghost use Rattle.activation.specs.Rounds.{AreReturned};
 ghost use Rattle.cycle_workers.specs.Runs.{HaveRoom};
 ghost use Rattle.bench_crew.specs.Turns.{IsRow, IsApart, ShowRoom, AreLike, IsTurn};
@@ -8,7 +8,6 @@ ghost use Rattle.bench_crew.specs.Turns.{IsRow, IsApart, ShowRoom, AreLike, IsTu
 use crate::sources::Sources;
 use activation::Work;
 use jack_host::Gate;
-use jack_types::Link;
 
 /// Hands out the values of these links, in their order.
 fn take_values<B: Work>(
@@ -71,8 +70,8 @@ fn play_node<B: Work>(
     return_values(sources, which, benches, given);
 }
 
-/// Plays these benches, one a node, in the order of the nodes.
-fn play_in_order<B: Work, G: Gate>(
+/// Plays these benches, one a node, in the order of the nodes. It takes no memory.
+pub(crate) fn play_in_order<B: Work, G: Gate>(
     gate: &G,
     sources: &Sources,
     benches: &mut [B],
@@ -87,23 +86,4 @@ fn play_in_order<B: Work, G: Gate>(
         gate.before_client(0, node);
         play_node(sources, node, benches, given);
     }
-}
-
-/// Plays these benches, one a node, over these links. It takes no memory.
-pub(crate) fn play_alone<B: Work, G: Gate>(
-    gate: &G,
-    sources: &mut Sources,
-    given: &mut Vec<Option<B::Value>>,
-    links: &[Link],
-    benches: &mut [B],
-)
-    requires given { (given.old.items ≡ []) × (512 ≤ vec_capacity given.old) }
-    requires links { AreLinks sources.old.nodes links.now × (length links.now ≤ 512) }
-    requires benches { (length benches.old ≡ sources.old.nodes) × HaveRoom B.has_room links.now benches.old }
-    ensures sources { sources.new.nodes ≡ sources.old.nodes }
-    ensures given { (given.new.items ≡ []) × (vec_capacity given.new ≡ vec_capacity given.old) }
-    ensures played { AreReturned B.memory B.has_room B.after B.gives links.now benches.old benches.new }
-{
-    sources.relist(links);
-    play_in_order(gate, sources, benches, given);
 }

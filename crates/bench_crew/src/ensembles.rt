@@ -7,8 +7,9 @@ ghost use Rattle.cycle_workers.specs.Runs.{HaveRoom};
 ghost use Rattle.bench_crew.specs.Ensembles.{bench_of};
 ghost use Rattle.bench_crew.specs.Meanings.{ensembled_of, seats_of, IsReady, IsReadyTeam};
 
-use crate::alone::play_alone;
+use crate::alone::play_in_order;
 use crate::playing::play_over;
+use crate::sharing::{Load, Worth};
 use crate::sources::Sources;
 use activation::{Crew, Seat};
 use client_benches::{ClientBench, Rooms};
@@ -19,9 +20,6 @@ use std::alloc::Global;
 use std::marker::Model;
 use std::thread::Threads;
 
-/// The work of a seat that is worth the start of a thread.
-const LEAST_SHARE: u64 = 32_768;
-
 /// What plays a cycle: this thread by itself, in the order of the nodes, or where there are several seats a team.
 #[derive(Drop)]
 struct Means<G: Guest> {
@@ -30,7 +28,7 @@ struct Means<G: Guest> {
     team: Option<Team<G>>,
 }
 
-/// A crew with its seats, and the least work of a cycle that it plays.
+/// A crew with its seats, and what a cycle needs to be played by it.
 ///
 /// A crew is made over benches of nobody, which stand in for the session's benches between two cycles and
 /// are never played.
@@ -38,7 +36,7 @@ struct Means<G: Guest> {
 struct Team<G: Guest> {
     crew: Crew<ClientBench<G>>,
     seats: Vec<Seat<ClientBench<G>>>,
-    least_work: u64,
+    worth: Worth,
 }
 
 /// The crew of a session's benches, with its seats.
@@ -79,13 +77,13 @@ fn team_of<G: Guest>(alloc: Global, nodes: u32, seats: u32) -> Result<Team<G>, M
     requires seats { (0 < seats) × (seats ≤ 16) }
     ensures { IfOk result (λ team. (team.crew.nodes ≡ nodes) × (team.crew.seats ≡ seats) × IsReadyTeam team) }
 {
-    let least_work = LEAST_SHARE * u64::from(seats);
+    let worth = Worth::of(seats);
     let benches = stand_ins(alloc, nodes)?;
     match Crew::new(alloc, &[], benches, seats) {
         Ok((crew, seats)) => Ok(Team {
             crew,
             seats,
-            least_work,
+            worth,
         }),
         Err(_) => Err(Memory),
     }
@@ -148,13 +146,13 @@ impl<G: Guest> Ensemble<G> {
     }
 }
 
-/// Plays these benches, one a node, over these links, with so much work.
+/// Plays these benches, one a node, over these links.
 fn play_by<G: Guest + Send, K: Gate, T: Threads + Sync>(
     means: &mut Means<G>,
     threads: &T,
     gate: &K,
     links: &[Link],
-    work: u64,
+    load: Load,
     benches: &mut [ClientBench<G>],
 )
     requires ready { IsReady means.old }
@@ -164,8 +162,9 @@ fn play_by<G: Guest + Send, K: Gate, T: Threads + Sync>(
     ensures ready { IsReady means.new }
     ensures played { AreReturned (λ bench. bench.kept) has_room_at kept_after kept_gives links.now benches.old benches.new }
 {
+    means.sources.relist(links);
     match &mut means.team {
-        Some(team) if team.least_work <= work => play_over(
+        Some(team) if team.worth.is_met(&means.sources, load) => play_over(
             threads,
             gate,
             &mut team.crew,
@@ -173,22 +172,21 @@ fn play_by<G: Guest + Send, K: Gate, T: Threads + Sync>(
             links,
             benches,
         ),
-        _ => play_alone(gate, &mut means.sources, &mut means.given, links, benches),
+        _ => play_in_order(gate, &means.sources, benches, &mut means.given),
     }
 }
 
 impl<G: Guest + Send> Ensemble<G> {
     /// Plays a bench a node, over these links: each on what the benches of its incoming links handed it.
     ///
-    /// `work` is that of the cycle: clients and connections, times the frames of the period. Where a seat's
-    /// share of it is worth the start of a thread, the seats are shared among as many threads; else this thread
+    /// Where the cycle's load is worth the start of threads, the seats are shared among as many; else this thread
     /// plays all, as with one seat. What is played is the same. It takes no memory.
     pub fn play<K: Gate, T: Threads + Sync>(
         &mut self,
         threads: &T,
         gate: &K,
         links: &[Link],
-        work: u64,
+        load: Load,
         benches: &mut [ClientBench<G>],
     )
         requires count { length benches.old ≡ self.old.nodes }
@@ -199,6 +197,6 @@ impl<G: Guest + Send> Ensemble<G> {
         ensures played { (n : ℕ) → n < length benches.old → (bench_of benches.new n).kept ≡ sequential kept_after kept_gives links.now (λ m. (bench_of benches.old m).kept) n }
         ensures rooms { (n : ℕ) (place : ℕ) → n < length benches.old → has_room_at (bench_of benches.new n) place ≡ has_room_at (bench_of benches.old n) place }
     {
-        play_by(&mut self.means, threads, gate, links, work, benches);
+        play_by(&mut self.means, threads, gate, links, load, benches);
     }
 }

@@ -5,6 +5,8 @@ mod alone;
 mod ensembles;
 mod linking;
 mod playing;
+mod sharing;
 mod sources;
 
 pub use ensembles::Ensemble;
+pub use sharing::Load;

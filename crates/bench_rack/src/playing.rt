@@ -6,7 +6,7 @@ ghost use Rattle.client_benches.specs.Seen.{has_room_at, kept_after, kept_gives}
 ghost use Rattle.bench_rack.specs.Insides.{bench_among};
 
 use crate::racks::Rack;
-use bench_crew::Ensemble;
+use bench_crew::{Ensemble, Load};
 use client_benches::ClientBench;
 use client_kinds::Guest;
 use jack_host::Gate;
@@ -19,7 +19,7 @@ fn play_front<G: Guest + Send, T: Threads + Sync, K: Gate>(
     gate: &K,
     ensemble: &mut Ensemble<G>,
     links: &[Link],
-    work: u64,
+    load: Load,
     benches: &mut [ClientBench<G>],
 )
     requires count { ensemble.old.nodes ≤ length benches.old }
@@ -32,7 +32,7 @@ fn play_front<G: Guest + Send, T: Threads + Sync, K: Gate>(
     ensures others { (n : ℕ) → ensemble.old.nodes ≤ n → bench_among benches.new n ≡ bench_among benches.old n }
 {
     let nodes = ensemble.nodes() as usize;
-    ensemble.play(threads, gate, links, work, &mut benches[..nodes]);
+    ensemble.play(threads, gate, links, load, &mut benches[..nodes]);
 }
 
 impl<G: Guest + Send> Rack<G> {
@@ -40,15 +40,14 @@ impl<G: Guest + Send> Rack<G> {
 
     /// Plays the first benches, as many as the crew has nodes, over these links.
     ///
-    /// `work` is that of the cycle: clients and connections, times the frames of the period. Where it is worth
-    /// it, the crew's seats are shared among as many threads. It takes no memory.
+    /// Where the cycle's load is worth it, the crew's seats are shared among as many threads. It takes no memory.
     pub fn play<T: Threads + Sync, K: Gate>(
         &mut self,
         threads: &T,
         gate: &K,
         ensemble: &mut Ensemble<G>,
         links: &[Link],
-        work: u64,
+        load: Load,
     )
         requires count { ensemble.old.nodes ≤ length self.old.benches }
         requires links { AreLinks ensemble.old.nodes links.now × (length links.now ≤ 512) }
@@ -60,6 +59,6 @@ impl<G: Guest + Send> Rack<G> {
         ensures rooms { (n place : ℕ) → has_room_at (bench_at self.new n) place ≡ has_room_at (bench_at self.old n) place }
         ensures others { (n : ℕ) → ensemble.old.nodes ≤ n → bench_at self.new n ≡ bench_at self.old n }
     {
-        play_front(threads, gate, ensemble, links, work, &mut self.benches);
+        play_front(threads, gate, ensemble, links, load, &mut self.benches);
     }
 }

@@ -10,7 +10,7 @@ ghost use Rattle.client_tasks.specs.Tasks.{AreSet, HasRooms};
 ghost use Rattle.stage_laws.specs.Casts.{Fills, Performs};
 ghost use Rattle.stage_laws.specs.Stages.{Staged};
 
-use bench_crew::Ensemble;
+use bench_crew::{Ensemble, Load};
 use bench_rack::Rack;
 use client_kinds::Guest;
 use client_tasks::fill_wires;
@@ -20,20 +20,19 @@ use device_periods::Capture;
 use jack_host::{Gate, Source};
 use std::thread::Threads;
 
-/// The work of a cycle of so many frames, as far as it can be shared: clients and connections, times the frames,
-/// and none where there is one client.
-fn work_of(plan: &Plan, frames: usize) -> u64
+/// What a cycle of so many frames has to play.
+fn load_of(plan: &Plan, frames: usize) -> Load
     requires frames { frames ≤ 4096 }
-    ensures alone { length plan.now.nodes ≤ 1 → result ≡ 0 }
-    ensures work { 1 < length plan.now.nodes → result ≡ (length plan.now.nodes + length plan.now.network.set.edges) * frames }
+    ensures clients { result.clients ≡ length plan.now.nodes }
+    ensures work { result.work ≡ (length plan.now.nodes + length plan.now.network.set.edges) * frames }
     ensures few { length plan.now.network.set.edges ≤ 512 }
 {
-    let nodes = plan.nodes();
-    let edges = plan.edges();
-    if nodes.len() <= 1 {
-        return 0;
+    let clients = plan.nodes().len();
+    let connections = plan.edges().len();
+    Load {
+        clients: clients as u32,
+        work: ((clients + connections) * frames) as u64,
     }
-    ((nodes.len() + edges.len()) * frames) as u64
 }
 
 /// Plays a cycle of a plan whose clients have their benches, set for it: fills the wires of what is captured and of what
@@ -68,7 +67,7 @@ pub fn perform<G: Guest + Send, S: Source, T: Threads + Sync, K: Gate>(
     ensures links { rack.new.links ≡ rack.old.links }
 {
     let links = plan.links();
-    let work = work_of(plan, silence.len());
+    let load = load_of(plan, silence.len());
     fill_wires(rack, wiring.joints(), places, capture, silence);
-    rack.play(threads, gate, ensemble, links, work);
+    rack.play(threads, gate, ensemble, links, load);
 }

@@ -2,7 +2,7 @@ ghost use Rattle.std.specs.Prelude.{◌≡◌, ◌<◌, IfOk, length, true};
 ghost use Rattle.client_benches.specs.Seen.{has_room_at};
 ghost use Rattle.bench_crew.specs.Ensembles.{bench_of};
 
-use bench_crew::Ensemble;
+use bench_crew::{Ensemble, Load};
 use client_benches::{ClientBench, Rooms};
 use client_kinds::Shape;
 use guests::HoldGuest;
@@ -24,10 +24,16 @@ const MOMENT: Moment = Moment {
     bbt: None,
 };
 
-// Work that is worth no thread, and work that is worth one for each seat.
-const LIGHT: u64 = 0;
+// Too little work for a thread, and enough for one for each seat.
+const LIGHT: Load = Load {
+    clients: 4,
+    work: 0,
+};
 
-const HEAVY: u64 = u64::MAX;
+const HEAVY: Load = Load {
+    clients: 4,
+    work: u64::MAX,
+};
 
 // Counts how many clients were played by other seats than the first.
 #[derive(Drop)]
@@ -96,7 +102,7 @@ fn play<T: Threads + Sync>(
     benches: &mut [Bench],
     low: u32,
     high: u32,
-    work: u64,
+    load: Load,
 ) -> bool
     requires nodes { (0 < low) × (low < high) × (high < 4) × (ensemble.old.nodes ≡ 4) × (length benches.old ≡ 4) }
     requires rooms { (has_room_at (bench_of benches.old 0) 0 ≡ true) × (has_room_at (bench_of benches.old 0) 1 ≡ true) }
@@ -107,7 +113,7 @@ fn play<T: Threads + Sync>(
     let others = Others {
         played: AtomicU64::new(0),
     };
-    ensemble.play(threads, &others, &links, work, benches);
+    ensemble.play(threads, &others, &links, load, benches);
     others.played.load(Ordering::SeqCst) > 0
 }
 
@@ -125,10 +131,12 @@ fn ends(sample: i32) -> (Option<i32>, Option<i32>) {
     (Some(sample), Some(sample.wrapping_neg()))
 }
 
-// Two cycles of so much work: the wave goes to nodes 1 and 2, and then, over another plan, to nodes 2 and 3.
+// Two cycles of such loads, which other seats than the first share or not: the wave goes to nodes 1 and 2, and then,
+// over another plan, to nodes 2 and 3.
 fn plays_two_plans<R: Threads + Sync + AllocGlobal + Abort>(
     rt: &R,
-    works: [u64; 2],
+    loads: [Load; 2],
+    are_shared: [bool; 2],
 ) -> Result<(), Fail> {
     let alloc = rt.alloc();
     let mut benches = Vec::with_capacity(alloc, 4)?;
@@ -137,14 +145,14 @@ fn plays_two_plans<R: Threads + Sync + AllocGlobal + Abort>(
     benches.push_reserved(times(alloc, 3)?);
     benches.push_reserved(times(alloc, 4)?);
     let mut ensemble = Ensemble::new(alloc, 4, 4)?;
-    let shared = play(rt, &mut ensemble, benches.as_mut_slice(), 1, 2, works[0]);
-    assert_eq!(rt; shared, works[0] == HEAVY);
+    let shared = play(rt, &mut ensemble, benches.as_mut_slice(), 1, 2, loads[0]);
+    assert_eq!(rt; shared, are_shared[0]);
     assert_eq!(rt;
         given(&benches),
         [ends(1000), ends(2000), ends(3000), ends(0)]
     );
-    let shared = play(rt, &mut ensemble, benches.as_mut_slice(), 2, 3, works[1]);
-    assert_eq!(rt; shared, works[1] == HEAVY);
+    let shared = play(rt, &mut ensemble, benches.as_mut_slice(), 2, 3, loads[1]);
+    assert_eq!(rt; shared, are_shared[1]);
     assert_eq!(rt;
         given(&benches),
         [ends(1000), ends(0), ends(3000), ends(4000)]
@@ -154,16 +162,26 @@ fn plays_two_plans<R: Threads + Sync + AllocGlobal + Abort>(
 
 #[test]
 fn four_seats_play_two_plans(rt: HostRuntime) -> Result<(), Fail> {
-    plays_two_plans(&rt, [HEAVY, HEAVY])
+    plays_two_plans(&rt, [HEAVY, HEAVY], [true, true])
 }
 
 #[test]
 fn light_cycles_are_played_by_one_seat(rt: HostRuntime) -> Result<(), Fail> {
-    plays_two_plans(&rt, [LIGHT, LIGHT])
+    plays_two_plans(&rt, [LIGHT, LIGHT], [false, false])
 }
 
 #[test]
 fn light_and_heavy_cycles_follow_each_other(rt: HostRuntime) -> Result<(), Fail> {
-    plays_two_plans(&rt, [HEAVY, LIGHT])?;
-    plays_two_plans(&rt, [LIGHT, HEAVY])
+    plays_two_plans(&rt, [HEAVY, LIGHT], [true, false])?;
+    plays_two_plans(&rt, [LIGHT, HEAVY], [false, true])
+}
+
+// Without node 3 all that waits for nothing is node 0, whose seat would play nodes 1 and 2 as well.
+#[test]
+fn what_one_seat_begins_it_plays_alone(rt: HostRuntime) -> Result<(), Fail> {
+    let begun_by_one = Load {
+        clients: 3,
+        work: u64::MAX,
+    };
+    plays_two_plans(&rt, [begun_by_one, HEAVY], [false, true])
 }

@@ -4,7 +4,7 @@ use crate::building::{MONO, failing_guest, wave};
 use crate::gates::{Held, HoldingGate};
 use crate::overruns::{FOUR_WORKERS, ONE_WORKER, SERIAL};
 use crate::running::{PLAY, has_file, play_with};
-use crate::sharing::{LONGEST_PERIOD, two_clients};
+use crate::sharing::{LONGEST_PERIOD, crowd};
 use jack_control::Status;
 use jack_host::FreeGate;
 use std::test::Fail;
@@ -54,7 +54,7 @@ fn a_guest_that_failed_is_silent_until_it_is_opened_again(rt: HostRuntime) -> Re
     Ok(())
 }
 
-// The guest beside two clients with so much work that all workers play: its cycles are of 4,096 frames.
+// The guest beside a crowd of clients with so much work that all workers play: its cycles are of 4,096 frames.
 #[test]
 fn a_guest_that_failed_on_four_workers_is_silent_too(rt: HostRuntime) -> Result<(), Fail> {
     let mut samples = Vec::new(rt.alloc());
@@ -65,7 +65,7 @@ fn a_guest_that_failed_on_four_workers_is_silent_too(rt: HostRuntime) -> Result<
         heard.push(if silent { 0 } else { sample })?;
     }
     let capture = wave(rt.alloc(), MONO, &samples)?;
-    let clients = two_clients(rt.alloc())?;
+    let clients = crowd(rt.alloc())?;
     let script = [LONGEST_PERIOD, FOUR_WORKERS, clients.as_str(), FAILING];
     let guests = failing_guest(rt.alloc())?;
     let gate = HoldingGate::new(Held::Clients);

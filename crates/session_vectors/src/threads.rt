@@ -4,7 +4,7 @@ use crate::building::{MONO, wave};
 use crate::gates::{Held, HoldingGate};
 use crate::overruns::{FORMAT, ONE_WORKER, SAMPLES, TWO_WORKERS, drained_host, play_under};
 use crate::running::{PLAY, Played, has_file, has_out, play, play_with};
-use crate::sharing::{LONGEST_PERIOD, two_clients};
+use crate::sharing::{LONGEST_PERIOD, crowd};
 use jack_control::Status;
 use jack_host::MemorySink;
 use std::process::Abort;
@@ -105,8 +105,8 @@ cycle 5 ";
 }
 
 #[test]
-fn two_clients_play_at_once(rt: HostRuntime) -> Result<(), Fail> {
-    let calls = two_clients(rt.alloc())?;
+fn clients_play_at_once(rt: HostRuntime) -> Result<(), Fail> {
+    let calls = crowd(rt.alloc())?;
     let script = [LONGEST_PERIOD, TWO_WORKERS, calls.as_str(), "run 1\n"];
     play_held(&rt, &script, Held::Clients)?;
     Ok(())

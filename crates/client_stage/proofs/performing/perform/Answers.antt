@@ -26,7 +26,7 @@ play-requires-clause-links g c κs within = (subst (λ links. AreLinks c.args.en
         (subst (λ n. AreLinks n c.args.plan.now.links) (length-map c.args.plan.now.nodes open_client) c.links-links.ensures.planned.is_plan.upward)
 
     few_edges : length c.args.plan.now.network.set.edges ≤ 512
-    few_edges = c.work_of-work.ensures.few
+    few_edges = c.load_of-load.ensures.few
 
 pub returns-clause-performed : goal.returns-clause-performed
 returns-clause-performed g c cast moment period sources is_rack is_silence set idle = (
