@@ -10,6 +10,7 @@ ghost use Rattle.recorder_rings.specs.Openings.{IsNew as AreNew};
 ghost use Rattle.recorder_rings.specs.Sending.{ring_at};
 ghost use Rattle.session_threads.specs.Drivers.{IsServed};
 ghost use Rattle.recorder_files.specs.Recorders.{Recording};
+ghost use Rattle.script_segments.specs.Segments.{segments as the_segments};
 
 use crate::session::Session;
 use client_kinds::Guest;
@@ -20,7 +21,7 @@ use jack_host::{Source, Store};
 use jack_types::{Header, Memory};
 use recorder_files::Recorder;
 use script_needs::greatest_period;
-use script_segments::segments;
+use script_segments::{Segment, segments};
 use session_script::Script;
 use session_threads::{Driver, Lanes, Limits, Rig, SessionFault, Works};
 use std::alloc::Global;
@@ -55,6 +56,33 @@ fn open_desk(alloc: Global, script: &Script) -> Result<(Desk, Reader<Plan>), Mem
     let desk = Desk::new(alloc, script, publisher)?;
     let _ = desk.history();
     Ok((desk, reader))
+}
+
+/// What a session has besides its driver and its recorders.
+#[derive(Drop)]
+struct Begun {
+    segments: Vec<Segment>,
+    desk: Desk,
+    reader: Reader<Plan>,
+    lanes: Lanes,
+}
+
+/// The parts of a script's session that need no capture.
+fn begin(alloc: Global, script: &Script) -> Result<Begun, Memory>
+    ensures segments { IfOk result (λ begun. begun.segments.items ≡ the_segments script.now) }
+    ensures desk { IfOk result (λ begun. IsNewDesk script.now begun.desk.publishing begun.desk) }
+    ensures opening { IfOk result (λ begun. IsPublication (base_of script.now) begun.desk.publishing begun.reader.0) }
+    ensures kept { IfOk result (λ begun. IsDesk begun.desk) }
+{
+    let segments = segments(alloc, script)?;
+    let (desk, reader) = open_desk(alloc, script)?;
+    let lanes = Lanes::new(alloc)?;
+    Ok(Begun {
+        segments,
+        desk,
+        reader,
+        lanes,
+    })
 }
 
 /// The recorders of a script, without files, over the ends of the driver's rings that get.
@@ -122,22 +150,19 @@ impl<S: Source, W: Store, G: Guest> Session<S, W, G> {
         ensures back { IfErr result (λ refused. refused.0 ≡ capture) }
     {
         let header = script.header();
-        let found = match segments(alloc, script) {
-            Ok(found) => found,
-            Err(memory) => return Err((capture, memory)),
-        };
-        let (desk, reader) = match open_desk(alloc, script) {
-            Ok(made) => made,
-            Err(memory) => return Err((capture, memory)),
-        };
-        let lanes = match Lanes::new(alloc) {
-            Ok(made) => made,
+        let Begun {
+            segments,
+            desk,
+            reader,
+            lanes,
+        } = match begin(alloc, script) {
+            Ok(begun) => begun,
             Err(memory) => return Err((capture, memory)),
         };
         let mut driver = Driver::new(alloc, script, reader, capture, guests)?;
         match make_recorders(alloc, script, &mut driver) {
             Ok(recorders) => Ok(Session {
-                segments: found,
+                segments,
                 limits: Limits {
                     ring: header.ring,
                     drain: header.drain,

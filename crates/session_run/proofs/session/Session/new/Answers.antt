@@ -13,15 +13,15 @@ use Rattle.session_run.proofs.session.Session.new.Goals as goal
 
 pub returns-in-Ok-make_recorders-clause-new : goal.returns-in-Ok-make_recorders-clause-new
 returns-in-Ok-make_recorders-clause-new g c =
-    let desk = c.in-Ok-open_desk.made.0 in
+    let desk = c.in-Ok.begun.desk in
     let gear = c.in_ok-driver.driver in
     let made = c.in-Ok-make_recorders.recorders.items in
     let out = c.make_recorders.new.driver.rings.out in
     let opened : IsOpened c.args.script.now _ desk gear made = record {
       served = c.requires.served;
-      desk_is = c.in-Ok-open_desk.ensures.desk;
-      desk_kept = c.in-Ok-open_desk.ensures.kept;
-      opening = subst (λ (r : Reading). IsPublication (base_of c.args.script.now) desk.publishing r) (sym c.in_ok-driver.ensures.reader) c.in-Ok-open_desk.ensures.opening;
+      desk_is = c.in-Ok.ensures.desk;
+      desk_kept = c.in-Ok.ensures.kept;
+      opening = subst (λ (r : Reading). IsPublication (base_of c.args.script.now) desk.publishing r) (sym c.in_ok-driver.ensures.reader) c.in-Ok.ensures.opening;
       new = c.in_ok-driver.ensures.new;
       period = _;
       losses = _;
@@ -41,7 +41,7 @@ returns-in_err-driver-clause-back g c = passed-on c.from_residual.result c.in_er
 
 pub invariant_of-result : goal.invariant_of-result
 invariant_of-result g c = (
-  c.in-Ok.ensures ∙ ap segments (sym script_is),
+  c.in-Ok.ensures.segments ∙ ap segments (sym script_is),
   ap (λ (h : Header). h.ring) header_is,
   ap (λ (h : Header). h.drain) header_is,
   none-is c.header-header.result.threads c.is_none.result c.is_none.ensures ∙ ap (λ (h : Header). is_none h.threads) header_is,
