@@ -2,4 +2,3 @@ mod MasterLemmas
 mod NodeLemmas
 mod RowLemmas
 mod ScriptLemmas
-mod AdoptLemmas

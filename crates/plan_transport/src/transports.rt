@@ -1,9 +1,9 @@
 //! A transport that is stepped by plans.
 
-ghost use Rattle.std.specs.Prelude.{◌≡◌, ◌+◌, ◌-◌, ◌*◌, ◌/◌, ◌<◌, ◌≤◌, ◌^◌, All, Option, unwrap_or};
+ghost use Rattle.std.specs.Prelude.{◌≡◌, ◌+◌, ◌-◌, ◌*◌, ◌/◌, ◌<◌, ◌≤◌, ◌^◌, Option, unwrap_or};
 ghost use Rattle.session_model.specs.State.{Master};
 ghost use Rattle.session_model.specs.Transport.{first_row, next_row, shown};
-ghost use Rattle.transport.specs.Standings.{HasTarget, HasTempo, counted};
+ghost use Rattle.transport.specs.Standings.{HasTempo, counted, with_targets};
 
 use jack_types::{Change, Moment};
 use std::marker::Model;
@@ -70,11 +70,10 @@ impl PlanTransport {
         requires cycles { self.old.cycles < 1000000 }
         requires frames { self.old.frames + period ≤ 500000000 }
         requires period { 0 < period }
-        requires targets { All HasTarget adopted.now }
         ensures rate { self.new.rate ≡ self.old.rate }
         ensures cycles { self.new.cycles ≡ self.old.cycles + 1 }
         ensures frames { self.new.frames ≡ self.old.frames + period }
-        ensures row { self.new.row ≡ next_row self.old.row adopted.now (counted slow.now) (unwrap_or timeout ((2 * self.old.rate + period - 1) / period)) period }
+        ensures row { self.new.row ≡ next_row self.old.row (with_targets adopted.now) (counted slow.now) (unwrap_or timeout ((2 * self.old.rate + period - 1) / period)) period }
         ensures moment { (master : Option Master) → HasTempo master tempo → result ≡ shown self.new.cycles self.new.row self.old.rate master }
         ensures bound { result.frame + period < 2 ^ 32 }
         ensures least_rate { 8000 ≤ self.old.rate }

@@ -2,7 +2,8 @@
 --     Standing      where a transport stands behind a cycle
 --     counted slow      the slow numbers without those that are none
 --     HasTarget change, HasTempo master tempo      a locate's frame is in its range; a tempo is the master's
-use Rattle.std.specs.Prelude.{◌≡◌, ℕ, ◌≤◌, ⊤, List, filter, nat_lt, Option, Some, None, option_map}
+--     with_targets changes      the changes without the locates that are out of their range
+use Rattle.std.specs.Prelude.{◌≡◌, ℕ, ◌≤◌, ⊤, Bool, true, List, filter, nat_le, nat_lt, Option, Some, None, option_map}
 use Rattle.jack_types.specs.declared.commands.Change.{Change}
 use Rattle.jack_types.specs.declared.commands.Command.{Command}
 use Rattle.jack_types.specs.declared.commands.Command.TheVariants.{Locate}
@@ -30,6 +31,15 @@ IsTarget _ = ⊤
 
 abbrev pub HasTarget : Change → Type 0
 HasTarget change = IsTarget change.command
+
+-- whether a command is no locate, or one in its range
+abbrev pub is_target : Command → Bool
+is_target (Locate frame) = nat_le frame 2147483647
+is_target _ = true
+
+-- the changes without the locates that are out of their range
+abbrev pub with_targets : List Change → List Change
+with_targets changes = filter (λ (change : Change). is_target change.command) changes
 
 -- the master's numbers are those of the tempo
 pub record HasNumbers (master : Master) (tempo : Tempo) : Type 0 where

@@ -1,10 +1,10 @@
 //! The transport.
 
-ghost use Rattle.std.specs.Prelude.{◌≡◌, ℕ, ◌+◌, ◌<◌, ◌≤◌, ◌^◌, All, Option, nat_le, nat_lt};
+ghost use Rattle.std.specs.Prelude.{◌≡◌, ℕ, ◌+◌, ◌<◌, ◌≤◌, ◌^◌, Option, nat_le, nat_lt};
 ghost use Rattle.std.specs.List.{list_all, list_any};
 ghost use Rattle.session_model.specs.State.{Master};
 ghost use Rattle.session_model.specs.Transport.{first_row, is_ready, next_frame, next_row, next_state, shown};
-ghost use Rattle.transport.specs.Standings.{HasTarget, HasTempo, counted, place_of};
+ghost use Rattle.transport.specs.Standings.{HasTempo, counted, place_of, with_targets};
 
 use crate::asking::{frame_asked, state_asked};
 use jack_types::{Bbt, Change, Moment, TransportState};
@@ -157,8 +157,8 @@ impl Transport {
 
     /// Steps to the next cycle, and answers what the transport shows in it.
     ///
-    /// `adopted` are the changes that this cycle takes and the one before did not, `slow` the slow numbers of
-    /// the active clients, in cycles, where 0 is none, `timeout` is in cycles, `tempo` that of the master if
+    /// `adopted` are the changes that this cycle takes and the one before did not, of which a locate out of its range
+    /// counts for nothing, `slow` the slow numbers of the active clients, in cycles, where 0 is none, `timeout` is in cycles, `tempo` that of the master if
     /// its client is active, and `period` this cycle's frames.
     pub fn step(
         &mut self,
@@ -170,11 +170,10 @@ impl Transport {
     ) -> Moment
         requires cycles { self.old.cycles < 1000000 }
         requires frames { self.old.frames + period ≤ 500000000 }
-        requires targets { All HasTarget adopted.now }
         ensures rate { self.new.rate ≡ self.old.rate }
         ensures cycles { self.new.cycles ≡ self.old.cycles + 1 }
         ensures frames { self.new.frames ≡ self.old.frames + period }
-        ensures row { self.new.row ≡ next_row self.old.row adopted.now (counted slow.now) timeout period }
+        ensures row { self.new.row ≡ next_row self.old.row (with_targets adopted.now) (counted slow.now) timeout period }
         ensures moment { (master : Option Master) → HasTempo master tempo → result ≡ shown self.new.cycles self.new.row self.new.rate master }
         ensures bound { result.frame + period < 2 ^ 32 }
     {

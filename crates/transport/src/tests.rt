@@ -1,5 +1,4 @@
-ghost use Rattle.std.specs.Prelude.{◌≡◌, ◌+◌, ◌<◌, ◌≤◌, All};
-ghost use Rattle.transport.specs.Standings.{HasTarget};
+ghost use Rattle.std.specs.Prelude.{◌≡◌, ◌+◌, ◌<◌, ◌≤◌};
 
 use super::*;
 use jack_types::{Bbt, Change, Command, TransportState};
@@ -27,7 +26,6 @@ fn step(
 )
     requires cycles { transport.old.cycles < 1000 }
     requires frames { transport.old.frames + period ≤ 500000000 }
-    requires targets { All HasTarget adopted.now }
     ensures cycles { transport.new.cycles ≡ transport.old.cycles + 1 }
     ensures frames { transport.new.frames ≡ transport.old.frames + period }
 {
@@ -190,4 +188,27 @@ fn a_tempo_places_the_frame(rt: HostRuntime) {
     );
     let third = transport.step(&NOTHING, &[], 1500, None, 64);
     assert_eq!(rt; (third.cycle, third.rate, third.bbt), (3, 48000, None));
+}
+
+#[test]
+fn a_locate_out_of_its_range_is_left_out_alone(rt: HostRuntime) {
+    let asked = [
+        change(Command::Start),
+        change(Command::Locate { frame: 1000 }),
+        change(Command::Locate {
+            frame: 2_147_483_648,
+        }),
+    ];
+    let mut transport = Transport::new(48000);
+    let t = &mut transport;
+    step(&rt, t, &asked, &[], 1500, 64, (TransportState::Starting, 0));
+    step(
+        &rt,
+        t,
+        &NOTHING,
+        &[],
+        1500,
+        64,
+        (TransportState::Starting, 1000),
+    );
 }
