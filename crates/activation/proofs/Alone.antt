@@ -32,9 +32,9 @@ module _ {S B : Type 0} (full done : List Link → List B → ℕ → S → Type
   link_alone n id me i y sole = links_one full done n id me.0 i y me.1 sole.live sole.on
 
   -- one seat with all shares, which holds nothing, comes to know the table
-  pub enter_alone : (n id : ℕ) (me : Me S (View S B)) (i count : ℕ) → IsIdle me → me.0.duty.seats ≡ count → me.0.duty.shares ≡ from_to 0 count → me.0.duty.held ≡ [] → Allows (Rule full done) n id me i (λ c. c) (entered full done (step n i 0 0 none) me)
-  enter_alone n id me i count idle seats shares held = enters full done n id me.0 i me.1 idle.live idle.off
-      (λ seat low. ap (λ (xs : List ℕ). has xs seat) shares ∙ has_from_to 0 count seat (omega arith) (omega (arith, low, seats))) held
+  pub enter_alone : (n id : ℕ) (me : Me S (View S B)) (i count : ℕ) → IsIdle me → me.0.duty.seats ≡ count → me.0.duty.shares ≡ from_to 0 count → me.0.duty.held ≡ [] → me.0.duty.left ≡ [] → Allows (Rule full done) n id me i (λ c. c) (entered full done (step n i 0 0 none) me)
+  enter_alone n id me i count idle seats shares held looked = enters full done n id me.0 i me.1 idle.live idle.off
+      (λ seat low. ap (λ (xs : List ℕ). has xs seat) shares ∙ has_from_to 0 count seat (omega arith) (omega (arith, low, seats))) held looked
 
 -- one word more is written
 pub one_more : (xs others : List ℕ) (k y : ℕ) → length xs ≡ k → 0 < length others → (rest : List ℕ) × (set (xs ++ others) k y ≡ (xs ++ y ∷ []) ++ rest) × (suc (length rest) ≡ length others)

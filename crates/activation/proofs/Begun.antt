@@ -19,13 +19,13 @@ use Rattle.activation.specs.declared.views.Item.{Item}
 use Rattle.activation.specs.declared.views.Item.TheVariants.{Bench}
 use Rattle.activation.specs.Rule.{has, Rule}
 use Rattle.activation.specs.Contents.{most_links, AreEmpty, HasRoomFor, AreLaid, IsFull, IsDone, benches_in, benches_of, first_view, from_to}
-use Rattle.activation.specs.Plays.{leave_after, left_still}
+use Rattle.activation.specs.Plays.{AreClear, begin_after, begun}
 use Rattle.activation.specs.Seats.{IsIdle, IsSole, new_duty}
 use Rattle.activation.specs.Rounds.{IsLaidOut}
-use Rattle.activation.proofs.Leaving.{leaves}
+use Rattle.activation.proofs.Beginning.{begins}
 use Rattle.activation.proofs.Shares.{has_from_to, within_from_to}
 
-pub opens_still : {B Y : Type 0} (full done : List Link → List B → ℕ → Option (Item B Y) → Type 0) (links : List Link) (words : List ℕ) (slots seats : ℕ) → words ≡ replicate (slots + 1) 0
+pub opens_still : {B Y : Type 0} (full done : List Link → List B → ℕ → Option (Item B Y) → Type 0) (links : List Link) (words : List ℕ) (slots seats : ℕ) → words ≡ replicate (slots + 65) 0
     → Rule full done (opening words (replicate slots None) (first_view links slots seats))
 opens_still {B} {Y} full done links words slots seats is = inr record {
   sole = 0;
@@ -53,13 +53,14 @@ laid-in {B} {Y} (b ∷ benches) (x ∷ items) laid =
 pub laid-of : {B Y : Type 0} (benches : List B) (items : List (Option (Item B Y))) (slots : ℕ) → slots ≡ length benches + 512 → AreLaid benches items → benches_of slots items ≡ benches
 laid-of benches items slots is laid = let n : slots - 512 ≡ length benches = omega (arith, is) in ap (λ k. benches_in k items) n ∙ laid-in benches items laid
 
-pub laid_out : {B Y : Type 0} (benches : List B) (slots : ℕ) (v : View (Option (Item B Y)) B) → slots ≡ length benches + 512 → AreLaid benches v.shelf.items → AreLinks (length benches) v.duty.links
+pub laid_out : {B Y : Type 0} (benches : List B) (slots : ℕ) (v : View (Option (Item B Y)) B) → slots ≡ length benches + 512 → AreLaid benches v.shelf.items → AreLinks (length benches) v.duty.links → AreClear (length benches) v.shelf.words
     → ((others : List ℕ) × (v.shelf.words ≡ map (λ n. length (incoming v.duty.links n) + 1) (below (length benches)) ++ others)) → length benches + length v.duty.links ≤ length v.shelf.items
     → 0 < v.duty.seats → v.duty.shares ≡ from_to 0 v.duty.seats → IsLaidOut slots v
-laid_out benches slots v is laid are counters long more shares =
+laid_out benches slots v is laid are clear counters long more shares =
     let same : benches ≡ benches_of slots v.shelf.items = sym (laid-of benches v.shelf.items slots is laid) in record {
       are = subst (λ bs. AreLinks (length bs) v.duty.links) same are;
       laid = subst (λ bs. AreLaid bs v.shelf.items) same laid;
+      clear = subst (λ bs. AreClear (length bs) v.shelf.words) same clear;
       counters = (counters.0, counters.1 ∙ ap (λ bs. map (λ n. length (incoming v.duty.links n) + 1) (below (length bs)) ++ counters.0) same);
       long = subst (λ bs. length bs + length v.duty.links ≤ length v.shelf.items) same long;
       some_seat = more;
@@ -86,19 +87,19 @@ map-map f g [] = refl
 map-map f g (x ∷ xs) = ap (λ ys. f (g x) ∷ ys) (map-map f g xs)
 
 -- the next cycle begins
-pub leaves_laid : {B M Y : Type 0} (memory : B → M) (has_room : B → ℕ → Bool) (after : M → List Y → M) (gives : M → List Y → ℕ → Y) (n id i : ℕ) (me : Me (Option (Item B Y)) (View (Option (Item B Y)) B)) → IsSole me → IsLaidOut n me.0
-    → Allows (Rule (IsFull memory has_room after gives) (IsDone memory has_room after gives)) n id me i (λ c. c) (left_still benches_of (step n i 0 0 none) me)
-leaves_laid memory has_room after gives n id i me sole out =
+pub begins_laid : {B M Y : Type 0} (memory : B → M) (has_room : B → ℕ → Bool) (after : M → List Y → M) (gives : M → List Y → ℕ → Y) (n id i : ℕ) (me : Me (Option (Item B Y)) (View (Option (Item B Y)) B)) → IsSole me → IsLaidOut n me.0
+    → Allows (Rule (IsFull memory has_room after gives) (IsDone memory has_room after gives)) n id me i (λ c. c) (begun benches_of (step n i 0 0 none) me)
+begins_laid memory has_room after gives n id i me sole out =
     let links = me.0.duty.links in
     let benches = benches_of n me.0.shelf.items in
-    leaves (IsFull memory has_room after gives) (IsDone memory has_room after gives) benches_of n id me.0 i out.counters.0 me.1 sole.live sole.on sole.none_out
+    begins (IsFull memory has_room after gives) (IsDone memory has_room after gives) benches_of n id me.0 i out.counters.0 me.1 sole.live sole.on sole.none_out
     (λ seat h. let r = within_from_to 0 me.0.duty.seats seat (subst (λ (xs : List ℕ). has xs seat ≡ true) out.shares h) in omega (arith, r.1))
     (0, subst (λ (xs : List ℕ). has xs 0 ≡ true) (sym out.shares) (has_from_to 0 me.0.duty.seats 0 (omega arith) (let some = out.some_seat in omega (arith, some))))
-    out.are out.counters.1 out.long (full_bench memory has_room after gives links benches me.0.shelf.items out.laid)
+    out.are out.counters.1 out.long out.clear (full_bench memory has_room after gives links benches me.0.shelf.items out.laid)
 
-pub left_laid : {B Y : Type 0} (slots : ℕ) (me new : Me (Option (Item B Y)) (View (Option (Item B Y)) B)) → IsSole me → IsLaidOut slots me.0 → new ≡ (leave_after (benches_of slots) me.0, me.1)
+pub begun_laid : {B Y : Type 0} (slots : ℕ) (me new : Me (Option (Item B Y)) (View (Option (Item B Y)) B)) → IsSole me → IsLaidOut slots me.0 → new ≡ (begin_after (benches_of slots) me.0, me.1)
     → IsIdle new × (new.0.duty ≡ new_duty me.0.duty.links (benches_of slots me.0.shelf.items) me.0.duty.seats (from_to 0 me.0.duty.seats))
-left_laid {B} {Y} slots me new sole out is = (
+begun_laid {B} {Y} slots me new sole out is = (
   record {
     live = ap (λ (m : Me (Option (Item B Y)) (View (Option (Item B Y)) B)). m.0.is_live) is ∙ sole.live;
     off = ap (λ (m : Me (Option (Item B Y)) (View (Option (Item B Y)) B)). m.0.is_still) is;

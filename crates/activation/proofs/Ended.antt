@@ -1,10 +1,10 @@
 -- Where every seat has started its share and holds nothing, the cycle has ended.
 use Rattle.std.proofs.Common.{◌≡◌, ℕ, ◌%◌, ◌<◌, Bool, true, List, [], ◌∷◌, length, get_or, Option, inl, refl, sym, ◌∙◌, ap, subst, arith, true≢false, mod-lt}
-use mathlib.Core.Option.{some}
+use mathlib.Core.Option.{some, some-injective}
 use lib.ListN.{get_elem?}
 use Rattle.atomic_table.specs.Seated.{TableId}
 use Rattle.jack_types.specs.declared.ports.Link.{Link}
-use Rattle.session_model.specs.Activation.{Held, AtHome, place_of, is_started, IsQuiet}
+use Rattle.session_model.specs.Activation.{Held, Left, AtHome, place_of, is_started, IsQuiet}
 use Rattle.session_laws.proofs.ActivationLemmas.{AllHome-quiet, AllReleased-quiet}
 use Rattle.activation.specs.declared.takens.Seat.{Seat}
 use Rattle.activation.specs.declared.views.Item.{Item}
@@ -16,7 +16,7 @@ use Rattle.activation.specs.Rounds.{AreSeats, HavePlayed, Know}
 use Rattle.activation.specs.Ends.{AreEnded}
 use Rattle.activation.proofs.Testing.{has_here}
 use Rattle.activation.proofs.Keeping.{in_cycle}
-use Rattle.activation.proofs.Gathered.{number_at, long_as, sits, empty_at}
+use Rattle.activation.proofs.Gathered.{number_at, long_as, sits, empty_at, looked_at}
 
 module _ {B M Y : Type 0} (memory : B → M) (has_room : B → ℕ → Bool) (after : M → List Y → M) (gives : M → List Y → ℕ → Y) where
   pub are_ended : (id : TableId) (links : List Link) (nodes count : ℕ) (before : List B) (first : Seat B Y M) (all : List (Seat B Y M)) → 0 < count → AreSeats id links nodes count all → HavePlayed nodes count all → Know before all → AreEnded memory has_room after gives links before all
@@ -38,11 +38,19 @@ module _ {B M Y : Type 0} (memory : B → M) (has_room : B → ℕ → Bool) (af
       let not_held : (n seat : ℕ) (b : Bool) → place_of r.machine n ≡ Held seat b → ⊥ = λ n seat b e.
       let u = subst (IsUsual count) e (r.usual n) in
       true≢false (sym ((knows seat u.0).all_held n seat (share seat u.0) (e ∙ ap (Held seat) u.1)) ∙ ap (λ (xs : List ℕ). has xs n) (empty_at id links nodes count all are seat first u.0)) in
+      let not_left : (n : ℕ) → place_of r.machine n ≡ Left → ⊥ = λ n e.
+      let k = r.left.by_some n e in
+      let known = (r.each_seat k.0 k.1 k.2 k.3).1 in
+      let seat : ℕ = known.some_share.0 in
+      let low : seat < count = known.within seat known.some_share.1 in
+      let is : k.0 ≡ (at seat).token.id = r.alone k.0 (at seat).token.id k.1 (at seat).token.me.0 seat k.2 (seen seat low) k.3 (sit seat low).at.idle.live known.some_share.1 (share seat low) in
+      let same : k.1 ≡ (at seat).token.me.0 = some-injective k.1 (at seat).token.me.0 (sym k.2 ∙ (ap (get_elem? s.views) is ∙ seen seat low)) in
+      true≢false (sym k.4 ∙ (ap (λ (u : View (Option (Item B Y)) B). has u.duty.left n) same ∙ ap (λ (xs : List ℕ). has xs n) (looked_at id links nodes count all are seat first low))) in
       let started : (n : ℕ) → n < length before → is_started r.machine n ≡ true = λ n low.
       let k : ℕ = n % count in
       let low' : k < count = mod-lt n some_seat in
       (knows k low').own_started n low (share k low') ∙ played k first (omega (arith, low', long)) n (omega (arith, low, same_nodes)) (sym (number_at all count k first are.numbers low')) in
-      let quiet : IsQuiet r.machine = record { started = λ n h. started n (omega (arith, h, r.size)); none_held = λ n seat b h e. not_held n seat b e; none_left = λ n h e. subst (IsUsual count) e (r.usual n) } in
+      let quiet : IsQuiet r.machine = record { started = λ n h. started n (omega (arith, h, r.size)); none_held = λ n seat b h e. not_held n seat b e; none_left = λ n h e. not_left n e } in
       let home : (n : ℕ) → n < length before → place_of r.machine n ≡ AtHome = λ n low. AllHome-quiet links (length before) r.are count r.machine r.size r.consistent quiet n low in record {
         machine = r.machine;
         consistent = r.consistent;

@@ -12,7 +12,7 @@ use Rattle.activation.specs.declared.views.Item.{Item}
 use Rattle.activation.specs.declared.views.Item.TheVariants.{Bench, Value}
 use Rattle.activation.specs.declared.views.View.{View}
 use Rattle.activation.specs.Rule.{has}
-use Rattle.activation.specs.Plays.{entered}
+use Rattle.activation.specs.Plays.{AreClear, entered}
 use Rattle.activation.specs.Contents.{most_links, HasRoomFor, IsFull, IsDone, IsHomeBench, AreLaid, benches_in}
 use Rattle.activation.specs.Seats.{IsIdle, IsSole}
 use Rattle.activation.specs.Returns.{BenchAt, AreSpent, IsBack}
@@ -78,6 +78,9 @@ module _ {B M Y : Type 0} (memory : B → M) (has_room : B → ℕ → Bool) (af
 
     pub words_long : length me.0.duty.before ≤ length new.0.shelf.words
     words_long = omega (arith, told.8, ap (λ (m : Me (Option (Item B Y)) (View (Option (Item B Y)) B)). length m.0.shelf.words) told.2)
+
+    pub clear_is : (nodes : ℕ) → length me.0.duty.before ≡ nodes → AreClear nodes new.0.shelf.words
+    clear_is nodes same = subst (λ n. AreClear n new.0.shelf.words) same (λ n low. ap (λ (m : Me (Option (Item B Y)) (View (Option (Item B Y)) B)). get_elem? m.0.shelf.words (length me.0.duty.before + 513 + n)) told.2 ∙ told.9 n low)
 
     pub desk_unused : me.0.duty.started ≡ [] → (n : ℕ) → n < length me.0.duty.before → (desk : Desk B Y) × BenchAt new.0.shelf.items n desk × (get_elem? me.0.duty.before n ≡ some desk.bench) × HasRoomFor desk
     desk_unused unused n low =

@@ -14,8 +14,9 @@ use Rattle.session_laws.proofs.ListLemmas.{Contains-kept, Each-weaker}
 use Rattle.std.proofs.lemmas.List.Elements.{All-contains}
 use Rattle.activation.specs.declared.views.View.{View}
 use Rattle.activation.specs.Rule.{has, IsUsual, node_of, Goes, Knows, Lies, Cycle, Rule}
-use Rattle.activation.specs.Plays.{still_after, AllStarted, entered}
+use Rattle.activation.specs.Plays.{still_after, AllStarted, AreClear, entered}
 use Rattle.activation.proofs.Keeping.{in_cycle, mine, inside}
+use Rattle.activation.proofs.Leaving.{unleft}
 use Rattle.activation.proofs.Testing.{off_or_on}
 use Rattle.activation.proofs.Machines.{count_all}
 use Rattle.activation.proofs.Listed.{incoming-facts}
@@ -26,7 +27,7 @@ module _ {S B : Type 0} (full done : List Link → List B → ℕ → S → Type
   St = State S (View S B)
 
   module _ (s : St) (id : ℕ) (v : View S B) (at : get_elem? s.views id ≡ some v) (live : v.is_live ≡ true) (r : Cycle full done v.duty.links v.duty.before v.duty.seats s)
-      (whole : (seat : ℕ) → seat < v.duty.seats → has v.duty.shares seat ≡ true) (empty : v.duty.held ≡ []) where
+      (whole : (seat : ℕ) → seat < v.duty.seats → has v.duty.shares seat ≡ true) (empty : v.duty.held ≡ []) (looked : v.duty.left ≡ []) where
     abbrev N : ℕ
     N = length v.duty.before
 
@@ -38,8 +39,21 @@ module _ {S B : Type 0} (full done : List Link → List B → ℕ → S → Type
         let u = subst (IsUsual v.duty.seats) e (r.usual n) in
         true≢false (sym (knows.all_held n seat (whole seat u.0) (e ∙ ap (Held seat) u.1)) ∙ ap (λ (xs : List ℕ). has xs n) empty)
 
+    -- the seat is the only one
+    only : (j : ℕ) (u : View S B) → get_elem? s.views j ≡ some u → u.is_live ≡ true → j ≡ id
+    only j u e l =
+        let k = (r.each_seat j u e l).1 in
+        r.alone j id u v k.some_share.0 e at l live k.some_share.1 (whole k.some_share.0 (k.within k.some_share.0 k.some_share.1))
+
     not_left : (n : ℕ) → place_of r.machine n ≡ Left → ⊥
-    not_left n e = subst (IsUsual v.duty.seats) e (r.usual n)
+    not_left n e =
+        let k = r.left.by_some n e in
+        let is : k.1 ≡ v = some-injective k.1 v (sym k.2 ∙ (ap (get_elem? s.views) (only k.0 k.1 k.2 k.3) ∙ at)) in
+        true≢false (sym k.4 ∙ (ap (λ (u : View S B). has u.duty.left n) is ∙ ap (λ (xs : List ℕ). has xs n) looked))
+
+    -- no left word is on
+    clear : AreClear N s.words
+    clear n low = r.left.words_are n low ∙ ap some (unleft (place_of r.machine n) (not_left n))
 
     started : (n : ℕ) → n < N → is_started r.machine n ≡ has v.duty.started n
     started n h = knows.own_started n h (whole (n % v.duty.seats) (mod-lt n r.some_seat))
@@ -52,7 +66,7 @@ module _ {S B : Type 0} (full done : List Link → List B → ℕ → S → Type
     lies_home Waiting true n q e bare h = (h.0, h.2)
     lies_home Waiting false n q e bare h = (h.0, h.2)
     lies_home (Held seat c) b n q e bare h = absurd (not_held n seat c e)
-    lies_home Left b n q e bare h = absurd h
+    lies_home Left b n q e bare h = absurd (not_left n e)
     lies_home AtHome true n q e bare h = (h.0, h.2)
     lies_home AtHome false n q e bare h = absurd (bare refl refl)
 
@@ -138,14 +152,13 @@ module _ {S B : Type 0} (full done : List Link → List B → ℕ → S → Type
         let size : length r.machine.counters ≡ N = omega (arith, r.size, r.consistent.counters) in
         ext_get_or 0 r.machine.counters (map f (below N)) (size ∙ sym (length-map_below f N)) (λ n h. let low : n < N = omega (arith, h, size) in counts_new ahead n low ∙ sym (get_or-map_below f N n 0 low))
 
-  pub enters : (n id : ℕ) (v : View S B) (i : ℕ) (tail : List (ℕ × S)) → v.is_live ≡ true → v.is_still ≡ false → ((seat : ℕ) → seat < v.duty.seats → has v.duty.shares seat ≡ true) → v.duty.held ≡ []
+  pub enters : (n id : ℕ) (v : View S B) (i : ℕ) (tail : List (ℕ × S)) → v.is_live ≡ true → v.is_still ≡ false → ((seat : ℕ) → seat < v.duty.seats → has v.duty.shares seat ≡ true) → v.duty.held ≡ [] → v.duty.left ≡ []
       → Allows (Rule full done) n id (v, tail) i (λ c. c) (entered full done (step n i 0 0 none) (v, tail))
-  enters n id v i tail live off whole empty s rule wide at small =
+  enters n id v i tail live off whole empty looked s rule wide at small =
       let r = in_cycle full done s id v rule at live off in
-      let all = homes_list s.homes (every_slot s id v at live r whole empty) in
+      let all = homes_list s.homes (every_slot s id v at live r whole empty looked) in
       let w : View S B = still_after v s.words all.0 in
-      let one : (j : ℕ) (u : View S B) → get_elem? s.views j ≡ some u → u.is_live ≡ true → j ≡ id = λ j u e l.
-      let k = (r.each_seat j u e l).1 in r.alone j id u v k.some_share.0 e at l live k.some_share.1 (whole k.some_share.0 (k.within k.some_share.0 k.some_share.1)) in
+      let one = only s id v at live r whole empty looked in
       let item : (q : ℕ) (x : S) → get_elem? s.homes q ≡ some (some x) → get_elem? all.0 q ≡ some x = λ q x e. unmap all.0 q x (ap (λ hs. get_elem? hs q) (sym all.1) ∙ e) in (
         w,
         keeps,
@@ -158,26 +171,27 @@ module _ {S B : Type 0} (full done : List Link → List B → ℕ → S → Type
           sym (length-some all.0) ∙ (ap length (sym all.1) ∙ wide),
           (λ all'. (
             (
-              (λ q low. let x = all_done s id v at live r whole empty all' q q (inl (low, refl, refl)) low in (x.0, x.1, item q x.0 x.2)),
+              (λ q low. let x = all_done s id v at live r whole empty looked all' q q (inl (low, refl, refl)) low in (x.0, x.1, item q x.0 x.2)),
               (λ l low.
-                  let on = released_all s id v at live r whole empty all' l low in
-                  let x = all_done s id v at live r whole empty all' (length v.duty.before + l) (link_at v.duty.links l).to (inr (l, low, refl, sym on, ap (λ c. node_of v.duty.links c l) (sym on))) (r.are.within l no_link low) in
+                  let on = released_all s id v at live r whole empty looked all' l low in
+                  let x = all_done s id v at live r whole empty looked all' (length v.duty.before + l) (link_at v.duty.links l).to (inr (l, low, refl, sym on, ap (λ c. node_of v.duty.links c l) (sym on))) (r.are.within l no_link low) in
                   (x.0, x.1, item (length v.duty.before + l) x.0 x.2)),
               (λ l low.
-                  let t = r.told.1.by_some l low (released_all s id v at live r whole empty all' l low) in
+                  let t = r.told.1.by_some l low (released_all s id v at live r whole empty looked all' l low) in
                   ap (λ (u : View S B). has u.duty.released l) (sym (some-injective t.1 v (sym t.2 ∙ (ap (get_elem? s.views) (one t.0 t.1 t.2 t.3) ∙ at)))) ∙ t.4),
             ),
-            (λ low. word_is s id v at live r whole empty i low ∙ spent s id v at live r whole empty all' i low),
+            (λ low. word_is s id v at live r whole empty looked i low ∙ spent s id v at live r whole empty looked all' i low),
           )),
           (λ none'. (
             (
-              (λ q low. let x = all_full s id v at live r whole empty none' q low in (x.0, x.1, item q x.0 x.2)),
-              (r.others, r.words_are ∙ ap (λ (ws : List ℕ). ws ++ r.others) (counters_new s id v at live r whole empty none')),
+              (λ q low. let x = all_full s id v at live r whole empty looked none' q low in (x.0, x.1, item q x.0 x.2)),
+              (r.others, r.words_are ∙ ap (λ (ws : List ℕ). ws ++ r.others) (counters_new s id v at live r whole empty looked none')),
             ),
-            (λ low. let is = word_is s id v at live r whole empty i low in omega (arith, is, counts_up s id v at live r whole empty none' i low)),
+            (λ low. let is = word_is s id v at live r whole empty looked i low in omega (arith, is, counts_up s id v at live r whole empty looked none' i low)),
           )),
           r.told.1.once id v at live,
           (let same = length-some all.0 in omega (arith, r.homes_long, same, ap length all.1)),
           omega (arith, r.size, r.consistent.counters, ap length r.words_are, length-append r.machine.counters r.others),
+          clear s id v at live r whole empty looked,
         ),
       )

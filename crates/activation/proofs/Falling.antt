@@ -11,11 +11,11 @@ use Rattle.jack_types.specs.declared.ports.Link.{Link}
 use Rattle.session_model.specs.Activation.{Place, Waiting, Held, Machine, StartNode, ReleaseLink, no_link, link_at, is_started, is_released, place_of, IsConsistent, IsDone}
 use Rattle.session_laws.proofs.ActivationLemmas.{IsConsistent-moved}
 use Rattle.activation.specs.declared.views.View.{View}
-use Rattle.activation.specs.Rule.{has, IsUsual, node_of, Knows, Lies, AreTold, Cycle, Rule}
+use Rattle.activation.specs.Rule.{has, IsUsual, left_word, node_of, Knows, Lies, AreTold, Cycle, Rule}
 use Rattle.activation.specs.Plays.{mark_after, hold_after, start_after, release_after, started_by, released_by, IsNew}
 use Rattle.activation.proofs.Machines.{start_counts, open_counts}
 use Rattle.activation.proofs.Courses.{fell}
-use Rattle.activation.proofs.Keeping.{same_seat, held_waiting, in_cycle, mine, renew, slot_stays, slot_own, others_know, told_start, told_release}
+use Rattle.activation.proofs.Keeping.{same_seat, held_waiting, in_cycle, mine, renew, slot_stays, slot_own, others_know, told_start, told_release, left_stays}
 use Rattle.activation.proofs.Testing.{has_here, has_skip, has_there, off_or_on}
 
 module _ {S B : Type 0} (full done : List Link → List B → ℕ → S → Type 0) where
@@ -57,6 +57,9 @@ module _ {S B : Type 0} (full done : List Link → List B → ℕ → S → Type
     -- the machine with the step marked, and its counter lowered
     lowered : List ℕ → List Bool → List Bool → List Place → Machine
     lowered counters started released places = record { counters = counters; started = started; places = places; released = released }
+
+    far : (y k : ℕ) → N + 513 ≤ k → get_elem? (set s.words t y) k ≡ get_elem? s.words k
+    far y k h = set_else s.words t k y (λ e. absurd (omega (arith, h, e, near)))
 
     -- what the step marks, and what becomes of the slots
     pub record Marks (started released : List Bool) (starts frees : List ℕ) (hs : List (Option S)) : Type 0 where
@@ -117,6 +120,7 @@ module _ {S B : Type 0} (full done : List Link → List B → ℕ → S → Type
           subst (λ (k : Bool × Place). Lies full done links v.duty.before st k.1 k.0 n q) (λ i. (sym x.0 i, (sym idle ∙ ap (place_of m) (sym x.1)) i)) there)
           (marks.slots q b n goes))
           (marks.told (mark_after v starts frees) refl live off refl refl m.places)
+          (left_stays full done links v.duty.before v.duty.seats s r id v at live (mark_after v starts frees) refl live off (after m.places) (set s.words t (c - 1)) hs (far (c - 1)) refl (λ n. inl refl))
 
       -- the node was not held, and none of its links was released
       pub is_new : IsNew v (hold_after (mark_after v starts frees) t) t
@@ -180,17 +184,21 @@ module _ {S B : Type 0} (full done : List Link → List B → ℕ → S → Type
           (λ _. ⊎_elim
           (λ (x : Lies full done links v.duty.before s (place_of m n) b n q × (get_elem? hs q ≡ get_elem? s.homes q) × (has v.hand.out q ≡ false)).
           let y = came b n q (subst (λ p. Lies full done links v.duty.before s p b n q) (ap (place_of m) is ∙ idle) x.0) in
-          (y.0, ((λ on _ _. y.1 on), (λ _ h. absurd (true≢false (sym h)))), x.1 ∙ y.2))
+          (y.0, ((λ on _ _. y.1 on), (λ _ h. absurd (true≢false (sym h))), (λ _ h. absurd (true≢false (sym h)))), x.1 ∙ y.2))
           (λ (x : (b ≡ true) × (n ≡ t) × ((y : S) × full links v.duty.before q y × (get_elem? hs q ≡ some (some y)))).
-          (x.2.0, ((λ _ _ _. x.2.1), (λ _ h. absurd (true≢false (sym h)))), x.2.2))
+          (x.2.0, ((λ _ _ _. x.2.1), (λ _ h. absurd (true≢false (sym h))), (λ _ h. absurd (true≢false (sym h)))), x.2.2))
           (marks.slots q b n goes))))
           (λ ne. subst (λ p. Lies full done links v.duty.before st p b n q) (sym (elsewhere n ne)) (⊎_elim
           (λ (x : Lies full done links v.duty.before s (place_of m n) b n q × (get_elem? hs q ≡ get_elem? s.homes q) × (has v.hand.out q ≡ false)).
           slot_stays full done links v.duty.before v.duty.seats s r id v at live held refl live off (set s.words t (c - 1)) hs (place_of m n) b n q x.1 (λ _. x.2)
-          (λ y h. ((λ on node _. absurd (ne (sym node))), (λ _ h'. absurd (true≢false (sym h'))))) x.0)
+          (λ y h. ((λ on node _. absurd (ne (sym node))), (λ _ h'. absurd (true≢false (sym h'))), (λ _ h'. absurd (true≢false (sym h'))))) x.0)
           (λ (x : (b ≡ true) × (n ≡ t) × ((y : S) × full links v.duty.before q y × (get_elem? hs q ≡ some (some y)))). absurd (ne x.1))
           (marks.slots q b n goes))))
           (marks.told held refl live off refl refl places)
+          (left_stays full done links v.duty.before v.duty.seats s r id v at live held refl live off (after places) (set s.words t (c - 1)) hs (far (c - 1)) refl
+          (λ n. dite (ℕ_discrete n t)
+          (λ is. inr (ap left_word (ap (λ k. get_or places k Waiting) is ∙ placed), ap left_word (ap (place_of m) is ∙ idle)))
+          (λ ne. inl (elsewhere n ne))))
 
   pub starts_node : (n id : ℕ) (v : View S B) (t a : ℕ) (tail : List (ℕ × S)) → v.is_live ≡ true → v.is_still ≡ false → v.duty.shares ≡ a ∷ [] → a < v.duty.seats → t % v.duty.seats ≡ a → t < length v.duty.before
       → has v.duty.started t ≡ false → v.hand.out ≡ []

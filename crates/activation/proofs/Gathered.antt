@@ -49,6 +49,7 @@ module _ {B Y M : Type 0} where
       pub seats : one.me.0.duty.seats ≡ count
       pub shares : one.me.0.duty.shares ≡ from_to 0 k
       pub empty : one.me.0.duty.held ≡ []
+      pub looked : one.me.0.duty.left ≡ []
       pub before : (before : List B) → Know before all → one.me.0.duty.before ≡ before
       pub played : HavePlayed nodes count all → (n : ℕ) → n < nodes → n % count < k → has one.me.0.duty.started n ≡ true
       pub unused : AreUnused all → one.me.0.duty.started ≡ []
@@ -58,6 +59,9 @@ module _ {B Y M : Type 0} where
 
     pub empty_at : (are : AreSeats id links nodes count all) (k : ℕ) (d : Seat B Y M) → k < count → (get_or all k d).token.me.0.duty.held ≡ []
     empty_at are k d low = (are.each k d (omega (arith, low, long_as all count are.numbers))).1
+
+    pub looked_at : (are : AreSeats id links nodes count all) (k : ℕ) (d : Seat B Y M) → k < count → (get_or all k d).token.me.0.duty.left ≡ []
+    looked_at are k d low = (are.each k d (omega (arith, low, long_as all count are.numbers))).2
 
     pub joined_first : (are : AreSeats id links nodes count all) (d : Seat B Y M) (one : Token (Option (Item B Y)) (View (Option (Item B Y)) B)) → 0 < count → one.table_id ≡ id → one.me ≡ (get_or all 0 d).token.me → Joined 1 one
     joined_first are d one some table is =
@@ -74,6 +78,7 @@ module _ {B Y M : Type 0} where
           seats = ap (λ (m : Me (Option (Item B Y)) (View (Option (Item B Y)) B)). m.0.duty.seats) is ∙ s.same_seats;
           shares = ap (λ (m : Me (Option (Item B Y)) (View (Option (Item B Y)) B)). m.0.duty.shares) is ∙ s.shares;
           empty = ap (λ (m : Me (Option (Item B Y)) (View (Option (Item B Y)) B)). m.0.duty.held) is ∙ empty_at are 0 d some;
+          looked = ap (λ (m : Me (Option (Item B Y)) (View (Option (Item B Y)) B)). m.0.duty.left) is ∙ looked_at are 0 d some;
           before = λ before know. ap (λ (m : Me (Option (Item B Y)) (View (Option (Item B Y)) B)). m.0.duty.before) is ∙ know 0 d low;
           played = λ all' n inside h. let zero' : n % count ≡ 0 = omega (arith, h) in ap (λ (m : Me (Option (Item B Y)) (View (Option (Item B Y)) B)). has m.0.duty.started n) is ∙ all' 0 d low n inside (zero' ∙ sym (number_at all count 0 d are.numbers some));
           unused = λ none. ap (λ (m : Me (Option (Item B Y)) (View (Option (Item B Y)) B)). m.0.duty.started) is ∙ none 0 d low;
@@ -95,6 +100,7 @@ module _ {B Y M : Type 0} where
           seats = ap (λ (m : Me (Option (Item B Y)) (View (Option (Item B Y)) B)). m.0.duty.seats) now ∙ j.seats;
           shares = ap (λ (m : Me (Option (Item B Y)) (View (Option (Item B Y)) B)). m.0.duty.shares) now ∙ ((λ i. j.shares i ++ (ap (λ m. m.0.duty.shares) is ∙ s.shares) i) ∙ (ap (λ n. from_to 0 k ++ n ∷ []) zero_more ∙ from_to-snoc 0 k));
           empty = ap (λ (m : Me (Option (Item B Y)) (View (Option (Item B Y)) B)). m.0.duty.held) now ∙ j.empty;
+          looked = ap (λ (m : Me (Option (Item B Y)) (View (Option (Item B Y)) B)). m.0.duty.left) now ∙ j.looked;
           before = λ before know. ap (λ (m : Me (Option (Item B Y)) (View (Option (Item B Y)) B)). m.0.duty.before) now ∙ j.before before know;
           played = λ all' n within h. ap (λ (m : Me (Option (Item B Y)) (View (Option (Item B Y)) B)). has m.0.duty.started n) now ∙ dite (ℕ_discrete (n % count) k)
               (λ e. has_right one.me.0.duty.started other.me.0.duty.started n (ap (λ m. has m.0.duty.started n) is ∙ all' k d inside n within (e ∙ sym (number_at all count k d are.numbers low))))
@@ -117,6 +123,7 @@ module _ {B Y M : Type 0} where
               same_seats = ap (λ duty. duty.seats) s.duty;
             },
             ap (λ duty. duty.held) s.duty,
+            ap (λ duty. duty.left) s.duty,
           );
     },
     (λ k d low. (each k d low).duty),

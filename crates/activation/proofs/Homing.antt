@@ -5,14 +5,15 @@ use mathlib.Core.Option.{none, some}
 use native.Mathlib.Decide.{ℕ_discrete}
 use lib.ListN.{get_elem?}
 use Rattle.atomic_table.specs.Table.{State, keeps, step, Allows}
+use Rattle.atomic_table.proofs.Lists.{set_else}
 use Rattle.jack_types.specs.declared.ports.Link.{Link}
 use Rattle.session_model.specs.Activation.{Place, Waiting, Held, AtHome, Machine, HomeNode, link_at, outgoing, is_released, place_of}
 use Rattle.session_laws.proofs.ActivationLemmas.{IsConsistent-moved}
 use Rattle.activation.specs.declared.views.Hand.{Hand}
 use Rattle.activation.specs.declared.views.View.{View}
-use Rattle.activation.specs.Rule.{has, IsUsual, node_of, Goes, Keeps, Lies, Rule}
+use Rattle.activation.specs.Rule.{has, IsUsual, left_word, node_of, Goes, Keeps, Lies, Rule}
 use Rattle.activation.specs.Plays.{without, first_of, home_after, came_home}
-use Rattle.activation.proofs.Keeping.{same_seat, held_waiting, held_home, set_behind, in_cycle, mine, inside, renew, slot_stays, others_know, told_same}
+use Rattle.activation.proofs.Keeping.{same_seat, held_waiting, held_home, set_behind, in_cycle, mine, inside, renew, slot_stays, others_know, told_same, left_stays}
 use Rattle.activation.proofs.Testing.{has_here, has_skip}
 
 -- what is left when n is taken out of a list
@@ -32,25 +33,26 @@ not_without n (x ∷ xs) = pick (x == n) refl (not_without n xs)
     pick true e h = h
     pick false e h = has_skip x (without n xs) n (λ s. true≢false (sym (eq-eqb x n s) ∙ e)) ∙ h
 
+-- a list that begins with t and has the slot of each link into t has every filled slot that goes with t
+pub slots_at : (links : List Link) (nodes : ℕ) (m : Machine) (list more : List ℕ) (t : ℕ) → list ≡ t ∷ more → ((l : ℕ) → l < length links → (link_at links l).to ≡ t → has list (nodes + l) ≡ true)
+    → (q : ℕ) (b : Bool) (j : ℕ) → Goes links nodes m q b j → b ≡ true → j ≡ t → has list q ≡ true
+slots_at links nodes m list more t is filled q b j (inl g) on e = ap (has list) (sym g.1 ∙ e) ∙ (ap (λ (xs : List ℕ). has xs t) is ∙ has_here t more)
+slots_at links nodes m list more t is filled q b j (inr g) on e =
+    let lit : is_released m g.0 ≡ true = sym g.3 ∙ on in
+    ap (has list) g.2 ∙ filled g.0 g.1 (ap (λ z. node_of links z g.0) (sym lit) ∙ (sym g.4 ∙ e))
+
 module _ {S B : Type 0} (full done : List Link → List B → ℕ → S → Type 0) where
   laid_down : (links : List Link) (before : List B) (s : State S (View S B)) (ws : List ℕ) (vs : List (View S B)) (hand : Hand) (b : Bool) (j q : ℕ) → (b ≡ true → has hand.ready q ≡ true)
       → (x : S) × Keeps full done links before s hand b j q x × (get_elem? s.homes q ≡ some (some x)) → Lies full done links before record { words = ws; homes = s.homes; views = vs } AtHome b j q
   laid_down links before s ws vs hand true j q ready h = (h.0, h.1.1 refl (ready refl), h.2)
   laid_down links before s ws vs hand false j q ready h = tt
 
-  ready_at : (links : List Link) (nodes : ℕ) (m : Machine) (ready more : List ℕ) (t : ℕ) → ready ≡ t ∷ more → ((l : ℕ) → l < length links → (link_at links l).to ≡ t → has ready (nodes + l) ≡ true)
-      → (q : ℕ) (b : Bool) (j : ℕ) → Goes links nodes m q b j → b ≡ true → j ≡ t → has ready q ≡ true
-  ready_at links nodes m ready more t is filled q b j (inl g) on e = ap (has ready) (sym g.1 ∙ e) ∙ (ap (λ (xs : List ℕ). has xs t) is ∙ has_here t more)
-  ready_at links nodes m ready more t is filled q b j (inr g) on e =
-      let lit : is_released m g.0 ≡ true = sym g.3 ∙ on in
-      ap (has ready) g.2 ∙ filled g.0 g.1 (ap (λ z. node_of links z g.0) (sym lit) ∙ (sym g.4 ∙ e))
-
   pub comes_home : (n id : ℕ) (v : View S B) (i t a : ℕ) (more : List ℕ) (tail : List (ℕ × S)) → v.is_live ≡ true → v.is_still ≡ false → v.duty.shares ≡ a ∷ [] → v.hand.out ≡ [] → v.hand.ready ≡ t ∷ more
-      → has v.duty.held t ≡ true → length v.duty.before ≤ i
+      → has v.duty.held t ≡ true → length v.duty.before ≤ i → i < length v.duty.before + 513
       → ((l : ℕ) → l < length v.duty.links → (link_at v.duty.links l).to ≡ t → has v.hand.ready (length v.duty.before + l) ≡ true)
       → All (λ l. has v.duty.released l ≡ true) (outgoing v.duty.links t)
       → Allows (Rule full done) n id (v, tail) i (λ x. (x + (2 ^ 64 - 1)) % 2 ^ 64) (came_home (step n i 1 0 none) (v, tail))
-  comes_home n id v i t a more tail live off shares empty ready holds past filled out s rule wide at small =
+  comes_home n id v i t a more tail live off shares empty ready holds past short filled out s rule wide at small =
       let r = in_cycle full done s id v rule at live off in
       let m : Machine = r.machine in
       let links : List Link = v.duty.links in
@@ -111,11 +113,15 @@ module _ {S B : Type 0} (full done : List Link → List B → ℕ → S → Type
               (λ q ne. refl) (λ l ne. refl) (λ q h. h) (λ l h. h))
               (λ q b j goes. dite (ℕ_discrete j t)
               (λ e. subst (λ p. Lies full done links v.duty.before st p b j q) (sym (ap (λ z. get_or places z Waiting) e ∙ placed))
-              (laid_down links v.duty.before s (set s.words i y) (set s.views id w) v.hand b j q (λ on. ready_at links N m v.hand.ready more t ready filled q b j goes on e)
+              (laid_down links v.duty.before s (set s.words i y) (set s.views id w) v.hand b j q (λ on. slots_at links N m v.hand.ready more t ready filled q b j goes on e)
               (subst (λ p. Lies full done links v.duty.before s p b j q) (ap (place_of m) e ∙ held) (r.slots q b j goes) id v at live here (none_out q))))
               (λ ne. subst (λ p. Lies full done links v.duty.before st p b j q) (sym (elsewhere j ne))
-              (slot_stays full done links v.duty.before v.duty.seats s r id v at live w refl live off (set s.words i y) s.homes (place_of m j) b j q refl (λ o. o) (λ x h. (h.0, (λ on h'. absurd (true≢false (sym h'))))) (r.slots q b j goes))))
-              (told_same full done links v.duty.before v.duty.seats s r id v at live w refl live off machine refl refl (λ j h. h) (λ l h. h)),
+              (slot_stays full done links v.duty.before v.duty.seats s r id v at live w refl live off (set s.words i y) s.homes (place_of m j) b j q refl (λ o. o) (λ x h. (h.0, (λ on h'. absurd (true≢false (sym h'))), h.2)) (r.slots q b j goes))))
+              (told_same full done links v.duty.before v.duty.seats s r id v at live w refl live off machine refl refl (λ j h. h) (λ l h. h))
+              (left_stays full done links v.duty.before v.duty.seats s r id v at live w refl live off machine (set s.words i y) s.homes (λ k h. set_else s.words i k y (λ e. absurd (omega (arith, h, e, short)))) refl
+              (λ j. dite (ℕ_discrete j t)
+              (λ e. inr (ap left_word (ap (λ z. get_or places z Waiting) e ∙ placed), ap left_word (ap (place_of m) e ∙ held)))
+              (λ ne. inl (elsewhere j ne)))),
         )),
         refl,
       )

@@ -1,5 +1,5 @@
 -- What every step of a seat keeps of the rule, over plain data.
-use Rattle.std.proofs.Common.{◌≡◌, ◌≢◌, ℕ, zero, suc, ◌+◌, ◌%◌, ◌<◌, ◌≤◌, Bool, true, false, List, [], ◌∷◌, ◌++◌, length, get_or, set, refl, sym, ◌∙◌, ap, subst, ⊎_elim, inl, inr, arith, true≢false}
+use Rattle.std.proofs.Common.{◌≡◌, ◌≢◌, ℕ, zero, suc, ◌+◌, ◌%◌, ◌<◌, ◌≤◌, ◌⊎◌, Bool, true, false, List, [], ◌∷◌, ◌++◌, length, get_or, set, refl, sym, ◌∙◌, ap, subst, ⊎_elim, inl, inr, arith, true≢false}
 use mathlib.Core.Option.{Option, some, some-injective}
 use lib.ListN.{get_elem?}
 use Rattle.atomic_table.specs.Table.{State}
@@ -8,8 +8,8 @@ use Rattle.table_lemmas.proofs.Views.{each_set}
 use Rattle.jack_types.specs.declared.ports.Link.{Link}
 use Rattle.session_model.specs.Activation.{Place, Waiting, Held, Left, AtHome, Machine, link_at, is_started, is_released, place_of, IsConsistent}
 use Rattle.activation.specs.declared.views.View.{View}
-use Rattle.activation.specs.Rule.{has, IsUsual, Goes, Knows, Keeps, Lies, AreTold, Cycle, Rule}
-use Rattle.activation.proofs.Telling.{told_kept, told_more}
+use Rattle.activation.specs.Rule.{has, IsUsual, left_word, Goes, Knows, Keeps, Lies, IsInSome, AreTold, AreLeft, Cycle, Rule}
+use Rattle.activation.proofs.Telling.{some_set, told_kept, told_more}
 
 pub same_seat : (i j : ℕ) (b c : Bool) → Held i b ≡ Held j c → i ≡ j
 same_seat i j b c e = cc
@@ -91,14 +91,36 @@ module _ {S B : Type 0} (full done : List Link → List B → ℕ → S → Type
         told_more (λ (u : Seen). u.is_live) (λ u. u.duty.released) (length links) (is_released r.machine) (λ j. get_or released j false) s.views id l v w at live stays more off back (λ j u x e m h. (r.each_seat j u e m).1.all_released x h) r.told.1,
       )
 
+      -- a node that was left stands in some seat's list still, where this seat's list keeps it
+      pub left_by : (n : ℕ) → (has v.duty.left n ≡ true → has w.duty.left n ≡ true) → place_of r.machine n ≡ Left → IsInSome (λ (u : Seen). u.is_live) (λ u. u.duty.left) (set s.views id w) n
+      left_by n keeps e = some_set (λ (u : Seen). u.is_live) (λ u. u.duty.left) s.views id v w n at (λ h. (stays, keeps h)) (r.left.by_some n e)
+
+      -- a step that neither leaves nor picks a node
+      pub left_stays : (machine : Machine) (ws : List ℕ) (hs : List (Option S)) → ((k : ℕ) → length before + 513 ≤ k → get_elem? ws k ≡ get_elem? s.words k) → w.duty.left ≡ v.duty.left
+          → ((n : ℕ) → (place_of machine n ≡ place_of r.machine n) ⊎ ((left_word (place_of machine n) ≡ 0) × (left_word (place_of r.machine n) ≡ 0))) → AreLeft (length before) machine (behind ws hs)
+      left_stays machine ws hs far same places = record {
+        words_are = λ n low. far (length before + 513 + n) (omega arith) ∙ (r.left.words_are n low ∙ ap some (⊎_elim
+            (λ (e : place_of machine n ≡ place_of r.machine n). ap left_word (sym e))
+            (λ (e : (left_word (place_of machine n) ≡ 0) × (left_word (place_of r.machine n) ≡ 0)). e.1 ∙ sym e.0)
+            (places n)));
+        by_some = λ n e. left_by n (λ h. ap (λ (xs : List ℕ). has xs n) same ∙ h) (⊎_elim
+            (λ (e' : place_of machine n ≡ place_of r.machine n). sym e' ∙ e)
+            (λ (e' : (left_word (place_of machine n) ≡ 0) × (left_word (place_of r.machine n) ≡ 0)). absurd (not_both (left_word (place_of machine n)) (ap left_word e) e'.0))
+            (places n));
+      }
+        where
+          not_both : (word : ℕ) → word ≡ 1 → word ≡ 0 → ⊥
+          not_both word on off' = omega (arith, on, off')
+
       -- the state behind a step
       pub renew : (machine : Machine) (ws others : List ℕ) (hs : List (Option S)) → length machine.places ≡ length before → IsConsistent links machine → ((n : ℕ) → IsUsual seats (place_of machine n))
           → ws ≡ machine.counters ++ others → length hs ≡ length s.homes → ((q : ℕ) → length before + length links ≤ q → get_elem? hs q ≡ get_elem? s.homes q) → Knows links before seats machine w.duty
           → ((j : ℕ) (u : Seen) → j ≢ id → get_elem? s.views j ≡ some u → u.is_live ≡ true → Knows links before seats machine u.duty)
           → ((q : ℕ) (b : Bool) (n : ℕ) → Goes links (length before) machine q b n → Lies full done links before (behind ws hs) (place_of machine n) b n q)
           → AreTold links (length before) machine (set s.views id w)
+          → AreLeft (length before) machine (behind ws hs)
           → Cycle full done links before seats (behind ws hs)
-      renew machine ws others hs size consistent usual words long same own knows slots told = record {
+      renew machine ws others hs size consistent usual words long same own knows slots told left = record {
         machine = machine;
         others = others;
         are = r.are;
@@ -113,6 +135,7 @@ module _ {S B : Type 0} (full done : List Link → List B → ℕ → S → Type
         each_seat = each_set (λ j u. u.is_live ≡ true → (u.is_still ≡ false) × Knows links before seats machine u.duty) s.views id w
             (λ _. (off, own)) (λ j u other e l. ((r.each_seat j u e l).0, knows j u other e l));
         told = told;
+        left = left;
         alone = λ i j a b seat e f l m g h.
             let p = was i a e l in
             let q = was j b f m in
@@ -132,7 +155,8 @@ module _ {S B : Type 0} (full done : List Link → List B → ℕ → S → Type
           (old.0, subst (λ (y : Seen). Keeps full done links before s y.hand b n q old.0) x.1 (keeps old.0 old.1), same ∙ old.2))
           (λ (x : (j ≢ id) × (get_elem? s.views j ≡ some u)). let old = h j u x.1 l a o in (old.0, old.1, same ∙ old.2))
           (at_set s.views id j w u e)
-      slot_stays ws hs Left b n q same out keeps h = h
+      slot_stays ws hs Left true n q same out keeps h = (h.0, h.1, same ∙ h.2)
+      slot_stays ws hs Left false n q same out keeps h = (h.0, h.1, same ∙ h.2)
       slot_stays ws hs AtHome true n q same out keeps h = (h.0, h.1, same ∙ h.2)
       slot_stays ws hs AtHome false n q same out keeps h = tt
 

@@ -13,9 +13,9 @@ use Rattle.session_model.specs.Activation.{Held, link_at, is_released, place_of}
 use Rattle.activation.specs.declared.views.Hand.{Hand}
 use Rattle.activation.specs.declared.views.View.{View}
 use Rattle.activation.specs.Rule.{has, node_of, Goes, Keeps, Lies, Cycle, Rule}
-use Rattle.activation.specs.Plays.{IsSlotOf, Owns, with_hand, out_after, taken, opened, filled}
+use Rattle.activation.specs.Plays.{IsSlotOf, Owns, with_hand, out_after, taken, opened, filled, refilled}
 use Rattle.activation.proofs.Machines.{taken_released}
-use Rattle.activation.proofs.Keeping.{held_waiting, in_cycle, mine, inside, renew, slot_stays, slot_own, told_same}
+use Rattle.activation.proofs.Keeping.{held_waiting, in_cycle, mine, inside, renew, slot_stays, slot_own, told_same, left_stays}
 use Rattle.activation.proofs.Testing.{has_here, has_skip}
 
 module _ {S B : Type 0} (full done : List Link → List B → ℕ → S → Type 0) where
@@ -86,7 +86,8 @@ module _ {S B : Type 0} (full done : List Link → List B → ℕ → S → Type
               (slot_own full done v.duty.links v.duty.before v.duty.seats s r id v at live w refl live off (set s.words q (get_or s.words q 0)) (set s.homes q none) mine'.0 true b m k mine'.1
               (λ gone. absurd (true≢false (sym (ap (has (q ∷ [])) is ∙ has_here q []) ∙ gone)))))
               (λ ne. slot_stays full done v.duty.links v.duty.before v.duty.seats s r id v at live w refl live off (set s.words q (get_or s.words q 0)) (set s.homes q none) (place_of r.machine m) b m k (set_else s.homes q k none ne) (λ _. none_out k) (λ x h. h) (r.slots k b m goes)))
-              (told_same full done v.duty.links v.duty.before v.duty.seats s r id v at live w refl live off r.machine refl refl (λ j h. h) (λ l h. h)),
+              (told_same full done v.duty.links v.duty.before v.duty.seats s r id v at live w refl live off r.machine refl refl (λ j h. h) (λ l h. h))
+              (left_stays full done v.duty.links v.duty.before v.duty.seats s r id v at live w refl live off r.machine (set s.words q (get_or s.words q 0)) (set s.homes q none) (λ k h. ap (λ ws. get_elem? ws k) words) refl (λ j. inl refl)),
         ),
         (
           refl,
@@ -120,19 +121,27 @@ module _ {S B : Type 0} (full done : List Link → List B → ℕ → S → Type
               (λ _. (x, subst (λ j. Keeps full done v.duty.links v.duty.before s hand b m j x) (sym is) (here b m within), ap (get_elem? (set s.homes q (some x))) is ∙ set_here s.homes q (some x) (omega (arith, within, r.homes_long))))))
               (λ ne. slot_stays full done v.duty.links v.duty.before v.duty.seats s r id v at live w refl live off (set s.words i (get_or s.words i 0)) (set s.homes q (some x)) (place_of r.machine m) b m k (set_else s.homes q k (some x) ne)
               (λ _. ap (λ (xs : List ℕ). has xs k) out ∙ has_skip q [] k (λ e. ne (sym e))) (λ y h. there k b m y ne (low s id v at live r k b m goes) h) (r.slots k b m goes)))
-              (told_same full done v.duty.links v.duty.before v.duty.seats s r id v at live w refl live off r.machine refl refl (λ j h. h) (λ l h. h)),
+              (told_same full done v.duty.links v.duty.before v.duty.seats s r id v at live w refl live off r.machine refl refl (λ j h. h) (λ l h. h))
+              (left_stays full done v.duty.links v.duty.before v.duty.seats s r id v at live w refl live off r.machine (set s.words i (get_or s.words i 0)) (set s.homes q (some x)) (λ k h. ap (λ ws. get_elem? ws k) words) refl (λ j. inl refl)),
         ),
         refl,
       )
 
   pub opens : (n id : ℕ) (v : View S B) (i q : ℕ) (x : S) (tail : List (ℕ × S)) → v.is_live ≡ true → v.is_still ≡ false → v.hand.out ≡ q ∷ [] → Owns v q → v.hand.floor ≤ q
       → Allows (Rule full done) n id (v, (q, x) ∷ tail) i (λ c. c) (opened (step n i 0 0 none) (v, (q, x) ∷ tail))
-  opens n id v i q x tail live off out owns floor = gives_back n id v i q x tail record { out = []; node = v.hand.node; floor = suc q; ready = [] } live off out owns
-      (λ b m low. ((λ _ _ le. absurd (omega (arith, le))), (λ _ h. absurd (true≢false (sym h)))))
-      (λ k b m y ne low h. ((λ on node le. h.0 on node (omega (arith, le, floor))), (λ _ h'. absurd (true≢false (sym h')))))
+  opens n id v i q x tail live off out owns floor = gives_back n id v i q x tail record { out = []; node = v.hand.node; floor = suc q; ready = []; back = [] } live off out owns
+      (λ b m low. ((λ _ _ le. absurd (omega (arith, le))), (λ _ h. absurd (true≢false (sym h))), (λ _ h. absurd (true≢false (sym h)))))
+      (λ k b m y ne low h. ((λ on node le. h.0 on node (omega (arith, le, floor))), (λ _ h'. absurd (true≢false (sym h'))), (λ _ h'. absurd (true≢false (sym h')))))
 
   pub fills : (n id : ℕ) (v : View S B) (i q : ℕ) (x : S) (tail : List (ℕ × S)) → v.is_live ≡ true → v.is_still ≡ false → v.hand.out ≡ q ∷ [] → Owns v q → done v.duty.links v.duty.before q x
       → Allows (Rule full done) n id (v, (q, x) ∷ tail) i (λ c. c) (filled (step n i 0 0 none) (v, (q, x) ∷ tail))
-  fills n id v i q x tail live off out owns is = gives_back n id v i q x tail record { out = []; node = v.hand.node; floor = length v.duty.before + length v.duty.links; ready = q ∷ v.hand.ready } live off out owns
-      (λ b m low. ((λ _ _ le. absurd (omega (arith, le, low))), (λ _ h. is)))
-      (λ k b m y ne low h. ((λ on node le. absurd (omega (arith, le, low))), (λ on h'. h.1 on (sym (has_skip q v.hand.ready k (λ e. ne (sym e))) ∙ h'))))
+  fills n id v i q x tail live off out owns is = gives_back n id v i q x tail record { out = []; node = v.hand.node; floor = length v.duty.before + length v.duty.links; ready = q ∷ v.hand.ready; back = [] } live off out owns
+      (λ b m low. ((λ _ _ le. absurd (omega (arith, le, low))), (λ _ h. is), (λ _ h. absurd (true≢false (sym h)))))
+      (λ k b m y ne low h. ((λ on node le. absurd (omega (arith, le, low))), (λ on h'. h.1 on (sym (has_skip q v.hand.ready k (λ e. ne (sym e))) ∙ h')), (λ _ h'. absurd (true≢false (sym h')))))
+
+  pub refills : (n id : ℕ) (v : View S B) (i q : ℕ) (x : S) (tail : List (ℕ × S)) → v.is_live ≡ true → v.is_still ≡ false → v.hand.out ≡ q ∷ [] → Owns v q → full v.duty.links v.duty.before q x
+      → Allows (Rule full done) n id (v, (q, x) ∷ tail) i (λ c. c) (refilled (step n i 0 0 none) (v, (q, x) ∷ tail))
+  refills n id v i q x tail live off out owns is =
+      gives_back n id v i q x tail record { out = []; node = v.hand.node; floor = length v.duty.before + length v.duty.links; ready = []; back = q ∷ v.hand.back } live off out owns
+      (λ b m low. ((λ _ _ le. absurd (omega (arith, le, low))), (λ _ h. absurd (true≢false (sym h))), (λ _ h. is)))
+      (λ k b m y ne low h. ((λ on node le. absurd (omega (arith, le, low))), (λ _ h'. absurd (true≢false (sym h'))), (λ on h'. h.2 on (sym (has_skip q v.hand.back k (λ e. ne (sym e))) ∙ h'))))

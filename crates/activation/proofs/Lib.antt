@@ -9,7 +9,9 @@ mod Homing
 mod Parting
 mod Stilling
 mod Entering
+mod Beginning
 mod Leaving
+pub mod Looking
 mod Acting
 pub mod Listed
 mod Played

@@ -1,9 +1,11 @@
 -- What the counters of a machine say of its links, and the machine behind a step that takes a node and counts it as played.
-use Rattle.std.proofs.Common.{◌≡◌, ◌≢◌, ℕ, zero, suc, ◌+◌, ◌<◌, Bool, true, false, cond, not, ◌==◌, List, [], ◌∷◌, length, set, get_or, slice_index, count_by, Contains, refl, sym, ◌∙◌, ap, arith, true≢false, eqb-true, eq-eqb}
+use Rattle.std.proofs.Common.{◌≡◌, ◌≢◌, ℕ, zero, suc, ◌+◌, ◌<◌, Bool, true, false, cond, not, ◌==◌, List, [], ◌∷◌, length, set, get_or, slice_index, count_by, Contains, refl, sym, ◌∙◌, ap, subst, arith, true≢false, eqb-true, eq-eqb, length-set, get_or-set_same, get_or-set_other}
+use mathlib.Core.Logic.{dite}
+use native.Mathlib.Decide.{ℕ_discrete}
 use Rattle.std.proofs.lemmas.Bool.Decides.{nat_tests}
 use Rattle.std.proofs.lemmas.List.Sums.{sum_by-cons}
 use Rattle.jack_types.specs.declared.ports.Link.{Link}
-use Rattle.session_model.specs.Activation.{Waiting, Machine, link_at, incoming, is_started, is_released, place_of, open_links, IsConsistent}
+use Rattle.session_model.specs.Activation.{Place, Waiting, AtHome, Machine, link_at, incoming, is_started, is_released, place_of, open_links, IsDone, IsConsistent}
 use Rattle.session_model.specs.Samples.{below}
 use Rattle.session_laws.proofs.ListLemmas.{Each, Each-contains, Contains-kept}
 use Rattle.session_laws.proofs.ActivationLemmas.{below-contains}
@@ -60,6 +62,29 @@ module _ (links : List Link) where
       cases : (b : Bool) → is_released machine l ≡ b → is_released machine l ≡ true
       cases true e = e
       cases false e = absurd (held ((c.nodes n inside).waits.1 (open_counts machine c n l inside h to e)))
+
+  -- a node that does not wait comes to another place
+  pub moved_place : (machine : Machine) → IsConsistent links machine → (n : ℕ) (p : Place) → n < length machine.places → place_of machine n ≢ Waiting → p ≢ Waiting → p ≢ AtHome
+      → ((l : ℕ) → l < length links → (link_at links l).from ≡ n → is_released machine l ≡ true → IsDone p) → IsConsistent links (record machine { places = set machine.places n p })
+  moved_place machine c n p inside old waits home over =
+      let places : List Place = set machine.places n p in
+      let same : length places ≡ length machine.places = length-set machine.places n p in
+      let placed : (k : ℕ) → k ≡ n → get_or places k Waiting ≡ p = λ k e. ap (λ j. get_or places j Waiting) e ∙ get_or-set_same machine.places n p Waiting inside in
+      let elsewhere : (k : ℕ) → k ≢ n → get_or places k Waiting ≡ place_of machine k = λ k ne. get_or-set_other machine.places n k p Waiting ne in record {
+        counters = c.counters ∙ sym same;
+        started = c.started ∙ sym same;
+        released = c.released;
+        nodes = λ k low. let node = c.nodes k (omega (arith, low, same)) in record {
+          counter = node.counter;
+          waits = dite (ℕ_discrete k n)
+              (λ e. ((λ w. absurd (waits (sym (placed k e) ∙ w))), (λ more. absurd (old (ap (place_of machine) (sym e) ∙ node.waits.1 more)))))
+              (λ ne. ((λ w. node.waits.0 (sym (elsewhere k ne) ∙ w)), (λ more. elsewhere k ne ∙ node.waits.1 more)));
+          home = λ e. dite (ℕ_discrete k n) (λ is. absurd (home (sym (placed k is) ∙ e))) (λ ne. node.home (sym (elsewhere k ne) ∙ e));
+        };
+        sources = λ l low on. dite (ℕ_discrete (link_at links l).from n)
+            (λ e. subst IsDone (sym (placed (link_at links l).from e)) (over l low e on))
+            (λ ne. subst IsDone (sym (elsewhere (link_at links l).from ne)) (c.sources l low on));
+      }
 
 -- within a list the default does not count
 pub get_or_any : {A : Type 0} (l : List A) (i : ℕ) (a d : A) → i < length l → get_or l i a ≡ get_or l i d

@@ -13,7 +13,7 @@ use Rattle.activation.specs.declared.views.View.{View}
 use Rattle.activation.specs.Rule.{has, IsUsual, Knows, Keeps, Lies, Rule}
 use Rattle.activation.specs.Plays.{rest_of, first_of, left_of, right_of, joined, nobody}
 use Rattle.activation.proofs.Keeping.{in_cycle, mine}
-use Rattle.activation.proofs.Telling.{told_split, told_joined, told_husk}
+use Rattle.activation.proofs.Telling.{some_set, some_longer, told_split, told_joined, told_husk}
 use Rattle.activation.proofs.Testing.{has_append, has_here, has_left, has_right, has_skip, has_there, same_test}
 
 module _ {S B : Type 0} (full done : List Link → List B → ℕ → S → Type 0) where
@@ -34,7 +34,8 @@ module _ {S B : Type 0} (full done : List Link → List B → ℕ → S → Type
       let k = old seat c refl j u e l a o in
       let x = h k.0 k.1 k.2 k.3 k.4 k.5 in
       (x.0, subst (λ hand. Keeps full done links before s hand b n q x.0) k.6 x.1, x.2)
-  lies_still links before s vs Left b n q old h = h
+  lies_still links before s vs Left true n q old h = h
+  lies_still links before s vs Left false n q old h = h
   lies_still links before s vs AtHome true n q old h = h
   lies_still links before s vs AtHome false n q old h = h
 
@@ -102,6 +103,11 @@ module _ {S B : Type 0} (full done : List Link → List B → ℕ → S → Type
             told_split (λ (u : Seen). u.is_live) (λ u. u.duty.started) (length v.duty.before) (is_started r.machine) s.views id v (left_of v) (right_of v) at live unstarted live unstarted (λ _. unstarted) r.told.0,
             told_split (λ (u : Seen). u.is_live) (λ u. u.duty.released) (length v.duty.links) (is_released r.machine) s.views id v (left_of v) (right_of v) at live unreleased live unreleased (λ _. unreleased) r.told.1,
           );
+          left = record {
+            words_are = r.left.words_are;
+            by_some = λ n e. some_longer (λ (u : Seen). u.is_live) (λ u. u.duty.left) (set s.views id (left_of v)) (right_of v ∷ []) n
+                (some_set (λ (u : Seen). u.is_live) (λ u. u.duty.left) s.views id v (left_of v) n at (λ h. (live, h)) (r.left.by_some n e));
+          };
           alone = λ i j u w seat e f l m g h.
               let mineof : (z : Seen) → (y : Seen) → y ≡ z → has z.duty.shares seat ≡ true → has y.duty.shares seat ≡ true = λ z y is t. ap (λ (o : Seen). has o.duty.shares seat) is ∙ t in
               ⊎_elim
@@ -153,13 +159,18 @@ module _ {S B : Type 0} (full done : List Link → List B → ℕ → S → Type
             told_husk (λ (u : Seen). u.is_live) (λ u. u.duty.started) (length v.duty.before) (is_started r.machine) s.views id v nobody at refl r.told.0,
             told_husk (λ (u : Seen). u.is_live) (λ u. u.duty.released) (length v.duty.links) (is_released r.machine) s.views id v nobody at refl r.told.1,
           );
+          left = record {
+            words_are = r.left.words_are;
+            by_some = λ n e. some_longer (λ (u : Seen). u.is_live) (λ u. u.duty.left) (set s.views id v) (nobody ∷ []) n
+                (some_set (λ (u : Seen). u.is_live) (λ u. u.duty.left) s.views id v v n at (λ h. (live, h)) (r.left.by_some n e));
+          };
           alone = λ i j u w seat e f l m g h. r.alone i j u w seat (old i u e l) (old j w f m) l m g h;
         },
       )
 
-  pub joins : (id : ℕ) (v : Seen) (other : ℕ) (w : Seen) → v.is_live ≡ true → v.is_still ≡ false → w.is_live ≡ true → v.duty.held ≡ [] → w.duty.held ≡ [] → v.hand.out ≡ []
+  pub joins : (id : ℕ) (v : Seen) (other : ℕ) (w : Seen) → v.is_live ≡ true → v.is_still ≡ false → w.is_live ≡ true → v.duty.held ≡ [] → w.duty.held ≡ [] → w.duty.left ≡ [] → v.hand.out ≡ []
       → Joins (Rule full done) id v other w (joined v w) nobody
-  joins id v other w live off live' empty empty' none_out s rule at two at' =
+  joins id v other w live off live' empty empty' looked none_out s rule at two at' =
       let r = in_cycle full done s id v rule at live off in
       let there : get_elem? s.views other ≡ some w = ⊎_elim (λ (x : (other ≡ id) × (joined v w ≡ w)). absurd (two x.0)) (λ (x : (other ≢ id) × (get_elem? s.views other ≡ some w)). x.1) (at_set s.views id other (joined v w) w at') in
       let k = mine full done v.duty.links v.duty.before v.duty.seats s r id v at live in
@@ -217,6 +228,11 @@ module _ {S B : Type 0} (full done : List Link → List B → ℕ → S → Type
             told_joined (λ (u : Seen). u.is_live) (λ u. u.duty.started) (length v.duty.before) (is_started r.machine) s.views id other v w (joined v w) nobody at there live live' two live refl refl r.told.0,
             told_joined (λ (u : Seen). u.is_live) (λ u. u.duty.released) (length v.duty.links) (is_released r.machine) s.views id other v w (joined v w) nobody at there live live' two live refl refl r.told.1,
           );
+          left = record {
+            words_are = r.left.words_are;
+            by_some = λ n e. some_set (λ (u : Seen). u.is_live) (λ u. u.duty.left) (set s.views id (joined v w)) other w nobody n at' (λ h. absurd (true≢false (sym h ∙ ap (λ (xs : List ℕ). has xs n) looked)))
+                (some_set (λ (u : Seen). u.is_live) (λ u. u.duty.left) s.views id v (joined v w) n at (λ h. (live, h)) (r.left.by_some n e));
+          };
           alone = λ i j u z seat e f l m g h. ⊎_elim
               (λ (x : (i ≢ id) × (i ≢ other) × (get_elem? s.views i ≡ some u)). ⊎_elim
               (λ (y : (j ≢ id) × (j ≢ other) × (get_elem? s.views j ≡ some z)). r.alone i j u z seat x.2 y.2 l m g h)

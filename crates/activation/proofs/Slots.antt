@@ -5,7 +5,7 @@ use mathlib.Core.Option.{some, some-injective}
 use native.Mathlib.Decide.{ℕ_discrete}
 use lib.ListN.{get_elem?}
 use Rattle.jack_types.specs.declared.ports.Link.{Link}
-use Rattle.session_model.specs.Activation.{link_at, outgoing, place_among}
+use Rattle.session_model.specs.Activation.{link_at, outgoing, place_among, value_of}
 use Rattle.session_laws.proofs.SequentialLemmas.{outgoing_at}
 use Rattle.activation.specs.declared.views.Desk.{Desk}
 use Rattle.activation.specs.declared.views.Duty.{Duty}
@@ -13,9 +13,9 @@ use Rattle.activation.specs.declared.views.View.{View}
 use Rattle.activation.specs.declared.views.Item.TheVariants.{Bench, Value}
 use Rattle.activation.specs.Rule.{has}
 use Rattle.activation.specs.Plays.{Owns}
-use Rattle.activation.specs.Contents.{HasRoomFor, IsFull, IsDone, IsValueOf}
+use Rattle.activation.specs.Contents.{HasRoomFor, IsFull, IsDone, IsValueOf, AreValuesOf}
 use Rattle.activation.specs.Takens.{IsPlayed}
-use Rattle.activation.proofs.Listed.{each_at, outgoing-facts}
+use Rattle.activation.proofs.Listed.{each_at, get_or-map, outgoing-facts}
 use Rattle.activation.proofs.Testing.{has_here, has_skip}
 
 module _ {S B : Type 0} (v : View S B) (links : List Link) (nodes : ℕ) (same : v.duty.links ≡ links) (long : length v.duty.before ≡ nodes) where
@@ -42,6 +42,20 @@ module _ {B M Y : Type 0} (memory : B → M) (has_room : B → ℕ → Bool) (va
     where
       back : l ≡ length benches + l - length benches
       back = omega arith
+
+  pub full_bench : (links : List Link) (benches : List B) (n : ℕ) (desk : Desk B Y) → n < length benches → get_elem? benches n ≡ some desk.bench → HasRoomFor desk → IsFull memory has_room after gives links benches n (Some (Bench desk))
+  full_bench links benches n desk low at room = ((λ _. (desk, refl, at, room)), (λ high. absurd (omega (arith, low, high))))
+
+  -- one of the values that a node was given
+  pub given_value : (links : List Link) (benches : List B) (which : List ℕ) (given : List (Option Y)) (i : ℕ) (value : Y) → AreValuesOf memory has_room after gives links benches which given → i < length which → get_or given i None ≡ Some value
+      → IsValueOf memory has_room after gives links benches (get_or which i 0) value
+  given_value links benches which given i value are low is before tells =
+      let near : i < length are.0 = omega (arith, low, are.2) in
+      let one : Some value ≡ Some (get_or are.0 i value) = sym is ∙ (ap (λ xs. get_or xs i None) are.1 ∙ get_or-map Some are.0 i value None near) in
+      Some-injective value (get_or are.0 i value) one ∙ (ap (λ xs. get_or xs i value) (are.3 before tells) ∙ get_or-map (value_of after gives links before) which i 0 value low)
+    where
+      Some-injective : (a b : Y) → Some a ≡ Some b → a ≡ b
+      Some-injective a b e = cc
 
   pub done_value : (links : List Link) (benches : List B) (nodes l : ℕ) (value : Y) → length benches ≡ nodes → IsDone memory has_room after gives links benches (nodes + l) (Some (Value value))
   done_value links benches nodes l value long = ((λ low. absurd (omega (arith, low, long))), (λ _. (value, refl)))

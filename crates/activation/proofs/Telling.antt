@@ -7,7 +7,7 @@ use lib.ListN.{get_elem?}
 use Rattle.atomic_table.proofs.Lists.{at_set, set_here, set_else, set_again, at_longer}
 use Rattle.table_lemmas.proofs.Views.{each_set, each_snoc, at_snoc_last}
 use Rattle.table_lemmas.proofs.Readings.{inside}
-use Rattle.activation.specs.Rule.{has, Once, Told}
+use Rattle.activation.specs.Rule.{has, Once, IsInSome, Told}
 use Rattle.activation.proofs.Testing.{has_here, has_skip, has_there, has_append, has_left, has_right, off_or_on}
 
 -- two lists that share no number
@@ -17,6 +17,18 @@ Once-append (x ∷ xs) ys one two apart = (
   off_or_on (has (xs ++ ys) x) (λ on. ⊎_elim (λ (h : has xs x ≡ true). true≢false (sym h ∙ one.0)) (λ (h : has ys x ≡ true). apart x (has_here x xs) h) (has_append xs ys x on)),
   Once-append xs ys one.1 two (λ y h g. apart y (has_there x xs y h) g),
 )
+
+module _ {V : Type 0} (is_live : V → Bool) (list : V → List ℕ) where
+  -- a number of the seat's list stands in its new list
+  pub some_set : (views : List V) (id : ℕ) (v w : V) (x : ℕ) → get_elem? views id ≡ some v → (has (list v) x ≡ true → (is_live w ≡ true) × (has (list w) x ≡ true)) → IsInSome is_live list views x → IsInSome is_live list (set views id w) x
+  some_set views id v w x at keeps k = dite (ℕ_discrete k.0 id)
+      (λ is.
+      let new = keeps (ap (λ (u : V). has (list u) x) (sym (some-injective k.1 v (sym k.2 ∙ (ap (get_elem? views) is ∙ at)))) ∙ k.4) in
+      (id, w, set_here views id w (inside views id v at), new.0, new.1))
+      (λ ne. (k.0, k.1, set_else views id k.0 w ne ∙ k.2, k.3, k.4))
+
+  pub some_longer : (views more : List V) (x : ℕ) → IsInSome is_live list views x → IsInSome is_live list (views ++ more) x
+  some_longer views more x k = (k.0, k.1, at_longer views more k.0 k.1 k.2, k.3, k.4)
 
 module _ {V : Type 0} (is_live : V → Bool) (list : V → List ℕ) (limit : ℕ) where
   -- what a list has is on

@@ -69,9 +69,9 @@ abbrev pub first_view : {B Y : Type 0} → List Link → ℕ → ℕ → View (O
 first_view links slots seats = record {
   is_live = true;
   is_still = true;
-  duty = record { links = links; before = []; seats = seats; shares = from_to 0 seats; started = []; released = []; held = [] };
-  hand = record { out = []; node = 0; floor = 0; ready = [] };
-  shelf = record { words = replicate (slots + 1) 0; items = replicate slots None; out = [] };
+  duty = record { links = links; before = []; seats = seats; shares = from_to 0 seats; started = []; released = []; held = []; left = [] };
+  hand = record { out = []; node = 0; floor = 0; ready = []; back = [] };
+  shelf = record { words = replicate (slots + 65) 0; items = replicate slots None; out = [] };
 }
 
 -- the benches that lie in so many slots, from the first on

@@ -1,13 +1,14 @@
 -- What each step on a crew's table tells its seat.
 --     taken      a load of a slot's word takes the slot out
---     opened, filled      a load gives the slot that is out back: emptied, or with a played bench or a value
+--     opened, filled, refilled      a load gives the slot that is out back: emptied, with a played bench or a used value, or as it was taken
 --     started_by, released_by      the decrement of a node's counter, for its start or for a link
 --     came_home      the decrement of the count of benches out
+--     left_node, picked      the store of a node's left word, and its exchange
 --     left_of, right_of, joined      how views are split and joined
 --     entered      a load behind which the seat knows the whole table
 --     stored, lifted, laid_down      what it then does with words and slots
 --     unlinked, linked      the list of links is made anew
---     left_still      the next cycle begins
+--     begun      the next cycle begins
 use Rattle.std.specs.Prelude.{◌≡◌, ◌≢◌, ◌≤◌, ◌<◌, ◌+◌, ◌-◌, ◌==◌, ℕ, suc, Bool, true, false, cond, List, [], ◌∷◌, ◌++◌, length, slice_set, ◌⊎◌}
 use mathlib.Core.Option.{some}
 use lib.ListN.{get_elem?}
@@ -49,6 +50,10 @@ abbrev pub without : ℕ → List ℕ → List ℕ
 without n [] = []
 without n (x ∷ xs) = cond (x == n) (without n xs) (x ∷ without n xs)
 
+-- no left word is on
+abbrev pub AreClear : ℕ → List ℕ → Type 0
+AreClear nodes words = (n : ℕ) → n < nodes → get_elem? words (nodes + 513 + n) ≡ some 0
+
 module _ {S B : Type 0} where
   abbrev pub with_hand : View S B → Hand → View S B
   with_hand v hand = record v { hand = hand }
@@ -57,14 +62,17 @@ module _ {S B : Type 0} where
   out_after v q = with_hand v (record v.hand { out = q ∷ [] })
 
   abbrev pub open_after : View S B → ℕ → View S B
-  open_after v q = with_hand v record { out = []; node = v.hand.node; floor = suc q; ready = [] }
+  open_after v q = with_hand v record { out = []; node = v.hand.node; floor = suc q; ready = []; back = [] }
 
   abbrev pub fill_after : View S B → ℕ → View S B
-  fill_after v q = with_hand v record { out = []; node = v.hand.node; floor = length v.duty.before + length v.duty.links; ready = q ∷ v.hand.ready }
+  fill_after v q = with_hand v record { out = []; node = v.hand.node; floor = length v.duty.before + length v.duty.links; ready = q ∷ v.hand.ready; back = [] }
+
+  abbrev pub refill_after : View S B → ℕ → View S B
+  refill_after v q = with_hand v record { out = []; node = v.hand.node; floor = length v.duty.before + length v.duty.links; ready = []; back = q ∷ v.hand.back }
 
   -- the seat holds the node, whose slots are as they came
   abbrev pub hold_after : View S B → ℕ → View S B
-  hold_after v n = record v { duty = record v.duty { held = n ∷ v.duty.held }; hand = record { out = []; node = n; floor = 0; ready = [] } }
+  hold_after v n = record v { duty = record v.duty { held = n ∷ v.duty.held }; hand = record { out = []; node = n; floor = 0; ready = []; back = [] } }
 
   -- the lists of what it started and released, with no slot out
   abbrev pub mark_after : View S B → List ℕ → List ℕ → View S B
@@ -85,6 +93,13 @@ module _ {S B : Type 0} where
   abbrev pub home_after : View S B → ℕ → View S B
   home_after v n = record v { duty = record v.duty { held = without n v.duty.held }; hand = record v.hand { ready = [] } }
 
+  abbrev pub leave_after : View S B → ℕ → View S B
+  leave_after v n = record v { duty = record v.duty { held = without n v.duty.held; left = n ∷ v.duty.left }; hand = record v.hand { back = [] } }
+
+  -- the seat looked for the node
+  abbrev pub look_after : View S B → ℕ → View S B
+  look_after v n = record v { duty = record v.duty { left = without n v.duty.left } }
+
   abbrev pub taken : (List Link → List B → ℕ → S → Type 0) → Step S → Me S (View S B) → ℕ → Me S (View S B) → Type 0
   taken full st m r m' =
       (m'.0 ≡ out_after m.0 st.word)
@@ -95,6 +110,9 @@ module _ {S B : Type 0} where
 
   abbrev pub filled : Step S → Me S (View S B) → ℕ → Me S (View S B) → Type 0
   filled st m r m' = m' ≡ (fill_after m.0 (slot_of m.1), rest m.1)
+
+  abbrev pub refilled : Step S → Me S (View S B) → ℕ → Me S (View S B) → Type 0
+  refilled st m r m' = m' ≡ (refill_after m.0 (slot_of m.1), rest m.1)
 
   -- the seat did not hold the node before, and released none of its links
   abbrev pub IsNew : View S B → View S B → ℕ → Type 0
@@ -117,6 +135,17 @@ module _ {S B : Type 0} where
   abbrev pub came_home : Step S → Me S (View S B) → ℕ → Me S (View S B) → Type 0
   came_home st m r m' = m' ≡ (home_after m.0 (first_of m.0.hand.ready), m.1)
 
+  -- the node whose bench was put back last is left
+  abbrev pub left_node : Step S → Me S (View S B) → ℕ → Me S (View S B) → Type 0
+  left_node st m r m' = m' ≡ (leave_after m.0 (first_of m.0.hand.back), m.1)
+
+  -- the word is the node's left word; where it is 1 the seat holds the node
+  abbrev pub picked : Step S → Me S (View S B) → ℕ → Me S (View S B) → Type 0
+  picked st m r m' =
+      let n = st.word - (length m.0.duty.before + 513) in
+      (r ≢ 1 → m' ≡ (look_after m.0 n, m.1))
+      × (r ≡ 1 → (m' ≡ (hold_after (look_after m.0 n) n, m.1)) × IsNew m.0 m'.0 n)
+
   -- ---- seats that hold nothing are split and joined
 
   -- the seat keeps its shares but the first
@@ -134,8 +163,8 @@ module _ {S B : Type 0} where
   nobody = record {
     is_live = false;
     is_still = false;
-    duty = record { links = []; before = []; seats = 0; shares = []; started = []; released = []; held = [] };
-    hand = record { out = []; node = 0; floor = 0; ready = [] };
+    duty = record { links = []; before = []; seats = 0; shares = []; started = []; released = []; held = []; left = [] };
+    hand = record { out = []; node = 0; floor = 0; ready = []; back = [] };
     shelf = record { words = []; items = []; out = [] };
   }
 
@@ -165,7 +194,7 @@ module _ {S B : Type 0} where
       (words : List ℕ) × (items : List S) × (m' ≡ (still_after m.0 words items, m.1)) × (length items ≡ st.slots)
       × (AllStarted m.0 true → Through full done m.0.duty items × (st.word < length m.0.duty.before → r ≡ 0))
       × (AllStarted m.0 false → Ahead full done m.0.duty words items × (st.word < length m.0.duty.before → 0 < r))
-      × Once m.0.duty.released × (length m.0.duty.before + length m.0.duty.links ≤ length items) × (length m.0.duty.before ≤ length words)
+      × Once m.0.duty.released × (length m.0.duty.before + length m.0.duty.links ≤ length items) × (length m.0.duty.before ≤ length words) × AreClear (length m.0.duty.before) words
 
   abbrev pub stored : Step S → Me S (View S B) → ℕ → Me S (View S B) → Type 0
   stored st m r m' = m' ≡ (record m.0 { shelf = record m.0.shelf { words = slice_set m.0.shelf.words st.word st.first } }, m.1)
@@ -195,15 +224,15 @@ module _ {S B : Type 0} where
       )
 
   -- a new cycle, over the benches that lie in the slots
-  abbrev pub leave_after : (List S → List B) → View S B → View S B
-  leave_after benches_in v = record v {
+  abbrev pub begin_after : (List S → List B) → View S B → View S B
+  begin_after benches_in v = record v {
     is_still = false;
-    duty = record v.duty { before = benches_in v.shelf.items; started = []; released = []; held = [] };
-    hand = record { out = []; node = 0; floor = 0; ready = [] };
+    duty = record v.duty { before = benches_in v.shelf.items; started = []; released = []; held = []; left = [] };
+    hand = record { out = []; node = 0; floor = 0; ready = []; back = [] };
   }
 
-  abbrev pub left_still : (ℕ → List S → List B) → Step S → Me S (View S B) → ℕ → Me S (View S B) → Type 0
-  left_still benches_in st m r m' = m' ≡ (leave_after (benches_in st.slots) m.0, m.1)
+  abbrev pub begun : (ℕ → List S → List B) → Step S → Me S (View S B) → ℕ → Me S (View S B) → Type 0
+  begun benches_in st m r m' = m' ≡ (begin_after (benches_in st.slots) m.0, m.1)
 
   -- the one seat with these items, or with these words, and no slot out
   abbrev pub with_items : View S B → List S → View S B

@@ -1,5 +1,5 @@
 -- All seats of a crew between two calls.
---     AreSeats id links nodes count all      all the seats of a crew, each with its share, and none holds a node
+--     AreSeats id links nodes count all      all the seats of a crew, each with its share; none holds a node, and what it left it looked for again
 --     HavePlayed nodes count all      each started every node of its share, so every node is home
 --     AreUnused all      none started a node
 --     Know before all      each knows these benches before the cycle
@@ -19,12 +19,13 @@ use Rattle.activation.specs.declared.views.Item.{Item}
 use Rattle.activation.specs.declared.views.View.{View}
 use Rattle.activation.specs.Rule.{has}
 use Rattle.activation.specs.Contents.{Roomed, IsPlayedAt, AreLaid, benches_of, from_to}
+use Rattle.activation.specs.Plays.{AreClear}
 use Rattle.activation.specs.Seats.{Sits, new_duty}
 
 module _ {B Y M : Type 0} where
   pub record AreSeats (id : TableId) (links : List Link) (nodes count : ℕ) (all : List (Seat B Y M)) : Type 0 where
     pub numbers : map (λ (seat : Seat B Y M). seat.number) all ≡ below count
-    pub each : All (λ (seat : Seat B Y M). Sits id links nodes count seat.number seat.token × (seat.token.me.0.duty.held ≡ [])) all
+    pub each : All (λ (seat : Seat B Y M). Sits id links nodes count seat.number seat.token × (seat.token.me.0.duty.held ≡ []) × (seat.token.me.0.duty.left ≡ [])) all
 
   abbrev pub HavePlayed : ℕ → ℕ → List (Seat B Y M) → Type 0
   HavePlayed nodes count all = All (λ (seat : Seat B Y M). (n : ℕ) → n < nodes → n % count ≡ seat.number → has seat.token.me.0.duty.started n ≡ true) all
@@ -61,6 +62,7 @@ pub record IsRoomy (seats : ℕ) (links : Vec Link) (into : List (Vec ℕ)) (pla
 pub record IsLaidOut {B Y : Type 0} (slots : ℕ) (v : View (Option (Item B Y)) B) : Type 0 where
   pub are : AreLinks (length (benches_of slots v.shelf.items)) v.duty.links
   pub laid : AreLaid (benches_of slots v.shelf.items) v.shelf.items
+  pub clear : AreClear (length (benches_of slots v.shelf.items)) v.shelf.words
   pub counters : (others : List ℕ) × (v.shelf.words ≡ map (λ n. length (incoming v.duty.links n) + 1) (below (length (benches_of slots v.shelf.items))) ++ others)
   pub long : length (benches_of slots v.shelf.items) + length v.duty.links ≤ length v.shelf.items
   pub some_seat : 0 < v.duty.seats

@@ -17,12 +17,17 @@ abbrev pub has : List ℕ → ℕ → Bool
 has [] n = false
 has (x ∷ xs) n = cond (x == n) true (has xs n)
 
--- no node is left, and a held one counts as played: a play changes no word
+-- a held node counts as played: a play changes no word
 abbrev pub IsUsual : ℕ → Place → Type 0
 IsUsual seats Waiting = Unit {0}
 IsUsual seats (Held seat is_played) = (seat < seats) × (is_played ≡ true)
-IsUsual seats Left = ⊥
+IsUsual seats Left = Unit {0}
 IsUsual seats AtHome = Unit {0}
+
+-- the left word of a node
+abbrev pub left_word : Place → ℕ
+left_word Left = 1
+left_word _ = 0
 
 -- the node that a link's slot goes with: its source until it is released, and then its target
 abbrev pub node_of : List Link → Bool → ℕ → ℕ
@@ -45,9 +50,13 @@ abbrev pub Once : List ℕ → Type 0
 Once [] = Unit {0}
 Once (x ∷ xs) = (has xs x ≡ false) × Once xs
 
+-- the number stands in some seat's list
+abbrev pub IsInSome : {V : Type 0} → (V → Bool) → (V → List ℕ) → List V → ℕ → Type 0
+IsInSome {V} is_live list views x = (j : ℕ) × (v : V) × (get_elem? views j ≡ some v) × (is_live v ≡ true) × (has (list v) x ≡ true)
+
 -- of the numbers below the limit those that are on stand in some seat's list, and each stands in one seat's list, once
 pub record Told {V : Type 0} (is_live : V → Bool) (list : V → List ℕ) (limit : ℕ) (on : ℕ → Bool) (views : List V) : Type 0 where
-  pub by_some : (x : ℕ) → x < limit → on x ≡ true → (j : ℕ) × (v : V) × (get_elem? views j ≡ some v) × (is_live v ≡ true) × (has (list v) x ≡ true)
+  pub by_some : (x : ℕ) → x < limit → on x ≡ true → IsInSome is_live list views x
   pub by_one : (i j : ℕ) (v w : V) (x : ℕ) → get_elem? views i ≡ some v → get_elem? views j ≡ some w → is_live v ≡ true → is_live w ≡ true → has (list v) x ≡ true → has (list w) x ≡ true → i ≡ j
   pub once : (j : ℕ) (v : V) → get_elem? views j ≡ some v → is_live v ≡ true → Once (list v)
 
@@ -73,6 +82,11 @@ module _ {S B : Type 0} where
       Told (λ (v : View S B). v.is_live) (λ v. v.duty.started) nodes (is_started machine) views
       × Told (λ (v : View S B). v.is_live) (λ v. v.duty.released) (length links) (is_released machine) views
 
+  -- the left word of each node is 1 exactly where it is left, and then it stands in the list of a seat that left it and did not look for it since
+  pub record AreLeft (nodes : ℕ) (machine : Machine) (s : State S (View S B)) : Type 0 where
+    pub words_are : (n : ℕ) → n < nodes → get_elem? s.words (nodes + 513 + n) ≡ some (left_word (place_of machine n))
+    pub by_some : (n : ℕ) → place_of machine n ≡ Left → IsInSome (λ (v : View S B). v.is_live) (λ v. v.duty.left) s.views n
+
   module _ (full done : List Link → List B → ℕ → S → Type 0) where
     module _ (links : List Link) (before : List B) (s : State S (View S B)) where
       abbrev pub At : (S → Type 0) → ℕ → Type 0
@@ -80,17 +94,24 @@ module _ {S B : Type 0} where
 
       -- what the holder knows of a slot that goes with its node n and is not out
       abbrev pub Keeps : Hand → Bool → ℕ → ℕ → S → Type 0
-      Keeps hand is_filled n q x = (is_filled ≡ true → hand.node ≡ n → hand.floor ≤ q → full links before q x) × (is_filled ≡ true → has hand.ready q ≡ true → done links before q x)
+      Keeps hand is_filled n q x =
+          (is_filled ≡ true → hand.node ≡ n → hand.floor ≤ q → full links before q x)
+          × (is_filled ≡ true → has hand.ready q ≡ true → done links before q x)
+          × (is_filled ≡ true → has hand.back q ≡ true → full links before q x)
 
       abbrev pub HeldAt : ℕ → Bool → ℕ → ℕ → Type 0
       HeldAt seat is_filled n q = (j : ℕ) (v : View S B) → get_elem? s.views j ≡ some v → v.is_live ≡ true → has v.duty.shares seat ≡ true → has v.hand.out q ≡ false → At (Keeps v.hand is_filled n q) q
 
+      -- a slot of a node that no seat holds, and that was not played
+      abbrev pub Stands : Bool → ℕ → Type 0
+      Stands true q = At (full links before q) q
+      Stands false q = At (λ _. Unit {0}) q
+
       -- what lies in the slot q, which goes with the node n at that place
       abbrev pub Lies : Place → Bool → ℕ → ℕ → Type 0
-      Lies Waiting true n q = At (full links before q) q
-      Lies Waiting false n q = At (λ _. Unit {0}) q
+      Lies Waiting is_filled n q = Stands is_filled q
       Lies (Held seat is_played) is_filled n q = HeldAt seat is_filled n q
-      Lies Left is_filled n q = ⊥
+      Lies Left is_filled n q = Stands is_filled q
       Lies AtHome true n q = At (done links before q) q
       Lies AtHome false n q = Unit {0}
 
@@ -108,6 +129,7 @@ module _ {S B : Type 0} where
       pub spare : (q : ℕ) → length before + length links ≤ q → q < length s.homes → At links before s (λ _. Unit {0}) q
       pub each_seat : (j : ℕ) (v : View S B) → get_elem? s.views j ≡ some v → v.is_live ≡ true → (v.is_still ≡ false) × Knows links before seats machine v.duty
       pub told : AreTold links (length before) machine s.views
+      pub left : AreLeft (length before) machine s
       pub alone : (i j : ℕ) (v w : View S B) (seat : ℕ) → get_elem? s.views i ≡ some v → get_elem? s.views j ≡ some w → v.is_live ≡ true → w.is_live ≡ true → has v.duty.shares seat ≡ true → has w.duty.shares seat ≡ true → i ≡ j
 
     -- some cycle is under way

@@ -38,10 +38,10 @@ module _ {S B : Type 0} where
     pub few : number < seats
     pub same_seats : seat.me.0.duty.seats ≡ seats
 
--- the table has a slot and a word for each bench and for each of 512 links, and a word more for the count of benches out
+-- the table has a slot and a word for each bench and for each of 512 links, a word for the count of benches out, and 64 left words
 pub record IsShape (id : TableId) (links : List Link) (nodes : ℕ) (into : List (List ℕ)) (places : List ℕ) : Type 0 where
   pub slots : id.slots ≡ nodes + 512
-  pub words : id.words ≡ nodes + 513
+  pub words : id.words ≡ nodes + 577
   pub are : AreLinks nodes links
   pub few_nodes : nodes ≤ 64
   pub few_links : length links ≤ 512
@@ -50,7 +50,7 @@ pub record IsShape (id : TableId) (links : List Link) (nodes : ℕ) (into : List
 
 -- what a new seat knows: the links, the benches and its share, and nothing of the cycle
 abbrev pub new_duty : {B : Type 0} → List Link → List B → ℕ → List ℕ → Duty B
-new_duty links before seats shares = record { links = links; before = before; seats = seats; shares = shares; started = []; released = []; held = [] }
+new_duty links before seats shares = record { links = links; before = before; seats = seats; shares = shares; started = []; released = []; held = []; left = [] }
 
 -- a new seat of this number, which is one of so many of the table's
 pub record IsShare {S B : Type 0} (id : TableId) (links : List Link) (before : List B) (count number : ℕ) (token : Seat S (View S B)) : Type 0 where

@@ -1,4 +1,6 @@
 -- A node that a seat holds, before its play and after it.
+--     with_started d n, .. with_looked d n      what a seat knows once it started, released, held, brought home, left or looked for this one
+--     AreBetween first limit list      all numbers of the list are between these
 --     IsUnplayed .. duty node desk      the bench as before the cycle, with the values of its incoming links
 --     IsPlayed .. duty node desk      the bench is sequential, and shows the values of the links that are not released
 use Rattle.std.specs.Prelude.{◌≡◌, ◌≤◌, ◌<◌, ℕ, Bool, true, false, List, ◌∷◌, length, map, Some, vec_capacity}
@@ -22,6 +24,15 @@ with_held d n = record d { held = n ∷ d.held }
 
 abbrev pub with_home : {B : Type 0} → Duty B → ℕ → Duty B
 with_home d n = record d { held = without n d.held }
+
+abbrev pub with_left : {B : Type 0} → Duty B → ℕ → Duty B
+with_left d n = record d { held = without n d.held; left = n ∷ d.left }
+
+abbrev pub with_looked : {B : Type 0} → Duty B → ℕ → Duty B
+with_looked d n = record d { left = without n d.left }
+
+abbrev pub AreBetween : ℕ → ℕ → List ℕ → Type 0
+AreBetween first limit list = (n : ℕ) → has list n ≡ true → (first ≤ n) × (n < limit)
 
 module _ {B M Y : Type 0} (memory : B → M) (has_room : B → ℕ → Bool) (value_at : B → ℕ → Y) (after : M → List Y → M) (gives : M → List Y → ℕ → Y) where
   pub record IsUnplayed (duty : Duty B) (node : ℕ) (desk : Desk B Y) : Type 0 where

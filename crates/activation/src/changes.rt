@@ -6,6 +6,7 @@ ghost use Rattle.session_model.specs.Activation.{AreLinks, outgoing};
 ghost use Rattle.session_model.specs.Samples.{below};
 ghost use Rattle.activation.specs.declared.views.Desk.{Desk};
 ghost use Rattle.activation.specs.Contents.{HasRoomFor, benches_in, from_to};
+ghost use Rattle.activation.specs.Plays.{AreClear};
 ghost use Rattle.activation.specs.Seats.{IsIdle, IsSole, new_duty};
 ghost use Rattle.activation.specs.Returns.{BenchAt};
 
@@ -14,7 +15,7 @@ use crate::indexes::refill;
 use crate::opening::{set_counters, write};
 use crate::rules::Enter;
 use crate::takens::Seat;
-use crate::turns::{add_links, give_back, leave, swap_benches, take_benches};
+use crate::turns::{add_links, give_back, open_cycle, swap_benches, take_benches};
 use crate::views::{Item, View};
 use crate::work::Work;
 use atomic_table::Seat as Token;
@@ -60,7 +61,7 @@ impl<B: Work> Crew<B> {
         let mut token = self.gather(seats);
         self.board.shared.load::<Enter<B>>(&mut token, 0);
         swap_benches(&self.board, &mut token, benches);
-        leave(&self.board, &mut token);
+        open_cycle(&self.board, &mut token);
         self.deal(token, seats);
     }
 
@@ -74,6 +75,7 @@ impl<B: Work> Crew<B> {
         ensures numbers { map (λ seat. seat.number) seats.new ≡ below self.now.seats }
         ensures token { (result.table_id ≡ self.now.board.shared.table_id) × IsSole result.me × (result.me.0.duty.seats ≡ self.now.seats) × (result.me.0.duty.shares ≡ from_to 0 self.now.seats) }
         ensures sizes { (length result.me.0.shelf.items ≡ self.now.board.shared.table_id.slots) × (self.now.nodes ≤ length result.me.0.shelf.words) }
+        ensures clear { AreClear self.now.nodes result.me.0.shelf.words }
         ensures benches { (n : ℕ) → n < self.now.nodes → (desk : Desk B B.Value) × BenchAt result.me.0.shelf.items n desk × HasRoomFor desk }
         ensures played { (before : List B) → Know before seats.old → HavePlayed self.now.nodes self.now.seats seats.old → (n : ℕ) (desk : Desk B B.Value) → n < self.now.nodes → BenchAt result.me.0.shelf.items n desk → IsReturned B.memory B.has_room B.after B.gives self.now.links.items before n desk.bench }
         ensures unused { (before : List B) → Know before seats.old → AreUnused seats.old → (n : ℕ) (desk : Desk B B.Value) → n < self.now.nodes → BenchAt result.me.0.shelf.items n desk → get_elem? before n ≡ some desk.bench }
@@ -100,6 +102,7 @@ impl<B: Work> Crew<B> {
     )
         requires token { (token.old.table_id ≡ self.now.board.shared.table_id) × IsSole token.old.me × (token.old.me.0.duty.seats ≡ self.now.seats) × (token.old.me.0.duty.shares ≡ from_to 0 self.now.seats) }
         requires sizes { (length token.old.me.0.shelf.items ≡ self.now.board.shared.table_id.slots) × (self.now.nodes ≤ length token.old.me.0.shelf.words) }
+        requires clear { AreClear self.now.nodes token.old.me.0.shelf.words }
         requires benches { (n : ℕ) → n < self.now.nodes → (desk : Desk B B.Value) × BenchAt token.old.me.0.shelf.items n desk × HasRoomFor desk }
         ensures token { (token.new.table_id ≡ token.old.table_id) × IsIdle token.new.me }
         ensures duty { token.new.me.0.duty ≡ new_duty self.now.links.items (benches_in self.now.nodes token.old.me.0.shelf.items) self.now.seats (from_to 0 self.now.seats) }
@@ -107,7 +110,7 @@ impl<B: Work> Crew<B> {
         add_links(&self.board, token, self.links.as_slice());
         write(&self.board, token, self.nodes + 512, self.nodes as u64);
         set_counters(&self.board, token, self.into.as_slice());
-        leave(&self.board, token);
+        open_cycle(&self.board, token);
     }
 
     /// Makes the crew as new over these links, for the next cycle.

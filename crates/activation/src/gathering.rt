@@ -36,7 +36,7 @@ impl<B: Work> Crew<B> {
         requires { AreSeats self.now.board.shared.table_id self.now.links.items self.now.nodes self.now.seats seats.old }
         ensures numbers { map (λ seat. seat.number) seats.new ≡ below self.now.seats }
         ensures token { IsAt self.now.board.shared.table_id self.now.links.items self.now.nodes result }
-        ensures duty { (result.me.0.duty.seats ≡ self.now.seats) × (result.me.0.duty.shares ≡ from_to 0 self.now.seats) × (result.me.0.duty.held ≡ []) }
+        ensures duty { (result.me.0.duty.seats ≡ self.now.seats) × (result.me.0.duty.shares ≡ from_to 0 self.now.seats) × (result.me.0.duty.held ≡ []) × (result.me.0.duty.left ≡ []) }
         ensures before { (before : List B) → Know before seats.old → result.me.0.duty.before ≡ before }
         ensures played { HavePlayed self.now.nodes self.now.seats seats.old → (n : ℕ) → n < self.now.nodes → has result.me.0.duty.started n ≡ true }
         ensures unused { AreUnused seats.old → result.me.0.duty.started ≡ [] }

@@ -9,7 +9,7 @@ use crate::indexes::{all_rooms, empty_lists, refill};
 use crate::opening::{lay_benches, set_counters, write};
 use crate::rules::{CrewRule, Shares};
 use crate::takens::Seat;
-use crate::turns::leave;
+use crate::turns::open_cycle;
 use crate::views::{Item, Size, View};
 use crate::work::Work;
 use atomic_table::{Seat as Token, Table};
@@ -43,7 +43,7 @@ pub(crate) fn prepare<B: Work>(
     seats: u32,
 ) -> Result<Parts<B>, AllocError>
     requires { AreLinks nodes links.now × (length links.now ≤ 512) × (nodes ≤ 64) }
-    ensures board { IfOk result (λ parts. (parts.board.shared.table_id.slots ≡ nodes + 512) × (parts.board.shared.table_id.words ≡ nodes + 513) × (parts.token.table_id ≡ parts.board.shared.table_id) × (parts.token.me ≡ (first_view links.now (nodes + 512) seats, []))) }
+    ensures board { IfOk result (λ parts. (parts.board.shared.table_id.slots ≡ nodes + 512) × (parts.board.shared.table_id.words ≡ nodes + 577) × (parts.token.table_id ≡ parts.board.shared.table_id) × (parts.token.me ≡ (first_view links.now (nodes + 512) seats, []))) }
     ensures index { IfOk result (λ parts. (parts.links.items ≡ links.now) × (map (λ into. into.items) parts.into.items ≡ map (incoming links.now) (below nodes)) × (map (λ out. out.items) parts.out.items ≡ map (outgoing links.now) (below nodes)) × (parts.places.items ≡ map (place_among links.now) (below (length links.now)))) }
     ensures kept { IfOk result (λ parts. (512 ≤ vec_capacity parts.links) × All (λ which. 512 ≤ vec_capacity which) parts.into.items × All (λ which. 512 ≤ vec_capacity which) parts.out.items × (512 ≤ vec_capacity parts.places)) }
     ensures room { IfOk result (λ parts. (length parts.rooms.items ≡ nodes) × AreEmpty parts.rooms.items × (parts.seats.items ≡ []) × (seats ≤ vec_capacity parts.seats)) }
@@ -58,7 +58,7 @@ pub(crate) fn prepare<B: Work>(
         slots: nodes + 512,
         seats,
     };
-    let words = vec![in alloc; 0u64; nodes + 513]?;
+    let words = vec![in alloc; 0u64; nodes + 577]?;
     let rooms = all_rooms(alloc, nodes)?;
     let seats = Vec::with_capacity(alloc, seats as usize)?;
     let (board, token) = Table::vacant(alloc, words.as_slice(), nodes + 512, &size)?;
@@ -93,7 +93,8 @@ pub(crate) fn begin<B: Work>(
     rooms: &mut Vec<Vec<Option<B::Value>>>,
     benches: &mut Vec<B>,
 )
-    requires board { (board.now.shared.table_id.words ≡ length benches.old.items + 513) × (board.now.shared.table_id.slots ≡ length benches.old.items + 512) × (token.old.table_id ≡ board.now.shared.table_id) × (token.old.me ≡ (first_view token.old.me.0.duty.links (length benches.old.items + 512) token.old.me.0.duty.seats, [])) }
+    requires board { (board.now.shared.table_id.words ≡ length benches.old.items + 577) × (board.now.shared.table_id.slots ≡ length benches.old.items + 512) × (token.old.table_id ≡ board.now.shared.table_id) × (token.old.me ≡ (first_view token.old.me.0.duty.links (length benches.old.items + 512) token.old.me.0.duty.seats, [])) }
+    requires few { length benches.old.items ≤ 64 }
     requires index { AreLinks (length benches.old.items) token.old.me.0.duty.links × (length token.old.me.0.duty.links ≤ 512) × (map (λ into. into.items) into.now ≡ map (incoming token.old.me.0.duty.links) (below (length benches.old.items))) }
     requires room { (length rooms.old.items ≡ length benches.old.items) × AreEmpty rooms.old.items × (0 < token.old.me.0.duty.seats) }
     ensures token { (token.new.table_id ≡ token.old.table_id) × IsIdle token.new.me × (token.new.me.0.duty ≡ new_duty token.old.me.0.duty.links benches.old.items token.old.me.0.duty.seats (from_to 0 token.old.me.0.duty.seats)) }
@@ -102,7 +103,7 @@ pub(crate) fn begin<B: Work>(
     lay_benches(board, token, benches, rooms);
     write(board, token, into.len() + 512, into.len() as u64);
     set_counters(board, token, into);
-    leave(board, token);
+    open_cycle(board, token);
 }
 
 /// Splits the first seat into one for each share.

@@ -109,6 +109,7 @@ pub(crate) fn set_counters<B: Work>(
     requires words { (length into.now ≤ board.now.shared.table_id.words) × (length into.now ≤ length seat.old.me.0.shelf.words) }
     ensures seat { (seat.new.table_id ≡ seat.old.table_id) × (seat.new.me ≡ (with_words seat.old.me.0 seat.new.me.0.shelf.words, [])) }
     ensures counters { (others : List ℕ) × (seat.new.me.0.shelf.words ≡ map (λ links. length links.items + 1) into.now ++ others) }
+    ensures others { (word : ℕ) → length into.now ≤ word → get_elem? seat.new.me.0.shelf.words word ≡ get_elem? seat.old.me.0.shelf.words word }
 {
     for (node, links) in into.iter().enumerate() {
         write(board, seat, node, links.len() as u64 + 1);

@@ -48,6 +48,15 @@ impl<S, B> Play<S, View<S, B>> for Fill {
     ghost then = { filled };
 }
 
+/// The load that gives a slot back with what was taken from it.
+pub struct Refill;
+
+impl<S, B> Play<S, View<S, B>> for Refill {
+    ghost use Rattle.activation.specs.Plays.{refilled};
+
+    ghost then = { refilled };
+}
+
 /// The decrement for the start of a node.
 pub struct Start;
 
@@ -73,6 +82,24 @@ impl<S, B> Play<S, View<S, B>> for ComeHome {
     ghost use Rattle.activation.specs.Plays.{came_home};
 
     ghost then = { came_home };
+}
+
+/// The store of 1 in the left word of a node.
+pub struct Leave;
+
+impl<S, B> Play<S, View<S, B>> for Leave {
+    ghost use Rattle.activation.specs.Plays.{left_node};
+
+    ghost then = { left_node };
+}
+
+/// The exchange of a node's left word with 0.
+pub struct Pick;
+
+impl<S, B> Play<S, View<S, B>> for Pick {
+    ghost use Rattle.activation.specs.Plays.{picked};
+
+    ghost then = { picked };
 }
 
 /// How seats that hold nothing are split and joined.
@@ -164,11 +191,11 @@ impl<S, B> Play<S, View<S, B>> for AddLink {
 }
 
 /// The load with which the next cycle begins.
-pub struct Leave;
+pub struct Begin;
 
-impl<B, Y> Play<Option<Item<B, Y>>, View<Option<Item<B, Y>>, B>> for Leave {
+impl<B, Y> Play<Option<Item<B, Y>>, View<Option<Item<B, Y>>, B>> for Begin {
     ghost use Rattle.activation.specs.Contents.{benches_of};
-    ghost use Rattle.activation.specs.Plays.{left_still};
+    ghost use Rattle.activation.specs.Plays.{begun};
 
-    ghost then = { left_still benches_of };
+    ghost then = { begun benches_of };
 }

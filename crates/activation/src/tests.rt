@@ -109,14 +109,69 @@ fn takes_a_diamond(crew: &Crew<Counter>, seat: &mut Seat<Counter>) -> bool
     second.node() == 1 && third.node() == 2 && last.node() == 3
 }
 
-// Benches of four nodes, with all their room.
+// One seat leaves a node of a diamond and picks it: whether each call gave what it is to give.
+fn leaves_and_picks(crew: &Crew<Counter>, seat: &mut Seat<Counter>) -> bool
+    requires crew { (crew.now.links.items ≡ diamond) × (crew.now.nodes ≡ 4) × (crew.now.seats ≡ 1) }
+    requires seat { Sits crew.now.board.shared.table_id diamond 4 1 0 seat.old.token × (seat.old.number ≡ 0) }
+    requires fresh { (before : List Counter) × (seat.old.token.me.0.duty ≡ new_duty diamond before 1 (0 ∷ [])) × All (λ b. b.room ≡ replicate 64 true) before }
+{
+    if crew.start(seat, 2).is_some() {
+        return false;
+    }
+    let Some(mut first) = crew.start(seat, 0) else {
+        return false;
+    };
+    first.play();
+    let Some(second) = crew.release(seat, &mut first, 1) else {
+        return false;
+    };
+    crew.leave(seat, second);
+    let Some(mut second) = crew.pick(seat, 2) else {
+        return false;
+    };
+    let is_as_it_was = second.node() == 2
+        && second.desk.bench.plays == 12
+        && second.desk.given.as_slice() == [Some(1)].as_slice();
+    second.play();
+    if crew.release(seat, &mut second, 3).is_some() {
+        return false;
+    }
+    if crew.pick(seat, 2).is_some() {
+        return false;
+    }
+    if crew.pick(seat, 3).is_some() {
+        return false;
+    }
+    is_as_it_was && second.desk.bench.plays == 13
+}
+
+// One seat leaves a node of a diamond, and another one picks it: whether each call gave what it is to give.
+fn hands_over(crew: &Crew<Counter>, giver: &mut Seat<Counter>, taker: &mut Seat<Counter>) -> bool
+    requires crew { (crew.now.links.items ≡ diamond) × (crew.now.nodes ≡ 4) × (crew.now.seats ≡ 2) }
+    requires giver { Sits crew.now.board.shared.table_id diamond 4 2 0 giver.old.token × (giver.old.number ≡ 0) × (giver.old.token.me.0.duty.started ≡ []) }
+    requires taker { Sits crew.now.board.shared.table_id diamond 4 2 1 taker.old.token × (taker.old.number ≡ 1) }
+{
+    let Some(left) = crew.start(giver, 0) else {
+        return false;
+    };
+    crew.leave(giver, left);
+    let Some(picked) = crew.pick(taker, 0) else {
+        return false;
+    };
+    if crew.pick(giver, 0).is_some() {
+        return false;
+    }
+    picked.node() == 0 && picked.desk.bench.plays == 10
+}
+
+// Benches of four nodes, with all their room, of which the one of node n begins with n + 10.
 fn counters(alloc: Global) -> Result<Vec<Counter>, AllocError>
     ensures { IfOk result (λ all. (length all.items ≡ 4) × All (λ b. b.room ≡ replicate 64 true) all.items) }
 {
     let mut all = Vec::with_capacity(alloc, 4)?;
-    for _ in 0..4u32 {
+    for node in 0..4u64 {
         all.push_reserved(Counter {
-            plays: 0,
+            plays: node + 10,
             room: [true; 64],
         });
     }
@@ -136,5 +191,38 @@ fn plays_a_diamond(alloc: Global) -> Result<bool, AllocError> {
 #[test]
 fn a_crew_takes_the_nodes_of_a_diamond_in_turn(rt: HostRuntime) -> Result<(), Fail> {
     assert!(rt; plays_a_diamond(rt.alloc())?);
+    Ok(())
+}
+
+// A crew of one seat over a diamond, which leaves a node and picks it.
+fn leaves_a_node(alloc: Global) -> Result<bool, AllocError> {
+    let benches = counters(alloc)?;
+    let (crew, mut seats) = match Crew::new(alloc, &links_of_a_diamond(), benches, 1) {
+        Ok(made) => made,
+        Err((_, error)) => return Err(error),
+    };
+    Ok(leaves_and_picks(&crew, &mut seats[0]))
+}
+
+#[test]
+fn a_picked_node_is_as_it_was_left(rt: HostRuntime) -> Result<(), Fail> {
+    assert!(rt; leaves_a_node(rt.alloc())?);
+    Ok(())
+}
+
+// A crew of two seats over a diamond, of which one leaves a node to the other.
+fn hands_a_node_over(alloc: Global) -> Result<bool, AllocError> {
+    let benches = counters(alloc)?;
+    let (crew, mut seats) = match Crew::new(alloc, &links_of_a_diamond(), benches, 2) {
+        Ok(made) => made,
+        Err((_, error)) => return Err(error),
+    };
+    let (givers, takers) = seats.as_mut_slice().split_at_mut(1);
+    Ok(hands_over(&crew, &mut givers[0], &mut takers[0]))
+}
+
+#[test]
+fn another_seat_picks_a_node_that_was_left(rt: HostRuntime) -> Result<(), Fail> {
+    assert!(rt; hands_a_node_over(rt.alloc())?);
     Ok(())
 }

@@ -13,7 +13,7 @@ ghost use Rattle.activation.specs.Rounds.{IsLaidOut};
 ghost use Rattle.activation.specs.Returns.{AreSpent, AreBack, BenchAt};
 
 use crate::opening::{put, write};
-use crate::rules::{AddLink, CrewRule, Leave, Unlink};
+use crate::rules::{AddLink, Begin, CrewRule, Unlink};
 use crate::views::{Desk, Item, Size, View};
 use crate::work::Work;
 use atomic_table::{Seat as Token, Table};
@@ -188,6 +188,7 @@ pub(crate) fn add_links<B: Work>(
     requires links { AreLinks board.now.shared.table_id.words links.now }
     ensures seat { (seat.new.table_id ≡ seat.old.table_id) × (seat.new.me ≡ (with_words (with_links seat.old.me.0 links.now) seat.new.me.0.shelf.words, [])) }
     ensures words { length seat.new.me.0.shelf.words ≡ length seat.old.me.0.shelf.words }
+    ensures others { (nodes word : ℕ) → AreLinks nodes links.now → nodes ≤ word → get_elem? seat.new.me.0.shelf.words word ≡ get_elem? seat.old.me.0.shelf.words word }
 {
     board.shared.load::<Unlink>(seat, 0);
     for link in links {
@@ -198,7 +199,7 @@ pub(crate) fn add_links<B: Work>(
 }
 
 /// Begins the next cycle over the benches that lie in the slots.
-pub(crate) fn leave<B: Work>(
+pub(crate) fn open_cycle<B: Work>(
     board: &Table<
         Option<Item<B, B::Value>>,
         View<Option<Item<B, B::Value>>, B>,
@@ -213,5 +214,5 @@ pub(crate) fn leave<B: Work>(
     ensures seat { (seat.new.table_id ≡ seat.old.table_id) × IsIdle seat.new.me }
     ensures duty { seat.new.me.0.duty ≡ new_duty seat.old.me.0.duty.links (benches_of board.now.shared.table_id.slots seat.old.me.0.shelf.items) seat.old.me.0.duty.seats (from_to 0 seat.old.me.0.duty.seats) }
 {
-    board.shared.load::<Leave>(seat, 0);
+    board.shared.load::<Begin>(seat, 0);
 }

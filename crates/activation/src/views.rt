@@ -1,8 +1,8 @@
 //! What lies in the slots of a crew's table, and what each of its seats knows.
 //!
 //! Slot n is the bench of node n, and slot `nodes` + k the value of link k. Each slot has a word of the
-//! same number, by which a load says which slot it means; word n is the counter of node n as well. The
-//! last word is the count of benches out.
+//! same number, by which a load says which slot it means; word n is the counter of node n as well. Word
+//! `nodes` + 512 is the count of benches out, and word `nodes` + 513 + n is 1 while node n is left, and else 0.
 use jack_types::Link;
 use std::collections::LinkedList;
 
@@ -46,6 +46,8 @@ pub struct Duty<B> {
     pub released: LinkedList<u64>,
     /// The nodes that it holds.
     pub held: LinkedList<u64>,
+    /// The nodes that it left and did not look for since.
+    pub left: LinkedList<u64>,
 }
 
 /// What a seat knows of the slots of the nodes that it holds. No value of it is made.
@@ -56,8 +58,10 @@ pub struct Hand {
     pub node: u64,
     /// From this slot on, those of that node's bench and of its incoming links are as they came.
     pub floor: u64,
-    /// The slots to which a played bench or a value came back.
+    /// The slots to which a played bench or a used value came back.
     pub ready: LinkedList<u64>,
+    /// The slots to which a bench or a value came back as it was taken.
+    pub back: LinkedList<u64>,
 }
 
 /// The whole table, which a seat knows while it is the only one. No value of it is made.

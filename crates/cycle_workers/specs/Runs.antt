@@ -21,11 +21,13 @@ module _ {B : Type 0} where
     pub before_stays : new.before ≡ old.before
     pub started_stay : new.started ≡ old.started
     pub held_are : new.held ≡ without node old.held
+    pub left_stays : new.left ≡ old.left
     pub lower : (l : ℕ) → l < length links → (link_at links l).from < node → has new.released l ≡ has old.released l
 
-  -- every node of the share was started, and none is held
+  -- every node of the share was started, and none is held or left
   pub record HasRun (nodes count number : ℕ) (old new : Duty B) : Type 0 where
     pub links_stay : new.links ≡ old.links
     pub before_stays : new.before ≡ old.before
     pub started_all : (n : ℕ) → n < nodes → n % count ≡ number → has new.started n ≡ true
     pub none_held : new.held ≡ []
+    pub none_left : new.left ≡ []

@@ -1,6 +1,8 @@
 use Rattle.std.proofs.Common.{rules, arith, ◌≡◌, ◌<◌, ◌+◌, ◌++◌, ℕ, suc, List, [], ◌∷◌, length, map, take, get_or, set, sym, ap, ◌∙◌, length-take-le}
 use Rattle.std.proofs.Math.Seq.{take-suc}
 use Rattle.std.proofs.lemmas.List.{length-map}
+use lib.ListN.{get_elem?}
+use Rattle.atomic_table.proofs.Lists.{set_else}
 use Rattle.activation.specs.Plays.{with_words}
 use Rattle.activation.proofs.Alone.{one_more}
 use Rattle.activation.proofs.Played.{map-snoc}
@@ -24,4 +26,5 @@ loop-node-preserved g c =
       c.write.ensures.0 ∙ i.0,
       c.write.ensures.1 ∙ (λ j. (with_words (i.1 j).0 (sym words j), [])),
       (put.0, words ∙ (ap (λ ws. set ws k (c.len.result + 1)) i.2.1 ∙ (put.1 ∙ ap (λ l. l ++ put.0) more)), (let h = i.2.2 in let s = put.2 in omega (arith, h, s))),
+      (λ word far. ap (λ ws. get_elem? ws word) words ∙ (set_else c.loop-node.seat.me.0.shelf.words k word (c.len.result + 1) (λ e. absurd (omega (arith, far, low, e))) ∙ i.3 word far)),
     )

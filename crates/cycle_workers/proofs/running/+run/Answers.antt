@@ -1,8 +1,7 @@
-use Rattle.std.proofs.Common.{rules, arith, ◌≡◌, ◌≢◌, ◌<◌, ◌≤◌, ◌-◌, ◌+◌, ℕ, false, List, length, get_or, sym, ap, ◌∙◌, subst, refl}
+use Rattle.std.proofs.Common.{rules, arith, ◌≡◌, ◌<◌, ◌-◌, ◌+◌, ℕ, false, List, length, get_or, sym, ap, ◌∙◌, subst, refl}
 use Rattle.jack_types.specs.declared.ports.Link.{Link}
 use Rattle.session_model.specs.Activation.{no_link, link_at, outgoing}
 use Rattle.activation.specs.declared.takens.Seat.{Seat}
-use Rattle.activation.specs.declared.takens.Taken.{Taken}
 use Rattle.activation.specs.Rule.{has}
 use Rattle.activation.specs.Plays.{without}
 use Rattle.activation.specs.Seats.{Sits}
@@ -178,5 +177,6 @@ returns-clause-run g t c =
       before_stays = ap (λ d. d.before) home ∙ go.before_stays;
       started_stay = ap (λ d. d.started) home ∙ go.started_stay;
       held_are = ap (λ d. d.held) home ∙ (λ j. without (i.2 j) (go.held_are j));
+      left_stays = ap (λ d. d.left) home ∙ go.left_stays;
       lower = λ l low from. ap (λ d. has d.released l) home ∙ go.lower l low from;
     }

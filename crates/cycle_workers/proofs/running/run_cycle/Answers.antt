@@ -36,7 +36,7 @@ returns-clause-all g c =
     let it = (c.for_each_mut.ensures k d low).1 in subst (λ (z : Seat g.row.B.Denot g.row.B-Value.Denot g.row.B-Memory.Denot × Seat g.row.B.Denot g.row.B-Value.Denot g.row.B-Memory.Denot). P z.0 z.1) (λ j. (it.argument_is j, it.left j)) it.call in
     record {
       numbers = mapped_same (λ (s : Seat g.row.B.Denot g.row.B-Value.Denot g.row.B-Memory.Denot). s.number) old new long (λ k d low. (each k d low).0) ∙ c.requires.all.numbers;
-      each = λ k d low. let it = each k d (omega (arith, low, long)) in (it.1, it.2.none_held);
+      each = λ k d low. let it = each k d (omega (arith, low, long)) in (it.1, it.2.none_held, it.2.none_left);
     }
 
 pub returns-clause-played : goal.returns-clause-played
@@ -63,7 +63,7 @@ returns-clause-ended g c before know =
     let it = (c.for_each_mut.ensures k d low).1 in subst (λ (z : Seat g.row.B.Denot g.row.B-Value.Denot g.row.B-Memory.Denot × Seat g.row.B.Denot g.row.B-Value.Denot g.row.B-Memory.Denot). P z.0 z.1) (λ j. (it.argument_is j, it.left j)) it.call in
     let are : AreSeats crew.board.shared.table_id crew.links.items crew.nodes crew.seats new = record {
       numbers = mapped_same (λ (s : Seat g.row.B.Denot g.row.B-Value.Denot g.row.B-Memory.Denot). s.number) old new long (λ k d low. (each k d low).0) ∙ c.requires.all.numbers;
-      each = λ k d low. let it = each k d (omega (arith, low, long)) in (it.1, it.2.none_held);
+      each = λ k d low. let it = each k d (omega (arith, low, long)) in (it.1, it.2.none_held, it.2.none_left);
     } in
     all_ended g.B.Work.memory g.B.Work.has_room g.B.Work.after g.B.Work.gives crew.board.shared.table_id crew.links.items crew.nodes crew.seats before new crew.roomy.some_seat are
     (λ k d low n inside mine. (each k d (omega (arith, low, long))).2.started_all n inside (ap (λ m. n % m) count ∙ mine))

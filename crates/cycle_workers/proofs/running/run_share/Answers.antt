@@ -16,6 +16,7 @@ loop-node-init g c =
         links_stay = refl;
         before_stays = refl;
         none_held = ap (λ d. d.held) fresh;
+        none_left = ap (λ d. d.left) fresh;
         below_started = λ n low mine. absurd (omega (arith, low));
         above = λ n h. ap (λ d. has d.started n) fresh;
       },
@@ -69,4 +70,5 @@ returns-clause-run g c =
       before_stays = s.before_stays;
       started_all = λ n low mine. s.below_started n (omega (arith, low, not, c.nodes-node-end.ensures)) (mine ∙ c.loop-node.invariant.0);
       none_held = s.none_held;
+      none_left = s.none_left;
     }

@@ -15,7 +15,7 @@ load-requires g c =
     let got = c.gather-token.ensures in (
       got.token.table,
       omega (arith, c.args.self.shape.words),
-      enter_alone (IsFull g.B.Work.memory g.B.Work.has_room g.B.Work.after g.B.Work.gives) (IsDone g.B.Work.memory g.B.Work.has_room g.B.Work.after g.B.Work.gives) _ _ c.gather-token.result.me 0 c.args.self.seats got.token.idle got.duty.0 got.duty.1 got.duty.2,
+      enter_alone (IsFull g.B.Work.memory g.B.Work.has_room g.B.Work.after g.B.Work.gives) (IsDone g.B.Work.memory g.B.Work.has_room g.B.Work.after g.B.Work.gives) _ _ c.gather-token.result.me 0 c.args.self.seats got.token.idle got.duty.0 got.duty.1 got.duty.2 got.duty.3,
     )
 
 pub take_benches-requires-clause-seat : goal.take_benches-requires-clause-seat

@@ -2,7 +2,7 @@ use Rattle.std.proofs.Common.{arith, ◌≡◌, ◌≢◌, ◌<◌, ◌+◌, ◌
 use Rattle.activation.specs.Contents.{IsFull, IsDone, from_to}
 use Rattle.activation.specs.Seats.{IsIdle}
 use Rattle.activation.proofs.Parting.{joins}
-use Rattle.activation.proofs.Gathered.{Joined, number_at, long_as, same_numbers, sits, empty_at, joined_first, joined_more}
+use Rattle.activation.proofs.Gathered.{Joined, number_at, long_as, same_numbers, sits, empty_at, looked_at, joined_first, joined_more}
 use Rattle.activation.proofs.crews.Crew.gather.Goals as goal
 
 pub loop-number-init : goal.loop-number-init
@@ -51,7 +51,7 @@ join_seat-requires g c =
       ap (λ m. m.1) me ∙ s.at.idle.clear,
       omega (arith, self.shape.words),
       joins (IsFull g.B.Work.memory g.B.Work.has_room g.B.Work.after g.B.Work.gives) (IsDone g.B.Work.memory g.B.Work.has_room g.B.Work.after g.B.Work.gives) _ c.loop-number.one.me.0 _ c.part-other.result.me.0 i.5.at.idle.live i.5.at.idle.off (ap (λ m. m.0.is_live) me ∙ s.at.idle.live) i.5.empty
-          (ap (λ m. m.0.duty.held) me ∙ empty_at self.board.shared.table_id self.links.items self.nodes self.seats all c.requires k r low) i.5.at.idle.none_out,
+          (ap (λ m. m.0.duty.held) me ∙ empty_at self.board.shared.table_id self.links.items self.nodes self.seats all c.requires k r low) (ap (λ m. m.0.duty.left) me ∙ looked_at self.board.shared.table_id self.links.items self.nodes self.seats all c.requires k r low) i.5.at.idle.none_out,
     )
 
 pub loop-number-preserved : goal.loop-number-preserved
@@ -83,7 +83,7 @@ returns-clause-duty g c =
     let i = c.loop-number.invariant in
     let not = c.loop-number-test.false in
     let end : c.loop-number.number ≡ self.seats = omega (arith, not, i.1, length-set all 0 c.part-one.new.seat, long_as all self.seats c.requires.numbers) in
-    (i.5.seats, i.5.shares ∙ ap (from_to 0) end, i.5.empty)
+    (i.5.seats, i.5.shares ∙ ap (from_to 0) end, i.5.empty, i.5.looked)
 
 pub returns-clause-before : goal.returns-clause-before
 returns-clause-before g c = c.loop-number.invariant.5.before

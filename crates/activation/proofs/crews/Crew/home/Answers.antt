@@ -51,7 +51,7 @@ fetch_sub-requires g c =
       omega (arith, c.args.self.now.shape.words),
       subst (λ m. Allows (Rule (IsFull g.B.Work.memory g.B.Work.has_room g.B.Work.after g.B.Work.gives) (IsDone g.B.Work.memory g.B.Work.has_room g.B.Work.after g.B.Work.gives)) n c.lay.new.seat.id m i (λ x. (x + (2 ^ 64 - 1)) % 2 ^ 64) (came_home (step n i 1 0 none) m)) (sym c.lay.ensures.seat.1)
           (home_from (IsFull g.B.Work.memory g.B.Work.has_room g.B.Work.after g.B.Work.gives) (IsDone g.B.Work.memory g.B.Work.has_room g.B.Work.after g.B.Work.gives) n c.lay.new.seat.id (fill_after v t, []) i t c.args.seat.now.number v.hand.ready
-          record { live = at.idle.live; off = at.idle.off; none_out = refl; clear = refl } (ap (λ d. d.shares) duty ∙ c.requires.seat.shares) refl (ap (λ d. has d.held t) duty ∙ c.requires.taken.held) (omega (arith, at.same_nodes))
+          record { live = at.idle.live; off = at.idle.off; none_out = refl; clear = refl } (ap (λ d. d.shares) duty ∙ c.requires.seat.shares) refl (ap (λ d. has d.held t) duty ∙ c.requires.taken.held) (omega (arith, at.same_nodes)) (omega (arith, at.same_nodes))
           (λ l low to. has_there t v.hand.ready (length v.duty.before + l) (ap (λ k. has v.hand.ready (k + l)) at.same_nodes ∙ c.lay_values.ensures.ready l (subst (λ ls. l < length ls) at.same_links low) (ap (λ ls. (link_at ls l).to) (sym at.same_links) ∙ to)))
           (all_out v.duty.links t v.duty.released (λ l low from. ap (λ d. has d.released l) duty ∙ c.requires.released l (subst (λ ls. l < length ls) at.same_links low) (ap (λ ls. (link_at ls l).from) (sym at.same_links) ∙ from)))),
     )

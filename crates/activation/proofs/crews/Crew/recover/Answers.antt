@@ -6,10 +6,11 @@ use Rattle.session_model.specs.Activation.{no_link}
 use Rattle.activation.specs.declared.views.Desk.{Desk}
 use Rattle.activation.specs.declared.views.Item.TheVariants.{Bench}
 use Rattle.activation.specs.Contents.{IsFull, IsDone}
+use Rattle.activation.specs.Plays.{AreClear}
 use Rattle.activation.specs.Returns.{AreSpent}
 use Rattle.activation.specs.Rounds.{HavePlayed, AreUnused, IsReturned}
 use Rattle.activation.proofs.Alone.{enter_alone}
-use Rattle.activation.proofs.Entered.{desk_unused, desk_played, spent_below, above_unused, spent_played, returned}
+use Rattle.activation.proofs.Entered.{clear_is, desk_unused, desk_played, spent_below, above_unused, spent_played, returned}
 use Rattle.activation.proofs.Turning.{same_desk}
 use Rattle.activation.proofs.crews.Crew.recover.Goals as goal
 
@@ -18,7 +19,7 @@ load-counter-requires g c =
     let got = c.gather-token.ensures in (
       got.token.table,
       omega (arith, c.args.self.now.shape.words),
-      enter_alone (IsFull g.B.Work.memory g.B.Work.has_room g.B.Work.after g.B.Work.gives) (IsDone g.B.Work.memory g.B.Work.has_room g.B.Work.after g.B.Work.gives) _ _ c.gather-token.result.me 0 c.args.self.now.seats got.token.idle got.duty.0 got.duty.1 got.duty.2,
+      enter_alone (IsFull g.B.Work.memory g.B.Work.has_room g.B.Work.after g.B.Work.gives) (IsDone g.B.Work.memory g.B.Work.has_room g.B.Work.after g.B.Work.gives) _ _ c.gather-token.result.me 0 c.args.self.now.seats got.token.idle got.duty.0 got.duty.1 got.duty.2 got.duty.3,
     )
 
 pub returns-then-counter-ne0-clause-benches : goal.returns-then-counter-ne0-clause-benches
@@ -29,6 +30,14 @@ returns-then-counter-ne0-clause-benches g c n low =
     (λ (h : HavePlayed c.args.self.now.nodes c.args.self.now.seats c.args.seats.now). absurd (c.if-counter-ne0.true (spent_below g.B.Work.memory g.B.Work.has_room g.B.Work.after g.B.Work.gives c.args.self.now.board.shared.table_id.slots 0 c.load-counter.result c.gather-token.result.me c.load-counter.new.seat.me c.load-counter.ensures.2 (λ k l. got.played h k (omega (arith, l, got.token.same_nodes))) (omega (arith, inside)))))
     (λ (h : AreUnused c.args.seats.now). let it = desk_unused g.B.Work.memory g.B.Work.has_room g.B.Work.after g.B.Work.gives c.args.self.now.board.shared.table_id.slots 0 c.load-counter.result c.gather-token.result.me c.load-counter.new.seat.me c.load-counter.ensures.2 (got.unused h) n inside in (it.0, it.1, it.3))
     c.requires.over
+
+pub returns-then-counter-ne0-clause-clear : goal.returns-then-counter-ne0-clause-clear
+returns-then-counter-ne0-clause-clear g c = clear_is g.B.Work.memory g.B.Work.has_room g.B.Work.after g.B.Work.gives c.args.self.now.board.shared.table_id.slots 0 c.load-counter.result c.gather-token.result.me c.load-counter.new.seat.me c.load-counter.ensures.2 c.args.self.now.nodes c.gather-token.ensures.token.same_nodes
+
+pub returns-clause-clear : goal.returns-clause-clear
+returns-clause-clear g c =
+    let clear = clear_is g.B.Work.memory g.B.Work.has_room g.B.Work.after g.B.Work.gives c.args.self.now.board.shared.table_id.slots 0 c.load-counter.result c.gather-token.result.me c.load-counter.new.seat.me c.load-counter.ensures.2 c.args.self.now.nodes c.gather-token.ensures.token.same_nodes in
+    subst (AreClear c.args.self.now.nodes) (sym (ap (λ m. m.0.shelf.words) c.give_back.ensures.seat.1)) clear
 
 pub returns-then-counter-ne0-clause-unused : goal.returns-then-counter-ne0-clause-unused
 returns-then-counter-ne0-clause-unused g c before know h n desk low at =

@@ -1,0 +1,56 @@
+use Rattle.std.proofs.Common.{rules, arith, ◌≡◌, ◌<◌, ◌+◌, ◌%◌, ◌^◌, ℕ, Bool, List, [], ◌∷◌, true, false, All, replicate, ap, ◌∙◌, sym, subst}
+use Rattle.std.specs.Prelude.{slice_index_or}
+use Rattle.std.proofs.lemmas.List.{get_or-replicate}
+use Rattle.activation.specs.declared.tests.Counter.{Counter}
+use Rattle.activation.specs.declared.views.Duty.{Duty}
+use Rattle.activation.specs.Diamonds.{diamond}
+use Rattle.activation.specs.Rule.{has}
+use Rattle.activation.specs.Seats.{new_duty}
+use Rattle.activation.specs.Takens.{IsUnplayed, IsPlayed, with_started, with_held, with_released, with_left, with_looked}
+use Rattle.activation.proofs.Diamonds.{room_of}
+use Rattle.activation.proofs.tests.leaves_and_picks.Goals as goal
+
+abbrev memory : Counter → ℕ
+memory b = b.plays
+
+abbrev has_room : Counter → ℕ → Bool
+has_room b place = slice_index_or b.room place false
+
+abbrev value_at : Counter → ℕ → ℕ
+value_at b place = place
+
+abbrev after : ℕ → List ℕ → ℕ
+after m given = (m + 1) % 2 ^ 64
+
+abbrev gives : ℕ → List ℕ → ℕ → ℕ
+gives m given place = place
+
+rooms : (before : List Counter) → All (λ (b : Counter). b.room ≡ replicate 64 true) before → All (λ (b : Counter). (place : ℕ) → place < 64 → has_room b place ≡ true) before
+rooms before all k d low place few = ap (λ r. slice_index_or r place false) (all k d low) ∙ get_or-replicate 64 place true false few
+
+-- behind both starts, and behind the release of link 1
+abbrev started : List Counter → Duty Counter
+started before = with_held (with_started (with_started (new_duty diamond before 1 (0 ∷ [])) 2) 0) 0
+
+abbrev picked : List Counter → ℕ → ℕ → Duty Counter
+picked before second left = with_held (with_looked (with_left (with_held (with_released (started before) 1) second) left) 2) 2
+
+pub release-requires-clause-room : goal.release-requires-clause-room
+release-requires-clause-room c κs =
+    let before = c.requires.fresh.0 in
+    let d = c.start-2.new.seat.token.me.0.duty in
+    let is : d ≡ started before = search rules in
+    let unplayed : IsUnplayed memory has_room value_at after gives d c.in-Some.first.node c.in-Some.first.desk = subst (λ n. IsUnplayed memory has_room value_at after gives d n c.in-Some.first.desk) (sym c.in-Some.ensures.some.0) c.in-Some.ensures.some.3 in
+    let played : IsPlayed memory has_room value_at after gives d c.play.new.self.node c.play.new.self.desk = c.play.ensures.played d unplayed in
+    let node : c.play.new.self.node ≡ 0 = c.play.ensures.node ∙ c.in-Some.ensures.some.0 in
+    room_of memory has_room value_at after gives d before c.args.crew.now.links.items c.play.new.self.node 1 c.play.new.self.desk c.requires.crew.0 (ap (λ e. e.links) is) (ap (λ e. e.before) is) (rooms before c.requires.fresh.2) played (omega arith) (omega arith) (sym node) (ap (λ e. has e.released 1) is)
+
+pub release-requires-2-clause-room : goal.release-requires-2-clause-room
+release-requires-2-clause-room c κs =
+    let before = c.requires.fresh.0 in
+    let d = c.pick.new.seat.token.me.0.duty in
+    let is : d ≡ picked before c.in-Some-release.second.node c.in-Some-release.second.node = search rules in
+    let unplayed : IsUnplayed memory has_room value_at after gives d c.in-Some-pick.second.node c.in-Some-pick.second.desk = subst (λ n. IsUnplayed memory has_room value_at after gives d n c.in-Some-pick.second.desk) (sym c.in-Some-pick.ensures.some.0) c.in-Some-pick.ensures.some.3 in
+    let played : IsPlayed memory has_room value_at after gives d c.play-2.new.self.node c.play-2.new.self.desk = c.play-2.ensures.played d unplayed in
+    let node : c.play-2.new.self.node ≡ 2 = c.play-2.ensures.node ∙ c.in-Some-pick.ensures.some.0 in
+    room_of memory has_room value_at after gives d before c.args.crew.now.links.items c.play-2.new.self.node 3 c.play-2.new.self.desk c.requires.crew.0 (ap (λ e. e.links) is) (ap (λ e. e.before) is) (rooms before c.requires.fresh.2) played (omega arith) (omega arith) (sym node) (ap (λ e. has e.released 3) is)
