@@ -1,6 +1,7 @@
 pub mod ValueLemmas
 pub mod SliceLemmas
 pub mod PartLemmas
+pub mod GatherLemmas
 pub mod RouteLemmas
 pub mod KeptLemmas
 pub mod InsideLemmas

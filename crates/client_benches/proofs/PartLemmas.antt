@@ -3,14 +3,12 @@
 --     mix-alone      a part that is mixed alone is copied
 --     IsMixed, mixed-more, mixed-all, mixed-none      samples that are mixed frame by frame
 --     sample_past, silence_first      silence behind a part's end, and before a sum
---     more-pass      the parts of an input that gets more than so many
-use Rattle.std.proofs.Common.{◌≡◌, ℕ, ◌+◌, ◌<◌, ◌≤◌, Bool, true, false, List, [], ◌∷◌, ◌++◌, length, map, filter, take, drop, get_or, ℤ, pos, negsuc, ◌+ℤ◌, refl, sym, ◌∙◌, ap, subst, arith, add-one}
+use Rattle.std.proofs.Common.{◌≡◌, ℕ, ◌+◌, ◌<◌, ◌≤◌, Bool, true, false, List, [], ◌∷◌, ◌++◌, length, map, filter, take, get_or, ℤ, pos, negsuc, ◌+ℤ◌, refl, sym, ◌∙◌, ap, subst, arith, add-one}
 use Rattle.std.specs.Int.{w32}
 use Rattle.std.specs.Prelude.{FitsSigned, if◌then◌else◌, nat_lt, slice_set}
 use Rattle.std.proofs.lemmas.Bool.{ltb-false, ltb-true}
 use Rattle.std.proofs.lemmas.Int.{ints}
-use Rattle.std.proofs.lemmas.List.{ext_get_or, get_or_past, get_or-set_other, get_or-set_same, length-append, take-append-drop}
-use Rattle.std.proofs.lemmas.List.Elements.{filter-append}
+use Rattle.std.proofs.lemmas.List.{ext_get_or, get_or_past, get_or-set_other, get_or-set_same}
 use Rattle.std.proofs.Math.Seq.{take-suc}
 use Rattle.session_model.specs.Samples.{clamp, mix, sample, total}
 use Rattle.session_laws.proofs.ActivationLemmas.{get_or-map_below, length-map_below}
@@ -102,16 +100,3 @@ sample_past part k past = sym (get_or_past part k (pos 0) past)
 -- silence is mixed from no part
 pub mixed-none : (frames : ℕ) (samples : List ℤ) → length samples ≡ frames → ((k : ℕ) → k < frames → sample samples k ≡ pos 0) → samples ≡ mix frames []
 mixed-none frames samples long each = mixed-all frames frames samples [] long (omega arith) each
-
--- one item more passes than those before it
-pub more-pass : {X : Type 0} (test : X → Bool) (xs : List X) (i n : ℕ) (d : X) → i < length xs → test (get_or xs i d) ≡ true → length (filter test (take i xs)) ≡ n → n < length (filter test xs)
-more-pass {X = X} test xs i n d low on before =
-    omega (
-      arith,
-      before,
-      length-append (filter test (take i xs)) (get_or xs i d ∷ []),
-      ap length (filter-more test (take i xs) (get_or xs i d) on),
-      ap (λ (ys : List X). length (filter test ys)) (take-next xs i d low),
-      ap length (ap (filter test) (sym (take-append-drop (i + 1) xs)) ∙ filter-append test (take (i + 1) xs) (drop (i + 1) xs)),
-      length-append (filter test (take (i + 1) xs)) (filter test (drop (i + 1) xs)),
-    )

@@ -1,12 +1,15 @@
--- The parts of an input that gets no more than four. No public clause cites this module.
---     parts_in few      they, in the order of making
-use Rattle.std.specs.Prelude.{List, [], ◌∷◌, ℤ}
+-- The parts of an input, gathered four at a time. No public clause cites this module.
+--     parts_in few      few parts, in the order of making
+--     AreGathered frames mix few parts      some parts: the first of them are summed, and the others are few
+use Rattle.std.specs.Prelude.{◌≡◌, ℕ, List, ◌++◌, ℤ, length, map, take}
+use Rattle.port_mixer.specs.Sums.{Mix, sums_of}
 use Rattle.client_benches.specs.declared.passes.Few.{Few}
-use Rattle.client_benches.specs.declared.passes.Few.TheVariants.{Nothing, One, Two, Three, Four}
 
 abbrev pub parts_in : Few → List (List ℤ)
-parts_in Nothing = []
-parts_in (One one) = one.now ∷ []
-parts_in (Two one two) = one.now ∷ two.now ∷ []
-parts_in (Three one two three) = one.now ∷ two.now ∷ three.now ∷ []
-parts_in (Four one two three four) = one.now ∷ two.now ∷ three.now ∷ four.now ∷ []
+parts_in few = map (λ part. part.now) (take few.count few.parts)
+
+pub record AreGathered (frames : ℕ) (mix : Mix) (few : Few) (parts : List (List ℤ)) : Type 0 where
+  pub first : List (List ℤ)
+  pub summed : mix.sums ≡ sums_of frames first
+  pub counted : length first ≡ mix.parts
+  pub all : parts ≡ first ++ parts_in few

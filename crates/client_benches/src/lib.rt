@@ -14,6 +14,8 @@ mod passes;
 mod playing;
 mod reading;
 mod setting;
+#[cfg(test)]
+mod tests;
 mod values;
 mod wires;
 

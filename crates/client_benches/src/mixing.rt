@@ -1,12 +1,12 @@
 //! The mix of an input.
 
-ghost use Rattle.std.specs.Prelude.{◌≡◌, ℕ, ◌+◌, ◌*◌, ◌<◌, ◌≤◌, ◌++◌, ◌∷◌, [], ℤ, List, All, IsSome, MatchOption, length, map};
+ghost use Rattle.std.specs.Prelude.{◌≡◌, ℕ, ◌+◌, ◌*◌, ◌<◌, ◌≤◌, ◌++◌, ◌∷◌, [], ℤ, List, All, IsSome, IsTrue, length, map};
 ghost use Rattle.activation.specs.Values.{values_of};
 ghost use Rattle.session_model.specs.Benches.{audio_part};
 ghost use Rattle.session_model.specs.Samples.{mix, sample};
-ghost use Rattle.port_mixer.specs.Sums.{sums_of};
+ghost use Rattle.port_mixer.specs.Sums.{GainsParts, sums_of};
 ghost use Rattle.client_kinds.specs.Buffers.{buffers_of, with_buffer};
-ghost use Rattle.client_benches.specs.Few.{parts_in};
+ghost use Rattle.client_benches.specs.Few.{AreGathered, parts_in};
 ghost use Rattle.client_benches.specs.Wires.{inputs_of, parts_into};
 
 use crate::passes::{Few, copy_part};
@@ -23,6 +23,7 @@ pub fn add_part(mixer: &mut Mixer, padded: &mut [i32], part: &[i32])
     requires few { mixer.old.parts < 512 }
     ensures parts { (parts : List (List ℤ)) → mixer.old.sums ≡ sums_of (length padded.old) parts → mixer.new.sums ≡ sums_of (length padded.old) (parts ++ part.now ∷ []) }
     ensures count { mixer.new.parts ≡ mixer.old.parts + 1 }
+    ensures sums { length mixer.new.sums ≡ length mixer.old.sums }
     ensures room { mixer.new.room ≡ mixer.old.room }
     ensures frames { length padded.new ≡ length padded.old }
 {
@@ -34,31 +35,58 @@ pub fn add_part(mixer: &mut Mixer, padded: &mut [i32], part: &[i32])
     }
 }
 
-/// The parts of an input that gets no more than four.
-///
-/// No wire behind the fifth into this input is looked at.
-fn few_parts<'a>(wires: &'a [Wire], given: &'a [Option<Rooms>], input: u16) -> Option<Few<'a>>
-    requires { All IsSome given.now }
-    ensures { MatchOption result (4 < length (parts_into wires.now input)) (λ few. map (audio_part (values_of given.now)) (parts_into wires.now input) ≡ parts_in few) }
+/// Whether each of four parts is of so many frames.
+fn are_all_of(frames: usize, one: &[i32], two: &[i32], three: &[i32], four: &[i32]) -> bool
+    ensures { IsTrue result → All (λ part. length part ≡ frames) (one.now ∷ two.now ∷ three.now ∷ four.now ∷ []) }
 {
-    let mut few = Few::Nothing;
-    for wire in wires {
-        if wire.input == input {
-            few = match few.and(wire.part(wires, given)) {
-                Some(more) => more,
-                None => return None,
-            };
-        }
-    }
-    Some(few)
+    one.len() == frames && two.len() == frames && three.len() == frames && four.len() == frames
 }
 
-/// Mixes an input by the sums of its parts.
-fn mix_parts(
+/// Adds few parts of any length, at once where they are four that fill all frames.
+fn add_few(mixer: &mut Mixer, padded: &mut [i32], few: &Few)
+    requires frames { length mixer.old.sums ≡ length padded.old }
+    requires few { mixer.old.parts + length (parts_in few.now) ≤ 512 }
+    ensures parts { GainsParts (length padded.old) mixer.old.sums mixer.new.sums (parts_in few.now) }
+    ensures count { mixer.new.parts ≡ mixer.old.parts + length (parts_in few.now) }
+    ensures sums { length mixer.new.sums ≡ length mixer.old.sums }
+    ensures room { mixer.new.room ≡ mixer.old.room }
+    ensures frames { length padded.new ≡ length padded.old }
+{
+    match few.parts() {
+        [one, two, three, four] if are_all_of(padded.len(), one, two, three, four) => {
+            mixer.add_four(one, two, three, four);
+        }
+        parts => {
+            for part in parts {
+                add_part(mixer, padded, part);
+            }
+        }
+    }
+}
+
+/// Gathers one more part: where there are four already, they are added first.
+fn gather<'a>(mixer: &mut Mixer, padded: &mut [i32], few: &mut Few<'a>, part: &'a [i32])
+    requires frames { length mixer.old.sums ≡ length padded.old }
+    requires few { mixer.old.parts + length (parts_in few.old) ≤ 512 }
+    ensures parts { (parts : List (List ℤ)) → AreGathered (length padded.old) mixer.old few.old parts → AreGathered (length padded.old) mixer.new few.new (parts ++ part.now ∷ []) }
+    ensures count { mixer.new.parts + length (parts_in few.new) ≡ mixer.old.parts + length (parts_in few.old) + 1 }
+    ensures sums { length mixer.new.sums ≡ length mixer.old.sums }
+    ensures room { mixer.new.room ≡ mixer.old.room }
+    ensures frames { length padded.new ≡ length padded.old }
+{
+    if few.is_full() {
+        add_few(mixer, padded, few);
+        *few = Few::new();
+    }
+    few.push(part);
+}
+
+/// Mixes an input from its wires, in one walk over them.
+fn mix_input<'a>(
     mixer: &mut Mixer,
     padded: &mut [i32],
-    wires: &[Wire],
-    given: &[Option<Rooms>],
+    wires: &'a [Wire],
+    given: &'a [Option<Rooms>],
     input: u16,
     out: &mut [i32],
 )
@@ -71,34 +99,17 @@ fn mix_parts(
     ensures frames { length padded.new ≡ length padded.old }
 {
     mixer.clear(out.len() as u32);
+    let mut few = Few::new();
     for wire in wires {
         if wire.input == input {
-            add_part(mixer, padded, wire.part(wires, given));
+            gather(mixer, padded, &mut few, wire.part(wires, given));
         }
     }
-    mixer.settle(out);
-}
-
-/// Mixes an input from its wires.
-fn mix_input(
-    mixer: &mut Mixer,
-    padded: &mut [i32],
-    wires: &[Wire],
-    given: &[Option<Rooms>],
-    input: u16,
-    out: &mut [i32],
-)
-    requires given { All IsSome given.now }
-    requires few { length wires.now ≤ 512 }
-    requires room { length out.old ≤ mixer.old.room }
-    requires frames { (length padded.old ≡ length out.old) × (length out.old ≤ 4096) }
-    ensures mixed { out.new ≡ mix (length out.old) (map (audio_part (values_of given.now)) (parts_into wires.now input)) }
-    ensures room { mixer.new.room ≡ mixer.old.room }
-    ensures frames { length padded.new ≡ length padded.old }
-{
-    match few_parts(wires, given, input) {
-        Some(few) => few.mix(out),
-        None => mix_parts(mixer, padded, wires, given, input, out),
+    if mixer.parts() == 0 {
+        few.mix(out);
+    } else {
+        add_few(mixer, padded, &few);
+        mixer.settle(out);
     }
 }
 

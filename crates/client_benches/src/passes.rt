@@ -7,12 +7,10 @@ use port_mixer::see_samples;
 
 /// No more than four parts, in the order of making.
 #[derive(Clone, Copy)]
-pub(crate) enum Few<'a> {
-    Nothing,
-    One(&'a [i32]),
-    Two(&'a [i32], &'a [i32]),
-    Three(&'a [i32], &'a [i32], &'a [i32]),
-    Four(&'a [i32], &'a [i32], &'a [i32], &'a [i32]),
+pub(crate) struct Few<'a> {
+    parts: [&'a [i32]; 4],
+    count: usize,
+    ghost within: { count ≤ 4 },
 }
 
 /// Copies a part of any length: what it lacks is silence, and what lies behind the last frame is left out.
@@ -172,33 +170,54 @@ fn mix_four(out: &mut [i32], one: &[i32], two: &[i32], three: &[i32], four: &[i3
 }
 
 impl<'a> Few<'a> {
-    ghost use Rattle.std.specs.Prelude.{◌≡◌, ◌≤◌, ◌++◌, ◌∷◌, [], MatchOption, length};
+    ghost use Rattle.std.specs.Prelude.{◌≡◌, ◌↔◌, ◌<◌, ◌++◌, ◌∷◌, [], IsTrue, length, map};
     ghost use Rattle.session_model.specs.Samples.{mix};
     ghost use Rattle.client_benches.specs.Few.{parts_in};
 
-    /// These and one more, where they are not four already.
-    pub(crate) fn and(self, part: &'a [i32]) -> Option<Few<'a>>
-        ensures { MatchOption result (4 ≤ length (parts_in self.entry)) (λ more. parts_in more ≡ parts_in self.entry ++ part.now ∷ []) }
+    /// No part.
+    pub(crate) fn new() -> Few<'a>
+        ensures { parts_in result ≡ [] }
     {
-        match self {
-            Few::Nothing => Some(Few::One(part)),
-            Few::One(one) => Some(Few::Two(one, part)),
-            Few::Two(one, two) => Some(Few::Three(one, two, part)),
-            Few::Three(one, two, three) => Some(Few::Four(one, two, three, part)),
-            Few::Four(_, _, _, _) => None,
+        Few {
+            parts: [&[]; 4],
+            count: 0,
         }
     }
 
-    /// Mixes them.
+    /// The parts themselves.
+    pub(crate) fn parts(&self) -> &[&'a [i32]]
+        ensures { map (λ part. part.now) result.now ≡ parts_in self.now }
+    {
+        &self.parts[..self.count]
+    }
+
+    /// Whether there is no place for one more.
+    pub(crate) fn is_full(&self) -> bool
+        ensures { IsTrue result ↔ length (parts_in self.now) ≡ 4 }
+    {
+        self.count == 4
+    }
+
+    /// Puts one more behind them.
+    pub(crate) fn push(&mut self, part: &'a [i32])
+        requires { length (parts_in self.old) < 4 }
+        ensures { parts_in self.new ≡ parts_in self.old ++ part.now ∷ [] }
+    {
+        self.parts[self.count] = part;
+        self.count += 1;
+    }
+
+    /// Mixes them alone.
     pub(crate) fn mix(&self, out: &mut [i32])
         ensures { out.new ≡ mix (length out.old) (parts_in self.now) }
     {
-        match self {
-            Few::Nothing => mix_none(out),
-            Few::One(one) => copy_part(out, one),
-            Few::Two(one, two) => mix_two(out, one, two),
-            Few::Three(one, two, three) => mix_three(out, one, two, three),
-            Few::Four(one, two, three, four) => mix_four(out, one, two, three, four),
+        match self.parts() {
+            [] => mix_none(out),
+            [one] => copy_part(out, one),
+            [one, two] => mix_two(out, one, two),
+            [one, two, three] => mix_three(out, one, two, three),
+            [one, two, three, four] => mix_four(out, one, two, three, four),
+            _ => unreachable!(),
         }
     }
 }

@@ -1,6 +1,7 @@
 //! One clamped sum of parts.
 #![tactic(auto)]
 
+mod fours;
 mod mixing;
 #[cfg(test)]
 mod tests;

@@ -1,11 +1,12 @@
 //! The mixer.
 
-ghost use Rattle.std.specs.Prelude.{◌≡◌, ℕ, ◌+◌, ◌<◌, ◌≤◌, ◌++◌, ◌∷◌, [], ℤ, List, IfOk, length, map, take};
+ghost use Rattle.std.specs.Prelude.{◌≡◌, ℕ, ◌+◌, ◌<◌, ◌≤◌, ◌++◌, ◌∷◌, [], ℤ, List, All, IfOk, length, map, take};
 ghost use Rattle.session_model.specs.Samples.{clamp, mix, sample, silence};
-ghost use Rattle.port_mixer.specs.Sums.{AreSamples, AreSumsOf, added, sums_of};
+ghost use Rattle.port_mixer.specs.Sums.{AreSamples, AreSumsOf, GainsParts, added, sums_of, with_parts};
 ghost use Rattle.samples.specs.Sums.{IsSmall};
 ghost use Rattle.port_mixer.specs.Insides.{sums_in};
 
+use crate::fours::take_four;
 use jack_types::Memory;
 use std::alloc::Global;
 use std::marker::Model;
@@ -128,6 +129,32 @@ impl Mixer {
     {
         take_part(&mut self.sums, self.parts, self.frames, part);
         self.parts += 1;
+    }
+
+    /// Adds four parts at once, a sample of each to each sum.
+    pub fn add_four(&mut self, one: &[i32], two: &[i32], three: &[i32], four: &[i32])
+        requires frames { All (λ part. length part ≡ length self.old.sums) (one.now ∷ two.now ∷ three.now ∷ four.now ∷ []) }
+        requires few { self.old.parts + 4 ≤ 512 }
+        ensures added { self.new ≡ with_parts self.old (one.now ∷ two.now ∷ three.now ∷ four.now ∷ []) }
+        ensures parts { GainsParts (length one.now) self.old.sums self.new.sums (one.now ∷ two.now ∷ three.now ∷ four.now ∷ []) }
+    {
+        take_four(
+            &mut self.sums,
+            self.parts,
+            self.frames,
+            one,
+            two,
+            three,
+            four,
+        );
+        self.parts += 4;
+    }
+
+    /// How many parts are in the sums.
+    pub fn parts(&self) -> u32
+        ensures { result ≡ self.now.parts }
+    {
+        self.parts
     }
 
     /// Clamps each sum once.
