@@ -2,6 +2,7 @@
 --     voice_played, voice_kept      of the kinds that ask no guest
 --     guest_played      of a guest
 --     first_bare      the first memory of a bench with no guest
+--     IsPlain-voice      a kind that asks no guest has nothing to keep for one
 --     sums_fit      room for a longer period is enough
 use Rattle.std.proofs.Common.{◌≡◌, ℕ, ◌≤◌, Bool, true, false, List, [], replicate, IsSome, Option, Some, None, option_map, true≢false, refl, sym, ◌∙◌, ap, subst, arith, ℤ}
 use Rattle.std.specs.Prelude.{slice_get}
@@ -93,6 +94,10 @@ module _ (scores : List Score) (guest : ℕ) (voice : Voiced) (old new : Seated)
 pub first_plain : (kind : Kind) → IsPlain kind (first [] kind)
 first_plain (Guest guest) = refl
 first_plain _ = tt
+
+pub IsPlain-voice : (kind : Kind) (memory : Memory) → asks_guest kind ≡ false → IsPlain kind memory
+IsPlain-voice (Guest guest) memory h = absurd (true≢false h)
+IsPlain-voice _ memory h = tt
 
 pub not_guest : (kind : Kind) → ((guest : ℕ) → kind ≡ Guest guest → ⊥) → asks_guest kind ≡ false
 not_guest (Guest guest) h = absurd (h guest refl)

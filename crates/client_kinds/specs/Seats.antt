@@ -1,10 +1,13 @@
 -- What callers see of a guest.
---     Playing, Seated      a guest that plays; a seat
+--     Playing, Seated, Asked      a guest that plays; a seat; a seat, and what its guest was told
 --     turn_of playing x      what it does on its input
 --     seated_after seat playing x      the seat behind a cycle
 --     seat_output is_dead period turn      what all outputs play
-use Rattle.std.specs.Prelude.{ℕ, List, ℤ, Option, Some, Bool, not, ◌==◌, if◌then◌else◌}
+--     IsTold is_dead moment before after      it is told the moment, unless it is dead
+use Rattle.std.specs.Prelude.{◌≡◌, ℕ, List, ℤ, Option, Some, Bool, true, false, not, ◌==◌, if◌then◌else◌}
+use Rattle.std.specs.Option.{ForSome}
 use Rattle.jack_types.specs.declared.kinds.Score.{Score}
+use Rattle.jack_types.specs.declared.moments.Moment.{Moment}
 use Rattle.session_model.specs.Kinds.{GuestTurn, guest_turn}
 use Rattle.session_model.specs.Samples.{silence}
 
@@ -18,6 +21,11 @@ pub record Seated : Type 0 where
   pub playing : Option Playing
   pub is_dead : Bool
 
+-- a seat, and the moment that its guest was told last, where it keeps that
+pub record Asked : Type 0 where
+  pub seated : Seated
+  pub told : Option Moment
+
 abbrev pub turn_of : Playing → List ℤ → GuestTurn
 turn_of playing x = guest_turn (Some playing.score) playing.numbers x
 
@@ -30,3 +38,8 @@ seated_after seat playing x =
 -- silence of a dead one, also in the cycle of its death
 abbrev pub seat_output : Bool → ℕ → GuestTurn → List ℤ
 seat_output is_dead period turn = if is_dead then silence period else if turn.answer == 0 then turn.output else silence period
+
+-- a guest that lives is told the moment, and a dead one nothing
+abbrev pub IsTold : Bool → Moment → Option Moment → Option Moment → Type 0
+IsTold true moment before after = after ≡ before
+IsTold false moment before after = ForSome after (λ told. told ≡ moment)

@@ -1,11 +1,15 @@
 //! A bench: a client's memory, and its play.
 
-ghost use Rattle.std.specs.Prelude.{◌≡◌, ◌+◌, ◌*◌, ◌<◌, ◌≤◌, ◌^◌, IfOk, length};
+ghost use Rattle.std.specs.Prelude.{◌≡◌, ◌+◌, ◌*◌, ◌<◌, ◌≤◌, ◌^◌, IfOk, IsTrue, List, length};
+ghost use Rattle.jack_types.specs.declared.kinds.Score.{Score};
 ghost use Rattle.port_mixer.specs.Sums.{sums_of};
+ghost use Rattle.session_model.specs.Kinds.{outputs_by, play};
+ghost use Rattle.client_kinds.specs.Benches.{standing};
 ghost use Rattle.client_kinds.specs.Buffers.{buffers_of};
-ghost use Rattle.client_kinds.specs.Rooms.{HasMixed, IsMixed, HasSums};
-ghost use Rattle.client_kinds.specs.Sounds.{sound, stepped};
-ghost use Rattle.session_model.specs.Kinds.{outputs_by};
+ghost use Rattle.client_kinds.specs.Rooms.{HasMixed, IsMixed, IsRoomy, HasSums};
+ghost use Rattle.client_kinds.specs.Seats.{IsTold};
+ghost use Rattle.client_kinds.specs.Sounds.{asks_guest, sound, stepped};
+ghost use Rattle.client_kinds.specs.Standings.{HasGuest, HasScore};
 
 use crate::buffers::buffer_at;
 use crate::guests::{Guest, Shape};
@@ -40,7 +44,7 @@ impl<G: Guest> Model for Bench<G> {
 
     ghost Value = { Standing };
 
-    ghost view = { λ bench. standing bench.voice bench.seat };
+    ghost view = { λ bench. standing bench.voice bench.seat.seated };
 
     ghost invariant = { λ bench. IsRoomy bench.voice.kind bench.voice.period bench.mixer.room bench.voice.memory };
 }
@@ -112,6 +116,40 @@ fn play_voice(
     prepare(mixer, voice.kind(), ports, input);
     voice.fill_all(mixer, moment, ports, input, output);
     voice.step(ports, input);
+}
+
+/// Plays a cycle of any kind, on the parts of a bench. A guest that lives is told the moment.
+fn play_parts<G: Guest>(
+    voice: &mut Voice,
+    mixer: &mut Mixer,
+    seat: &mut Seat<G>,
+    moment: &Moment,
+    ports: Shape,
+    input: &[i32],
+    output: &mut [i32],
+)
+    requires roomy { IsRoomy voice.old.kind voice.old.period mixer.old.room voice.old.memory }
+    requires guest { HasGuest voice.old.kind (standing voice.old seat.old.seated).score }
+    requires rate { 8000 ≤ moment.now.rate }
+    requires frames { moment.now.frame + ports.period < 2 ^ 32 }
+    requires period { ports.period ≤ voice.old.period }
+    requires fed { 0 < length voice.old.memory.fed → ports.period ≡ voice.old.period }
+    requires few_inputs { ports.inputs ≤ 16 }
+    requires few_outputs { ports.outputs ≤ 16 }
+    requires input { length input.now ≡ ports.inputs * ports.period }
+    requires output { length output.old ≡ ports.outputs * ports.period }
+    ensures roomy { IsRoomy voice.new.kind voice.new.period mixer.new.room voice.new.memory }
+    ensures kind { voice.new.kind ≡ voice.old.kind }
+    ensures period { voice.new.period ≡ voice.old.period }
+    ensures score { (standing voice.new seat.new.seated).score ≡ (standing voice.old seat.old.seated).score }
+    ensures memory { (scores : List Score) → HasScore (standing voice.old seat.old.seated) scores → (standing voice.new seat.new.seated).memory ≡ (play scores voice.old.kind (standing voice.old seat.old.seated).memory ports.outputs moment.now ports.period (buffers_of ports.inputs ports.period input.now)).memory }
+    ensures output { (scores : List Score) → HasScore (standing voice.old seat.old.seated) scores → buffers_of ports.outputs ports.period output.new ≡ (play scores voice.old.kind (standing voice.old seat.old.seated).memory ports.outputs moment.now ports.period (buffers_of ports.inputs ports.period input.now)).outputs }
+    ensures told { IsTrue (asks_guest voice.old.kind) → IsTold seat.old.seated.is_dead moment.now seat.old.told seat.new.told }
+{
+    match voice.kind() {
+        Kind::Guest { .. } => seat.play(moment, ports, input, output),
+        _ => play_voice(voice, mixer, moment, ports, input, output),
+    }
 }
 
 /// The room for the sums of a mix.
@@ -210,38 +248,16 @@ impl<G: Guest> Bench<G> {
         ensures output { (scores : List Score) → HasScore self.old scores → buffers_of ports.outputs ports.period output.new ≡ (play scores self.old.kind self.old.memory ports.outputs moment.now ports.period (buffers_of ports.inputs ports.period input.now)).outputs }
         ensures health { result ≡ health_of self.new.memory.is_dead }
     {
-        self.play(moment, ports, input, output);
+        play_parts(
+            &mut self.voice,
+            &mut self.mixer,
+            &mut self.seat,
+            moment,
+            ports,
+            input,
+            output,
+        );
         self.health()
-    }
-
-    /// Plays a cycle.
-    fn play(&mut self, moment: &Moment, ports: Shape, input: &[i32], output: &mut [i32])
-        requires guest { HasGuest self.old.kind self.old.score }
-        requires rate { 8000 ≤ moment.now.rate }
-        requires frames { moment.now.frame + ports.period < 2 ^ 32 }
-        requires period { ports.period ≤ self.old.period }
-        requires fed { 0 < length self.old.memory.fed → ports.period ≡ self.old.period }
-        requires few_inputs { ports.inputs ≤ 16 }
-        requires few_outputs { ports.outputs ≤ 16 }
-        requires input { length input.now ≡ ports.inputs * ports.period }
-        requires output { length output.old ≡ ports.outputs * ports.period }
-        ensures kind { self.new.kind ≡ self.old.kind }
-        ensures period { self.new.period ≡ self.old.period }
-        ensures score { self.new.score ≡ self.old.score }
-        ensures memory { (scores : List Score) → HasScore self.old scores → self.new.memory ≡ (play scores self.old.kind self.old.memory ports.outputs moment.now ports.period (buffers_of ports.inputs ports.period input.now)).memory }
-        ensures output { (scores : List Score) → HasScore self.old scores → buffers_of ports.outputs ports.period output.new ≡ (play scores self.old.kind self.old.memory ports.outputs moment.now ports.period (buffers_of ports.inputs ports.period input.now)).outputs }
-    {
-        match self.voice.kind() {
-            Kind::Guest { .. } => self.seat.play(moment, ports, input, output),
-            _ => play_voice(
-                &mut self.voice,
-                &mut self.mixer,
-                moment,
-                ports,
-                input,
-                output,
-            ),
-        }
     }
 
     /// Whether the guest still answers 0.

@@ -9,6 +9,8 @@ impl Guest for Box<dyn Guest + Send> {
 
     ghost numbers = { λ guest. (Guest-box guest).numbers guest.value };
 
+    ghost told = { λ guest. (Guest-box guest).told guest.value };
+
     fn process(&mut self, moment: &Moment, ports: Shape, input: &[i32], output: &mut [i32]) -> i32 {
         (**self).process(moment, ports, input, output)
     }

@@ -51,11 +51,14 @@ impl AnyGuest {
 }
 
 impl Guest for AnyGuest {
+    ghost use Rattle.std.specs.Prelude.{None};
     ghost use Rattle.guests.specs.Any.{any_numbers, any_score};
 
     ghost score = { any_score };
 
     ghost numbers = { any_numbers };
+
+    ghost told = { λ _. None };
 
     fn process(&mut self, moment: &Moment, ports: Shape, input: &[i32], output: &mut [i32]) -> i32 {
         match self {

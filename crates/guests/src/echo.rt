@@ -189,9 +189,13 @@ fn echo(
 }
 
 impl Guest for EchoGuest {
+    ghost use Rattle.std.specs.Prelude.{None};
+
     ghost score = { λ guest. guest.score };
 
     ghost numbers = { λ guest. guest.numbers };
+
+    ghost told = { λ _. None };
 
     fn process(
         &mut self,

@@ -80,9 +80,13 @@ fn answer(calls: u32, made: u64) -> i32
 }
 
 impl Guest for FailGuest {
+    ghost use Rattle.std.specs.Prelude.{None};
+
     ghost score = { λ guest. guest.score };
 
     ghost numbers = { λ guest. guest.numbers };
+
+    ghost told = { λ _. None };
 
     fn process(
         &mut self,

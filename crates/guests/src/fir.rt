@@ -159,9 +159,13 @@ fn fill_silence(past: &mut [i32])
 }
 
 impl Guest for FirGuest {
+    ghost use Rattle.std.specs.Prelude.{None};
+
     ghost score = { λ guest. guest.score };
 
     ghost numbers = { λ guest. guest.numbers };
+
+    ghost told = { λ _. None };
 
     fn process(
         &mut self,

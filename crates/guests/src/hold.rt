@@ -51,9 +51,13 @@ fn hold(period: usize, y: i32, output: &mut [i32])
 }
 
 impl Guest for HoldGuest {
+    ghost use Rattle.std.specs.Prelude.{None};
+
     ghost score = { λ guest. guest.score };
 
     ghost numbers = { λ guest. guest.numbers };
+
+    ghost told = { λ _. None };
 
     fn process(
         &mut self,

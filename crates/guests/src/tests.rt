@@ -9,6 +9,31 @@ use std::alloc::Global;
 use std::process::Abort;
 use std::test::Fail;
 
+/// A guest that keeps the moment of its last cycle.
+#[derive(Drop)]
+struct Listener {
+    guest: HoldGuest,
+    told: Option<Moment>,
+}
+
+impl Guest for Listener {
+    ghost score = { λ listener. listener.guest.score };
+
+    ghost numbers = { λ listener. listener.guest.numbers };
+
+    ghost told = { λ listener. listener.told };
+
+    fn process(&mut self, moment: &Moment, ports: Shape, input: &[i32], output: &mut [i32]) -> i32 {
+        self.told = Some(*moment);
+        self.guest.process(moment, ports, input, output)
+    }
+
+    fn reset(&mut self) {
+        self.told = None;
+        self.guest.reset();
+    }
+}
+
 /// How many buffers of four samples there are, at most 16.
 fn buffers(rt: &impl Abort, samples: &[i32]) -> u16
     ensures few { result ≤ 16 }
@@ -156,5 +181,20 @@ fn any_guest_plays_as_the_one_that_it_is(rt: HostRuntime) -> Result<(), Fail> {
     };
     let mut echo = bench(rt.alloc(), AnyGuest::new(rt.alloc(), score)?)?;
     plays(&rt, &mut echo, &[8, 0, 0, 0], &[8, 0, 4, 0], Health::Alive);
+    Ok(())
+}
+
+#[test]
+fn a_guest_is_told_the_moment_of_its_cycle(rt: HostRuntime) -> Result<(), Fail> {
+    let listener = Listener {
+        guest: HoldGuest::new(rt.alloc(), Score::Hold)?,
+        told: None,
+    };
+    let mut bench = bench(rt.alloc(), listener)?;
+    plays(&rt, &mut bench, &[1, 2, 3, 4], &[0, 0, 0, 0], Health::Alive);
+    match bench.give_back() {
+        Some(listener) => assert_eq!(&rt; listener.told, Some(stopped())),
+        None => panic!(&rt; "the guest that was lent"),
+    }
     Ok(())
 }
