@@ -80,11 +80,7 @@ fn team_of<G: Guest>(alloc: Global, nodes: u32, seats: u32) -> Result<Team<G>, M
     let worth = Worth::of(seats);
     let benches = stand_ins(alloc, nodes)?;
     match Crew::new(alloc, &[], benches, seats) {
-        Ok((crew, seats)) => Ok(Team {
-            crew,
-            seats,
-            worth,
-        }),
+        Ok((crew, seats)) => Ok(Team { crew, seats, worth }),
         Err(_) => Err(Memory),
     }
 }
