@@ -1,13 +1,13 @@
 -- The sound of a channel that gets no more than one.
 --     IsOnly only parts      this is the only part, where there is one at all
 --     only-one, only-mixed      it is one part, and is mixed as all
---     more-pass      the sounds of a channel that gets more than so many
+--     more-pass      a channel that gets more than so many
 use Rattle.std.proofs.Common.{◌≡◌, ℕ, ◌+◌, ◌<◌, Bool, true, List, [], ◌∷◌, length, filter, take, drop, get_or, ℤ, Bor, Option, Some, None, true≢false, sym, ◌∙◌, ap, arith}
 use Rattle.std.specs.Prelude.{MatchOption, is_some, unwrap_or}
 use Rattle.std.proofs.lemmas.List.{length-append, take-append-drop}
 use Rattle.std.proofs.lemmas.List.Elements.{filter-append}
-use Rattle.session_model.specs.Samples.{mix}
 use Rattle.client_benches.proofs.PartLemmas.{filter-more, take-next}
+use Rattle.session_model.specs.Samples.{mix}
 
 abbrev pub IsOnly : Option (Bor (List ℤ)) → List (List ℤ) → Type 0
 IsOnly only parts = MatchOption only (parts ≡ []) (λ part. parts ≡ part.now ∷ [])
