@@ -11,7 +11,7 @@ impl<G: Guest> Rack<G> {
     ghost use Rattle.jack_types.specs.declared.kinds.Score.{Score};
     ghost use Rattle.session_model.specs.Kinds.{first};
     ghost use Rattle.client_kinds.specs.Standings.{HasScore, IsDisk, IsGuest};
-    ghost use Rattle.client_benches.specs.Seen.{MayPlay, cleared, moved_to};
+    ghost use Rattle.client_benches.specs.Seen.{MayPlay, cleared, moved_to, rested};
     ghost use Rattle.client_benches.specs.declared.benches.Turn.{Turn as TurnValue};
     ghost use Rattle.bench_rack.specs.Racks.{begun, bench_at, fed_with, moved, with_bench};
 
@@ -30,6 +30,14 @@ impl<G: Guest> Rack<G> {
         ensures { self.new ≡ with_bench self.old place (cleared (bench_at self.old place)) }
     {
         self.benches[place].clear(&mut self.spare, &mut self.spare_links);
+    }
+
+    /// Makes a bench idle, and what it got and gave last goes too.
+    pub fn rest(&mut self, place: usize)
+        requires { place < length self.old.benches }
+        ensures { self.new ≡ with_bench self.old place (rested (bench_at self.old place)) }
+    {
+        self.benches[place].rest(&mut self.spare, &mut self.spare_links);
     }
 
     /// Sets what a client does in the next cycle. There are as many links out of its node.

@@ -5,7 +5,7 @@
 --     task_in scores kept turn, bench_in scores kept      its task, and it as a bench of the program's scores
 --     kept_after kept given, kept_gives kept given place      what it remembers behind one play, and what it gives over its outgoing link of this place
 --     HasScores scores kept      these are the scores that it plays by
---     new_bench kind period, cleared bench      a new bench, and one whose work is taken
+--     new_bench kind period, cleared bench, rested bench      a new bench, one whose work is taken, and one that gives nothing either
 --     moved_to moment period turn      a task at another moment
 --     MayPlay standing turn      what a bench can play
 use Rattle.std.specs.Prelude.{◌≡◌, ℕ, suc, ◌+◌, ◌<◌, ◌≤◌, ◌^◌, List, [], length, map, replicate, ℤ, Option, Some, None, option_map, slice_index_or, Bool, is_some, count_by, nat_lt, if◌then◌else◌}
@@ -113,6 +113,10 @@ moved_to moment period turn = record turn { moment = moment; ports = record turn
 -- idle, with no wire, no route and no room; what it played last stays
 abbrev pub cleared : Seen → Seen
 cleared seen = record { kept = record seen.kept { turn = None; wires = []; routes = [] }; rooms = replicate 64 None }
+
+-- cleared, and what it got and gave last is gone
+abbrev pub rested : Seen → Seen
+rested seen = record (cleared seen) { kept = record (cleared seen).kept { sounds = []; audio = [] } }
 
 -- how many rooms it has for links
 unfoldable pub room_count : Seen → ℕ

@@ -76,6 +76,17 @@ impl<G: Guest> Model for ClientBench<G> {
     ghost invariant = { λ b. HasAllRoom b.parts.value.bench.period b.parts.value.mixer b.parts.value.padded.items b.parts.value.input.items b.parts.value.output.items b.parts.value.wires b.parts.value.routes b.parts.value.rooms.items × IsPlayedShape b.parts.value.bench.period b.parts.value.played × IsSound b.parts.value.bench b.parts.value.turn b.parts.value.routes.items × IsReached b.parts.value.reached b.parts.value.rooms.items };
 }
 
+/// What a bench played that played nothing.
+pub(crate) fn nothing() -> Shape
+    ensures { result ≡ record { inputs = 0; outputs = 0; period = 0 } }
+{
+    Shape {
+        inputs: 0,
+        outputs: 0,
+        period: 0,
+    }
+}
+
 /// All room of a bench but that of its memory and its sums.
 #[derive(Drop)]
 struct Space {
@@ -152,18 +163,13 @@ impl<G: Guest> ClientBench<G> {
         requires log { bench.memory.log ≡ [] }
         ensures { IfOk result (λ made. made ≡ record { kept = record { standing = bench; turn = None; wires = []; routes = []; sounds = []; audio = [] }; rooms = replicate 64 None }) }
     {
-        let nothing = Shape {
-            inputs: 0,
-            outputs: 0,
-            period: 0,
-        };
         let parts = Parts {
             bench,
             mixer,
             padded: space.padded,
             input: space.input,
             output: space.output,
-            played: nothing,
+            played: nothing(),
             turn: None,
             wires: space.wires,
             routes: space.routes,

@@ -3,7 +3,7 @@
 ghost use Rattle.std.specs.Prelude.{◌≡◌, ◌+◌, ◌≤◌, [], None, count_by, is_some, length, replicate, vec_capacity};
 ghost use Rattle.client_benches.specs.Wires.{kept_count};
 
-use crate::benches::{ClientBench, Turn};
+use crate::benches::{ClientBench, Turn, nothing};
 use crate::known::Room;
 use crate::reading::buffer;
 use crate::values::{Rooms, Route};
@@ -44,7 +44,7 @@ impl<G: Guest> ClientBench<G> {
     ghost use Rattle.session_model.specs.Kinds.{first};
     ghost use Rattle.client_kinds.specs.Buffers.{channels_of};
     ghost use Rattle.client_kinds.specs.Standings.{HasScore, IsDisk, IsGuest};
-    ghost use Rattle.client_benches.specs.Seen.{MayPlay, cleared, moved_to, room_count};
+    ghost use Rattle.client_benches.specs.Seen.{MayPlay, cleared, moved_to, rested, room_count};
     ghost use Rattle.client_benches.specs.Wires.{kept_count, with_samples};
     ghost use Rattle.client_benches.specs.declared.benches.Turn.{Turn as TurnValue};
     ghost use Rattle.client_benches.specs.declared.wires.Source.TheVariants.{Kept, Carried, Like};
@@ -101,6 +101,18 @@ impl<G: Guest> ClientBench<G> {
         unwire(&mut parts.wires, spare);
         empty_places(&mut parts.rooms, spare_links);
         parts.reached = 0;
+    }
+
+    /// Makes it idle, as `clear` does, and forgets what it got and gave when it was last played.
+    pub fn rest(&mut self, spare: &mut Vec<Room>, spare_links: &mut Vec<Rooms>)
+        requires spare { length spare.old.items + kept_count self.old.kept.wires ≤ vec_capacity spare.old }
+        requires spare_links { length spare_links.old.items + room_count self.old ≤ vec_capacity spare_links.old }
+        ensures bench { self.new ≡ rested self.old }
+        ensures spare { (length spare.new.items ≡ length spare.old.items + kept_count self.old.kept.wires) × (vec_capacity spare.new ≡ vec_capacity spare.old) }
+        ensures spare_links { (length spare_links.new.items ≡ length spare_links.old.items + room_count self.old) × (vec_capacity spare_links.new ≡ vec_capacity spare_links.old) }
+    {
+        self.clear(spare, spare_links);
+        self.parts.played = nothing();
     }
 
     /// Sets what the client does in the next cycle. There are as many links out of its node.

@@ -11,4 +11,4 @@ mod turns;
 pub use filling::fill_wires;
 pub use placing::place_last;
 pub use setting::set_tasks;
-pub use turns::{clear_all, move_all};
+pub use turns::{clear_all, move_all, rest_all};

@@ -4,7 +4,7 @@ ghost use Rattle.std.specs.Prelude.{◌≡◌, ◌≤◌, ◌<◌, ◌+◌, ◌^
 ghost use Rattle.std.specs.Option.{ForSome};
 ghost use Rattle.jack_types.specs.declared.ports.Link.{Link as LinkValue};
 ghost use Rattle.jack_types.specs.declared.moments.Moment.{Moment as MomentValue};
-ghost use Rattle.client_benches.specs.Seen.{MayPlay, cleared, moved_to};
+ghost use Rattle.client_benches.specs.Seen.{MayPlay, cleared, moved_to, rested};
 ghost use Rattle.client_wiring.specs.Wirings.{Wired};
 ghost use Rattle.bench_rack.specs.Racks.{bench_at, begun, moved};
 ghost use Rattle.client_tasks.specs.Steps.{count_out};
@@ -26,6 +26,17 @@ pub fn clear_all<G: Guest>(rack: &mut Rack<G>, count: usize)
 {
     for place in 0..count {
         rack.clear(place);
+    }
+}
+
+/// Makes all benches idle, and what they played last goes.
+pub fn rest_all<G: Guest>(rack: &mut Rack<G>)
+    ensures rested { (p : ℕ) → bench_at rack.new p ≡ rested (bench_at rack.old p) }
+    ensures lengths { length rack.new.benches ≡ length rack.old.benches }
+    ensures links { rack.new.links ≡ rack.old.links }
+{
+    for place in 0..rack.len() {
+        rack.rest(place);
     }
 }
 

@@ -1,0 +1,31 @@
+use Rattle.std.proofs.Common.{◌≡◌, ◌∙◌, ap, arith}
+use Rattle.client_benches.specs.Seen.{Seen, rested, room_count}
+use Rattle.client_benches.specs.Wires.{kept_count}
+use Rattle.bench_rack.proofs.TotalLemmas.{room_count-none}
+use Rattle.bench_rack.proofs.WholeLemmas.{IsSlot, changed-is, whole-set, space-links, space-wires}
+use Rattle.bench_rack.proofs.racks.Rack.rest.Goals as goal
+
+pub rest-requires-clause-spare : goal.rest-requires-clause-spare
+rest-requires-clause-spare g c =
+    let slot : IsSlot c.args.self.now c.self.inside.benches.items c.self.inside.links c.args.place c.index_mut.result.now = record { view = c.self.view_is; within = c.requires; is = c.index_mut.ensures.value } in
+    space-wires slot c.self.inside.spare c.self.inside.spare_links c.self.invariant
+
+pub rest-requires-clause-spare_links : goal.rest-requires-clause-spare_links
+rest-requires-clause-spare_links g c =
+    let slot : IsSlot c.args.self.now c.self.inside.benches.items c.self.inside.links c.args.place c.index_mut.result.now = record { view = c.self.view_is; within = c.requires; is = c.index_mut.ensures.value } in
+    space-links slot c.self.inside.spare c.self.inside.spare_links c.self.invariant
+
+pub invariant_of-self : goal.invariant_of-self
+invariant_of-self g c =
+    let slot : IsSlot c.args.self.now c.self.inside.benches.items c.self.inside.links c.args.place c.index_mut.result.now = record { view = c.self.view_is; within = c.requires; is = c.index_mut.ensures.value } in
+    let none : room_count c.rest.new.self ≡ 0 = ap room_count c.rest.ensures.bench ∙ room_count-none _ in
+    let bare : kept_count c.rest.new.self.kept.wires ≡ 0 = ap (λ (seen : Seen). kept_count seen.kept.wires) c.rest.ensures.bench in
+    whole-set slot c.rest.new.self c.self.inside.spare c.rest.new.spare c.self.inside.spare_links c.rest.new.spare_links
+    (omega (arith, c.rest.ensures.spare.0, bare)) (omega (arith, c.rest.ensures.spare.1, c.self.invariant.wire_space))
+    (omega (arith, c.rest.ensures.spare_links.0, none)) (omega (arith, c.rest.ensures.spare_links.1, c.self.invariant.link_space))
+    c.self.invariant
+
+pub returns : goal.returns
+returns g c =
+    let slot : IsSlot c.args.self.now c.self.inside.benches.items c.self.inside.links c.args.place c.index_mut.result.now = record { view = c.self.view_is; within = c.requires; is = c.index_mut.ensures.value } in
+    changed-is slot rested c.rest.new.self c.rest.ensures.bench
