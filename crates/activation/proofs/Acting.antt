@@ -11,7 +11,7 @@ use Rattle.activation.specs.Seats.{IsIdle}
 use Rattle.activation.proofs.Lending.{takes_out, opens, fills, refills}
 use Rattle.activation.proofs.Falling.{starts_node, releases_link}
 use Rattle.activation.proofs.Homing.{comes_home}
-use Rattle.activation.proofs.Leaving.{leaves_node, picks_node}
+use Rattle.activation.proofs.Picking.{leaves_node, picks_node}
 
 -- the value in front of a list, or another
 pub front_or : {S : Type 0} → List (ℕ × S) → S → S

@@ -16,7 +16,7 @@ use Rattle.activation.specs.declared.views.View.{View}
 use Rattle.activation.specs.Rule.{has, IsUsual, node_of, Goes, Knows, Lies, Cycle, Rule}
 use Rattle.activation.specs.Plays.{still_after, AllStarted, AreClear, entered}
 use Rattle.activation.proofs.Keeping.{in_cycle, mine, inside}
-use Rattle.activation.proofs.Leaving.{unleft}
+use Rattle.activation.proofs.Picking.{unleft}
 use Rattle.activation.proofs.Testing.{off_or_on}
 use Rattle.activation.proofs.Machines.{count_all}
 use Rattle.activation.proofs.Listed.{incoming-facts}

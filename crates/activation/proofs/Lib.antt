@@ -10,7 +10,7 @@ mod Parting
 mod Stilling
 mod Entering
 mod Beginning
-mod Leaving
+mod Picking
 pub mod Looking
 mod Acting
 pub mod Listed

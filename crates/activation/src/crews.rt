@@ -1,19 +1,19 @@
 //! The crew: the benches of a graph, and the seats that play them.
 ghost use Rattle.std.specs.Prelude.{◌≡◌, ◌≢◌, ◌≤◌, ◌<◌, ◌+◌, ℕ, true, false, List, [], ◌∷◌, length, map, Some, All, IfOk, IfErr, IfSome, IsNone, vec_capacity, ◌%◌};
 ghost use Rattle.activation.specs.Rule.{has};
-ghost use Rattle.activation.specs.Plays.{IsSlotOf, Owns, out_after, open_after, fill_after, refill_after};
+ghost use Rattle.activation.specs.Plays.{IsSlotOf, Owns, out_after, open_after, fill_after};
 ghost use Rattle.activation.specs.declared.views.Item.TheVariants.{Value};
 ghost use mathlib.Core.Option.{some};
 ghost use lib.ListN.{get_elem?};
 ghost use Rattle.session_model.specs.Activation.{AreLinks, link_at, incoming, outgoing, place_among};
 ghost use Rattle.session_model.specs.Samples.{below};
 ghost use Rattle.activation.specs.Contents.{IsFull, IsDone, HasRoomFor, IsValueOf, AreValuesOf, most_links};
-ghost use Rattle.activation.specs.Takens.{IsUnplayed, IsPlayed, with_started, with_held, with_released, with_home, with_left, with_looked};
+ghost use Rattle.activation.specs.Takens.{IsUnplayed, IsPlayed, with_started, with_held, with_released, with_home};
 ghost use Rattle.activation.specs.Seats.{IsIdle, IsAt, Sits, IsShape, new_duty};
 ghost use Rattle.activation.specs.Rounds.{IsRoomy};
 
 use crate::making::{Parts, begin, prepare, share};
-use crate::rules::{ComeHome, CrewRule, Fill, Leave, Open, Pick, Refill, Release, Start, Take};
+use crate::rules::{ComeHome, CrewRule, Fill, Open, Release, Start, Take};
 use crate::takens::{Seat, Taken};
 use crate::views::{Desk, Item, Size, View};
 use crate::work::Work;
@@ -150,26 +150,8 @@ impl<B: Work> Crew<B> {
         board.load::<Fill>(seat, slot);
     }
 
-    // Puts a bench or a value back into its slot, as it was taken.
-    fn put_back(
-        &self,
-        seat: &mut Token<Option<Item<B, B::Value>>, View<Option<Item<B, B::Value>>, B>>,
-        slot: usize,
-        item: Item<B, B::Value>,
-    )
-        requires seat { (seat.old.table_id ≡ self.now.board.shared.table_id) × IsIdle seat.old.me × Owns seat.old.me.0 slot }
-        requires slot { slot < self.now.board.shared.table_id.words }
-        requires item { IsFull B.memory B.has_room B.after B.gives seat.old.me.0.duty.links seat.old.me.0.duty.before slot (Some item) }
-        ensures seat { (seat.new.table_id ≡ seat.old.table_id) × (seat.new.me ≡ (refill_after seat.old.me.0 slot, [])) }
-    {
-        let board = &self.board.shared;
-        board.load::<Take<B>>(seat, slot);
-        board.exchange(seat, slot, Some(item));
-        board.load::<Refill>(seat, slot);
-    }
-
-    // The links into the node.
-    fn incoming(&self, node: usize) -> &[u32]
+    /// The links into the node.
+    pub(crate) fn incoming(&self, node: usize) -> &[u32]
         requires { node < self.now.nodes }
         ensures { result.now ≡ incoming self.now.links.items node }
     {
@@ -238,8 +220,8 @@ impl<B: Work> Crew<B> {
         }
     }
 
-    // Takes all that belongs to a node that the seat has just come to hold.
-    fn take_up(
+    /// Takes all that belongs to a node that the seat has just come to hold.
+    pub(crate) fn take_up(
         &self,
         seat: &mut Token<Option<Item<B, B::Value>>, View<Option<Item<B, B::Value>>, B>>,
         node: u32,
@@ -378,76 +360,5 @@ impl<B: Work> Crew<B> {
         self.board
             .shared
             .fetch_sub::<ComeHome>(&mut seat.token, self.nodes + 512, 1);
-    }
-    // Puts the values of the links into a node that was not played back into their slots.
-    fn put_back_values(
-        &self,
-        seat: &mut Token<Option<Item<B, B::Value>>, View<Option<Item<B, B::Value>>, B>>,
-        node: u32,
-        given: &mut Vec<Option<B::Value>>,
-    )
-        requires seat { IsAt self.now.board.shared.table_id self.now.links.items self.now.nodes seat.old }
-        requires node { (has seat.old.me.0.duty.held node ≡ true) × (node < self.now.nodes) }
-        requires given { AreValuesOf B.memory B.has_room B.after B.gives self.now.links.items seat.old.me.0.duty.before (incoming self.now.links.items node) given.old.items }
-        ensures seat { IsAt self.now.board.shared.table_id self.now.links.items self.now.nodes seat.new × (seat.new.me.0.duty ≡ seat.old.me.0.duty) }
-        ensures back { (l : ℕ) → l < length self.now.links.items → (link_at self.now.links.items l).to ≡ node → has seat.new.me.0.hand.back (self.now.nodes + l) ≡ true }
-        ensures room { vec_capacity given.new ≡ vec_capacity given.old }
-    {
-        for (i, link) in self.incoming(node as usize).iter().enumerate() {
-            let Some(value) = given[i].take() else {
-                unreachable!()
-            };
-            self.put_back(seat, self.nodes + *link as usize, Item::Value(value));
-        }
-    }
-
-    // The number of the node's left word.
-    fn left_word(&self, node: u32) -> usize
-        requires node { node < self.now.nodes }
-        ensures { (result ≡ self.now.nodes + 513 + node) × (result < self.now.board.shared.table_id.words) }
-    {
-        self.nodes + 513 + node as usize
-    }
-
-    /// Leaves a node that was not played, with its bench and the values of its incoming links, to the seat
-    /// that picks it.
-    ///
-    /// One store of one word.
-    pub fn leave(&self, seat: &mut Seat<B>, taken: Taken<B>)
-        requires seat { Sits self.now.board.shared.table_id self.now.links.items self.now.nodes self.now.seats seat.old.number seat.old.token }
-        requires taken { IsUnplayed B.memory B.has_room B.value_at B.after B.gives seat.old.token.me.0.duty taken.node taken.desk }
-        ensures seat { (seat.new.number ≡ seat.old.number) × Sits self.now.board.shared.table_id self.now.links.items self.now.nodes self.now.seats seat.new.number seat.new.token }
-        ensures left { seat.new.token.me.0.duty ≡ with_left seat.old.token.me.0.duty taken.node }
-    {
-        let Taken { node, desk } = taken;
-        let Desk { bench, mut given } = desk;
-        self.put_back_values(&mut seat.token, node, &mut given);
-        given.clear();
-        self.put_back(
-            &mut seat.token,
-            node as usize,
-            Item::Bench(Desk { bench, given }),
-        );
-        let word = self.left_word(node);
-        self.board.shared.store::<Leave>(&mut seat.token, word, 1);
-    }
-
-    /// Looks whether the node was left, and takes it where it was.
-    ///
-    /// The answer is the node, where it was left until now. One exchange of one word.
-    pub fn pick(&self, seat: &mut Seat<B>, node: u32) -> Option<Taken<B>>
-        requires seat { Sits self.now.board.shared.table_id self.now.links.items self.now.nodes self.now.seats seat.old.number seat.old.token }
-        requires node { node < self.now.nodes }
-        ensures seat { (seat.new.number ≡ seat.old.number) × Sits self.now.board.shared.table_id self.now.links.items self.now.nodes self.now.seats seat.new.number seat.new.token }
-        ensures none { IsNone result → seat.new.token.me.0.duty ≡ with_looked seat.old.token.me.0.duty node }
-        ensures some { IfSome result (λ taken. (taken.node ≡ node) × (has seat.old.token.me.0.duty.held node ≡ false) × (seat.new.token.me.0.duty ≡ with_held (with_looked seat.old.token.me.0.duty node) node) × IsUnplayed B.memory B.has_room B.value_at B.after B.gives seat.new.token.me.0.duty node taken.desk) }
-    {
-        let word = self.left_word(node);
-        let found = self.board.shared.swap::<Pick>(&mut seat.token, word, 0);
-        if found == 1 {
-            Some(self.take_up(&mut seat.token, node))
-        } else {
-            None
-        }
     }
 }

@@ -10,6 +10,7 @@ mod crews;
 mod crossing;
 mod gathering;
 mod indexes;
+mod leaving;
 mod making;
 mod opening;
 mod rules;

@@ -4,11 +4,10 @@
 use Rattle.std.proofs.Common.{◌≡◌, ℕ, List, [], ◌∷◌, ◌++◌, length, map, get_or, ℤ, refl, ◌∙◌, ap, subst, arith}
 use Rattle.port_mixer.specs.Sums.{GainsParts, Mix, with_parts}
 use Rattle.port_mixer.proofs.SumLemmas.{length-all_added}
-use Rattle.client_benches.specs.declared.passes.Few.{Few}
-use Rattle.client_benches.specs.Few.{AreGathered, parts_in}
+use Rattle.client_benches.specs.Gathered.{AreGathered}
 
-pub gathered-few : (frames : ℕ) (mix : Mix) (few : Few) (parts : List (List ℤ)) → mix.parts ≡ 0 → AreGathered frames mix few parts → parts ≡ parts_in few
-gathered-few frames mix few parts none gathered = gathered.all ∙ ap (λ first. first ++ parts_in few) (empty gathered.first (gathered.counted ∙ none))
+pub gathered-few : (frames : ℕ) (mix : Mix) (few parts : List (List ℤ)) → mix.parts ≡ 0 → AreGathered frames mix few parts → parts ≡ few
+gathered-few frames mix few parts none gathered = gathered.all ∙ ap (λ first. first ++ few) (empty gathered.first (gathered.counted ∙ none))
   where
     empty : (xs : List (List ℤ)) → length xs ≡ 0 → xs ≡ []
     empty [] h = refl

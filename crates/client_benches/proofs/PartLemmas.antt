@@ -51,9 +51,6 @@ added-padded frames sums new padded part long same adds parts before =
     subst (λ n. sums ≡ sums_of n parts → new ≡ sums_of n (parts ++ padded ∷ [])) long (adds parts) before
     ∙ sums-padded frames parts padded part same
 
-pub length_sums : (frames : ℕ) (sums : List ℤ) (parts : List (List ℤ)) → sums ≡ sums_of frames parts → length sums ≡ frames
-length_sums frames sums parts is = ap length is ∙ length-map_below (λ i. total (map (λ part. sample part i) parts)) frames
-
 pub length-mix : (frames : ℕ) (parts : List (List ℤ)) → length (mix frames parts) ≡ frames
 length-mix frames parts = length-map_below (λ i. clamp (total (map (λ part. sample part i) parts))) frames
 

@@ -3,4 +3,5 @@ pub mod Routes
 pub mod Wires
 pub mod Seen
 pub mod Insides
+pub mod Gathered
 pub mod Few

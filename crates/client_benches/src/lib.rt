@@ -7,6 +7,7 @@
 
 mod benches;
 mod filling;
+mod gathering;
 mod known;
 mod laws;
 mod mixing;
@@ -20,9 +21,9 @@ mod values;
 mod wires;
 
 pub use benches::{BenchMemory, ClientBench, Turn};
+pub use gathering::{Few, add_part};
 pub use known::Room;
 pub use laws::{crew_plays_by_all_scores, plays_by_all_scores};
-pub use mixing::add_part;
 pub use passes::copy_part;
 pub use values::{Rooms, Route};
 pub use wires::{Source, Wire};

@@ -5,14 +5,6 @@ ghost use Rattle.session_model.specs.Samples.{clamp, mix, sample, total};
 
 use port_mixer::see_samples;
 
-/// No more than four parts, in the order of making.
-#[derive(Clone, Copy)]
-pub(crate) struct Few<'a> {
-    parts: [&'a [i32]; 4],
-    count: usize,
-    ghost within: { count ≤ 4 },
-}
-
 /// Copies a part of any length: what it lacks is silence, and what lies behind the last frame is left out.
 fn copy_padded(out: &mut [i32], part: &[i32])
     ensures length { length out.new ≡ length out.old }
@@ -110,14 +102,14 @@ fn mixed_four(one: i32, two: i32, three: i32, four: i32) -> i32
 }
 
 /// Silence is the mix of no part.
-fn mix_none(out: &mut [i32])
+pub(crate) fn mix_none(out: &mut [i32])
     ensures { out.new ≡ mix (length out.old) [] }
 {
     out.fill(0);
 }
 
 /// Mixes two parts of any length: what they lack is silence, and what lies behind the last frame is not heard.
-fn mix_two(out: &mut [i32], one: &[i32], two: &[i32])
+pub(crate) fn mix_two(out: &mut [i32], one: &[i32], two: &[i32])
     ensures { out.new ≡ mix (length out.old) (one.now ∷ two.now ∷ []) }
 {
     let whole = out.len().min(one.len()).min(two.len());
@@ -130,7 +122,7 @@ fn mix_two(out: &mut [i32], one: &[i32], two: &[i32])
 }
 
 /// Mixes three parts of any length, as [`mix_two`] does two.
-fn mix_three(out: &mut [i32], one: &[i32], two: &[i32], three: &[i32])
+pub(crate) fn mix_three(out: &mut [i32], one: &[i32], two: &[i32], three: &[i32])
     ensures { out.new ≡ mix (length out.old) (one.now ∷ two.now ∷ three.now ∷ []) }
 {
     let whole = out.len().min(one.len()).min(two.len()).min(three.len());
@@ -147,7 +139,7 @@ fn mix_three(out: &mut [i32], one: &[i32], two: &[i32], three: &[i32])
 }
 
 /// Mixes four parts of any length, as [`mix_two`] does two.
-fn mix_four(out: &mut [i32], one: &[i32], two: &[i32], three: &[i32], four: &[i32])
+pub(crate) fn mix_four(out: &mut [i32], one: &[i32], two: &[i32], three: &[i32], four: &[i32])
     ensures { out.new ≡ mix (length out.old) (one.now ∷ two.now ∷ three.now ∷ four.now ∷ []) }
 {
     let whole = out
@@ -166,58 +158,5 @@ fn mix_four(out: &mut [i32], one: &[i32], two: &[i32], three: &[i32], four: &[i3
             sample_at(three, lacking),
             sample_at(four, lacking),
         );
-    }
-}
-
-impl<'a> Few<'a> {
-    ghost use Rattle.std.specs.Prelude.{◌≡◌, ◌↔◌, ◌<◌, ◌++◌, ◌∷◌, [], IsTrue, length, map};
-    ghost use Rattle.session_model.specs.Samples.{mix};
-    ghost use Rattle.client_benches.specs.Few.{parts_in};
-
-    /// No part.
-    pub(crate) fn new() -> Few<'a>
-        ensures { parts_in result ≡ [] }
-    {
-        Few {
-            parts: [&[]; 4],
-            count: 0,
-        }
-    }
-
-    /// The parts themselves.
-    pub(crate) fn parts(&self) -> &[&'a [i32]]
-        ensures { map (λ part. part.now) result.now ≡ parts_in self.now }
-    {
-        &self.parts[..self.count]
-    }
-
-    /// Whether there is no place for one more.
-    pub(crate) fn is_full(&self) -> bool
-        ensures { IsTrue result ↔ length (parts_in self.now) ≡ 4 }
-    {
-        self.count == 4
-    }
-
-    /// Puts one more behind them.
-    pub(crate) fn push(&mut self, part: &'a [i32])
-        requires { length (parts_in self.old) < 4 }
-        ensures { parts_in self.new ≡ parts_in self.old ++ part.now ∷ [] }
-    {
-        self.parts[self.count] = part;
-        self.count += 1;
-    }
-
-    /// Mixes them alone.
-    pub(crate) fn mix(&self, out: &mut [i32])
-        ensures { out.new ≡ mix (length out.old) (parts_in self.now) }
-    {
-        match self.parts() {
-            [] => mix_none(out),
-            [one] => copy_part(out, one),
-            [one, two] => mix_two(out, one, two),
-            [one, two, three] => mix_three(out, one, two, three),
-            [one, two, three, four] => mix_four(out, one, two, three, four),
-            _ => unreachable!(),
-        }
     }
 }

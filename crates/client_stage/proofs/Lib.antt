@@ -1,4 +1,5 @@
 mod CastLemmas
+mod RestLemmas
 mod PerformLemmas
 mod TurnLemmas
 mod PlayLemmas

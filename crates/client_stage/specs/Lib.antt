@@ -1,2 +1,3 @@
 pub mod Casting
 pub mod Insides
+pub mod Resting

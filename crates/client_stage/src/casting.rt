@@ -11,6 +11,7 @@ ghost use Rattle.client_seats.specs.Moves.{kinds_of};
 ghost use Rattle.client_seats.specs.Seatings.{HasNoPast, HavePeriod, IsIdle, IsRefused, IsSeating, memory_of, standing_at};
 ghost use Rattle.owner_laws.specs.Known.{SeatsPlan};
 ghost use Rattle.client_stage.specs.Casting.{HasCast};
+ghost use Rattle.client_stage.specs.Resting.{Recalls};
 
 use bench_rack::Rack;
 use client_kinds::Guest;
@@ -50,6 +51,7 @@ pub fn cast<G: Guest>(
     ensures periods { (room : ℕ) → HavePeriod rack.old room → HavePeriod rack.new room }
     ensures unfed { (p : ℕ) → (standing_at rack.new p).memory.fed ≡ [] }
     ensures kept { (birth : ℕ) (memory : MemoryValue) → memory_of rack.old owners.old birth ≡ Some memory → memory_of rack.new owners.new birth ≡ Some memory }
+    ensures recalls { IsFalse result → Recalls plan.now rack.old owners.old rack.new owners.new }
     ensures scores { owners.new.scores ≡ owners.old.scores }
     ensures lengths { length rack.new.benches ≡ length rack.old.benches }
     ensures links { rack.new.links ≡ rack.old.links }

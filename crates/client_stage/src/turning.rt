@@ -17,13 +17,14 @@ ghost use Rattle.owner_laws.specs.Known.{SeatsPlan};
 ghost use Rattle.stage_laws.specs.Casts.{Casts};
 ghost use Rattle.client_stage.specs.Casting.{HasCast};
 ghost use Rattle.client_stage.specs.Insides.{staged_by};
+ghost use Rattle.client_stage.specs.Resting.{AreAtRest, Recalls};
 ghost use Rattle.stage_laws.specs.Standing.{StandsBy, StandsOn};
 
 use crate::casting::cast;
 use crate::laws::a_cast_is_the_stages;
 use crate::parts::Parts;
 use client_kinds::Guest;
-use client_tasks::{move_all, place_last};
+use client_tasks::{move_all, place_last, rest_all};
 use cycle_plan::Plan;
 use jack_types::Moment;
 use owner_laws::owning::{a_seating_keeps_owners_known, kinds_alone_count, owners_stay_known};
@@ -47,6 +48,7 @@ fn cast_anew<G: Guest>(parts: &mut Parts<G>, crew: usize, plan: &Plan, moment: &
     ensures refused { parts.new.is_staffed ≡ false → IsIdle parts.new.rack × IsRefused (open_clients plan.now.nodes) parts.new.rack parts.new.owners }
     ensures cast { parts.new.is_staffed ≡ true → HasCast parts.old.rack parts.old.owners parts.new.rack parts.new.owners plan.now moment.now period }
     ensures seating { IsSeating parts.new.rack parts.new.owners }
+    ensures recalls { parts.new.is_staffed ≡ false → Recalls plan.now parts.old.rack parts.old.owners parts.new.rack parts.new.owners }
     ensures seats { SeatsPlan plan.now parts.old.rack parts.old.owners parts.new.rack parts.new.owners }
     ensures kinds { IsPermutation (kinds_of parts.old.rack) (kinds_of parts.new.rack) }
     ensures periods { HavePeriod parts.new.rack parts.old.room }
@@ -97,14 +99,8 @@ fn go_on<G: Guest>(parts: &mut Parts<G>, count: usize, moment: &Moment, period: 
     move_all(&mut parts.rack, count, moment, period);
 }
 
-/// Turns to the plan of the next cycle: where it is another than the last one, its clients are cast anew.
-pub(crate) fn turn_to<G: Guest>(
-    parts: &mut Parts<G>,
-    crew: usize,
-    plan: &Plan,
-    moment: &Moment,
-    period: u32,
-)
+/// Where the plan of the next cycle is another than the last one, its clients are cast anew.
+fn recast<G: Guest>(parts: &mut Parts<G>, crew: usize, plan: &Plan, moment: &Moment, period: u32)
     requires places { 512 ≤ vec_capacity parts.old.last }
     requires period { period ≤ parts.old.room }
     requires rate { 8000 ≤ moment.now.rate }
@@ -113,6 +109,7 @@ pub(crate) fn turn_to<G: Guest>(
     ensures stands { (last : Planned) → StandsOn (staged_by parts.old crew last.nodes) last → GoesOn last plan.now → parts.old.number ≡ length last.changes → StandsBy (staged_by parts.new crew plan.now.nodes) plan.now }
     ensures cast { (last : Planned) → StandsOn (staged_by parts.old crew last.nodes) last → GoesOn last plan.now → parts.old.number ≡ length last.changes → parts.new.is_staffed ≡ true
         → Casts (staged_by parts.old crew last.nodes) last plan.now moment.now period (staged_by parts.new crew plan.now.nodes) }
+    ensures recalls { parts.new.is_staffed ≡ false → Recalls plan.now parts.old.rack parts.old.owners parts.new.rack parts.new.owners }
     ensures kinds { IsPermutation (kinds_of parts.old.rack) (kinds_of parts.new.rack) }
     ensures scores { parts.new.owners.scores ≡ parts.old.owners.scores }
     ensures heard { length parts.old.wiring.heard ≤ 512 → length parts.new.wiring.heard ≤ 512 }
@@ -131,6 +128,38 @@ pub(crate) fn turn_to<G: Guest>(
         cast_anew(parts, crew, plan, moment, period);
     } else if parts.is_staffed {
         go_on(parts, plan.nodes().len(), moment, period);
+    }
+}
+
+/// Turns to the plan of the next cycle: where it is another than the last one, its clients are cast anew. Where one of them
+/// has no bench, nobody plays: all benches rest.
+pub(crate) fn turn_to<G: Guest>(
+    parts: &mut Parts<G>,
+    crew: usize,
+    plan: &Plan,
+    moment: &Moment,
+    period: u32,
+)
+    requires places { 512 ≤ vec_capacity parts.old.last }
+    requires period { period ≤ parts.old.room }
+    requires rate { 8000 ≤ moment.now.rate }
+    requires frames { moment.now.frame + period < 2 ^ 32 }
+    requires stands { (last : Planned) × StandsOn (staged_by parts.old crew last.nodes) last × GoesOn last plan.now × (parts.old.number ≡ length last.changes) }
+    ensures stands { (last : Planned) → StandsOn (staged_by parts.old crew last.nodes) last → GoesOn last plan.now → parts.old.number ≡ length last.changes → StandsBy (staged_by parts.new crew plan.now.nodes) plan.now }
+    ensures cast { (last : Planned) → StandsOn (staged_by parts.old crew last.nodes) last → GoesOn last plan.now → parts.old.number ≡ length last.changes → parts.new.is_staffed ≡ true
+        → Casts (staged_by parts.old crew last.nodes) last plan.now moment.now period (staged_by parts.new crew plan.now.nodes) }
+    ensures rest { parts.new.is_staffed ≡ false → AreAtRest parts.new.rack }
+    ensures recalls { parts.new.is_staffed ≡ false → Recalls plan.now parts.old.rack parts.old.owners parts.new.rack parts.new.owners }
+    ensures kinds { IsPermutation (kinds_of parts.old.rack) (kinds_of parts.new.rack) }
+    ensures scores { parts.new.owners.scores ≡ parts.old.owners.scores }
+    ensures heard { length parts.old.wiring.heard ≤ 512 → length parts.new.wiring.heard ≤ 512 }
+    ensures room { vec_capacity parts.new.last ≡ vec_capacity parts.old.last }
+    ensures same { (parts.new.room ≡ parts.old.room) × (parts.new.period ≡ parts.old.period) × (parts.new.number ≡ parts.old.number) }
+{
+    kinds_alone_count();
+    recast(parts, crew, plan, moment, period);
+    if !parts.is_staffed {
+        rest_all(&mut parts.rack);
     }
 }
 

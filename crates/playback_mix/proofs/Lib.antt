@@ -1,3 +1,2 @@
 mod OnlyLemmas
-mod SoundLemmas
 mod BlockLemmas

@@ -5,7 +5,7 @@ ghost use Rattle.session_model.specs.Samples.{below, interleaved, mix};
 ghost use Rattle.playback_mix.specs.Mixes.{channel_mix, sounds_on};
 
 use crate::sounds::samples_of;
-use client_benches::{ClientBench, add_part, copy_part};
+use client_benches::{ClientBench, Few};
 use client_kinds::Guest;
 use client_wiring::Heard;
 use device_periods::{Capture, lay_channel, lay_two};
@@ -36,13 +36,13 @@ fn only_sound<'a, G: Guest, S: Source>(
     Some(only.unwrap_or(&[]))
 }
 
-/// Mixes a channel by the sums of what its connections bring.
-fn mix_sounds<G: Guest, S: Source>(
+/// Mixes a channel from what its connections bring, in one walk over them.
+fn mix_channel<'a, G: Guest, S: Source>(
     mixer: &mut Mixer,
     padded: &mut [i32],
-    benches: &[ClientBench<G>],
+    benches: &'a [ClientBench<G>],
     heard: &[Heard],
-    capture: &Capture<S>,
+    capture: &'a Capture<S>,
     channel: usize,
     out: &mut [i32],
 )
@@ -54,35 +54,13 @@ fn mix_sounds<G: Guest, S: Source>(
     ensures frames { length padded.new ≡ length padded.old }
 {
     mixer.clear(out.len() as u32);
+    let mut few = Few::new();
     for one in heard {
         if one.channel == channel {
-            add_part(mixer, padded, samples_of(one.sound, benches, capture));
+            few.gather(mixer, padded, samples_of(one.sound, benches, capture));
         }
     }
-    mixer.settle(out);
-}
-
-/// Mixes a channel from what its connections bring.
-fn mix_channel<G: Guest, S: Source>(
-    mixer: &mut Mixer,
-    padded: &mut [i32],
-    benches: &[ClientBench<G>],
-    heard: &[Heard],
-    capture: &Capture<S>,
-    channel: usize,
-    out: &mut [i32],
-)
-    requires few { length heard.now ≤ 512 }
-    requires room { length out.old ≤ mixer.old.room }
-    requires frames { (length padded.old ≡ length out.old) × (length out.old ≤ 4096) }
-    ensures mixed { out.new ≡ channel_mix (length out.old) benches.now capture.now.channels heard.now channel }
-    ensures room { mixer.new.room ≡ mixer.old.room }
-    ensures frames { length padded.new ≡ length padded.old }
-{
-    match only_sound(benches, heard, capture, channel) {
-        Some(samples) => copy_part(out, samples),
-        None => mix_sounds(mixer, padded, benches, heard, capture, channel, out),
-    }
+    few.settle(mixer, padded, out);
 }
 
 /// Lays both channels of a stereo playback from the sounds themselves, where neither gets more than one. Says whether

@@ -13,6 +13,7 @@ use Rattle.client_seats.specs.Seatings.{AreApart, HasBench, HasNoPast, HavePerio
 use Rattle.client_seats.proofs.PlaceLemmas.{open_within, within_open}
 use Rattle.stage_laws.proofs.GoingLemmas.{memory-same}
 use Rattle.client_stage.proofs.CastLemmas.{AreApart-plan, cleared-same, fresh-seated, kinds-cast, memories-cast, nodes-within, others-seated, periods-cast, seating-same, seats-cast, standings-cleared, unfed-cast}
+use Rattle.client_stage.proofs.RestLemmas.{fresh-cast}
 use Rattle.client_stage.proofs.casting.cast.Goals as goal
 
 pub seat-requires-clause-apart : goal.seat-requires-clause-apart
@@ -141,3 +142,12 @@ returns-clause-unfed g c p =
     ap (λ (s : Standing). s.memory.fed) (c.set_tasks.ensures.standings p)
     ∙ unfed-cast c.args.plan.now c.nodes-nodes.result.now c.nodes-nodes.ensures.value c.args.rack.now c.clear_all.new.rack c.seat.new.rack c.args.owners.now c.seat.new.owners c.requires.seating c.seat.ensures.seating c.clear_all.ensures.lengths
     (standings-cleared c.args.rack.now c.clear_all.new.rack c.args.count c.clear_all.ensures.cleared c.clear_all.ensures.others) c.requires.past c.seat.ensures.kept c.seat.ensures.fresh c.seat.ensures.same_bench c.seat.ensures.owners c.requires.unfed p
+
+-- ---- where one has none
+
+pub returns-then-not-seat-clause-recalls : goal.returns-then-not-seat-clause-recalls
+returns-then-not-seat-clause-recalls g c is_false = record {
+  kept = returns-then-not-seat-clause-kept g c;
+  fresh = fresh-cast c.args.plan.now c.nodes-nodes.result.now c.nodes-nodes.ensures.value c.args.rack.now c.clear_all.new.rack c.seat.new.rack c.args.owners.now c.seat.new.owners c.requires.seating c.clear_all.ensures.lengths
+      (standings-cleared c.args.rack.now c.clear_all.new.rack c.args.count c.clear_all.ensures.cleared c.clear_all.ensures.others) c.seat.ensures.fresh;
+}

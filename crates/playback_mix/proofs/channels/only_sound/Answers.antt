@@ -1,10 +1,9 @@
 use Rattle.std.proofs.Common.{◌≡◌, ◌==◌, List, filter, length, map, take, get_or, refl, subst, arith, eq-eqb}
 use Rattle.std.proofs.lemmas.List.{length-map, take_all}
-use Rattle.client_benches.proofs.PartLemmas.{more-pass}
 use Rattle.client_wiring.specs.declared.joints.Heard.{Heard}
 use Rattle.client_wiring.specs.declared.joints.Sound.TheVariants.{Played}
 use Rattle.playback_mix.specs.Mixes.{sound_in, sounds_on}
-use Rattle.playback_mix.proofs.OnlyLemmas.{IsOnly, only-mixed, only-one}
+use Rattle.playback_mix.proofs.OnlyLemmas.{IsOnly, more-pass, only-mixed, only-one}
 use Rattle.playback_mix.proofs.channels.only_sound.Goals as goal
 
 pub returns-then-is_some : goal.returns-then-is_some

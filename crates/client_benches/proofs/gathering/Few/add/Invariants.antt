@@ -1,6 +1,6 @@
 use Rattle.std.proofs.Common.{◌≡◌, ◌+◌, length, map, take}
 use Rattle.port_mixer.specs.Sums.{GainsParts}
-use Rattle.client_benches.proofs.mixing.add_few.Given as goal
+use Rattle.client_benches.proofs.gathering.Few.add.Given as goal
 
 abbrev pub invariant-loop-part : goal.invariant-loop-part
 invariant-loop-part l = record {

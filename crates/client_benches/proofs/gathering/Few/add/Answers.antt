@@ -1,11 +1,11 @@
 use Rattle.std.proofs.Common.{[], length, subst, arith}
 use Rattle.port_mixer.specs.Sums.{GainsParts}
 use Rattle.client_benches.proofs.GatherLemmas.{gains-four, long-four}
-use Rattle.client_benches.proofs.mixing.add_few.Goals as goal
+use Rattle.client_benches.proofs.gathering.Few.add.Goals as goal
 
 pub returns-in-len4-clause-parts : goal.returns-in-len4-clause-parts
 returns-in-len4-clause-parts c =
-    subst (GainsParts (length c.args.padded.now) c.args.mixer.now.sums c.add_four.new.self.sums) c.parts.ensures
+    subst (GainsParts (length c.args.padded.now) c.args.mixer.now.sums c.add_four.new.self.sums) c.parts.ensures.parts
     (gains-four (λ part. part.now) c.parts.result.now _ (length c.args.padded.now) c.args.mixer.now.sums c.add_four.new.self.sums
     (omega (arith, c.in-len4.len_at_least, c.in-len4.len_below)) (c.are_all_of.ensures c.if-are_all_of.true 0 [] (omega arith)) c.add_four.ensures.parts)
 

@@ -2,7 +2,7 @@ use Rattle.std.proofs.Common.{◌∙◌, ap, length}
 use Rattle.port_mixer.specs.Sums.{Mix}
 use Rattle.port_mixer.proofs.SumLemmas.{length-added}
 use Rattle.client_benches.proofs.PartLemmas.{added-padded}
-use Rattle.client_benches.proofs.mixing.add_part.Goals as goal
+use Rattle.client_benches.proofs.gathering.add_part.Goals as goal
 
 pub returns-then-part-padded-clause-sums : goal.returns-then-part-padded-clause-sums
 returns-then-part-padded-clause-sums c = ap (λ (mix : Mix). length mix.sums) c.add.ensures.added ∙ length-added c.args.mixer.now.sums c.args.part.now
