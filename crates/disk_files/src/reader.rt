@@ -64,6 +64,7 @@ impl<S: Source> DiskReader<S> {
         requires pair { IsPair self.old.sending consumer.old }
         ensures ok { OnOk result (ReadsAhead most self.old consumer.old self.new consumer.new) }
         ensures err { OnErr result (BreaksAhead most self.old consumer.old self.new consumer.new) }
+        ensures pair { IsPair self.new.sending consumer.new }
         ensures failed { self.new.failed ≡ is_err result }
         ensures cause { HasCause self.old.faults self.new.faults result }
     {
@@ -77,7 +78,8 @@ impl<S: Source> DiskReader<S> {
     /// end stands.
     pub fn tell(&mut self, consumer: &mut Consumer)
         requires { IsPair self.old.sending consumer.old }
-        ensures { TellsAhead self.old consumer.old self.new consumer.new }
+        ensures tells { TellsAhead self.old consumer.old self.new consumer.new }
+        ensures pair { IsPair self.new.sending consumer.new }
     {
         self.player.tell(consumer);
     }

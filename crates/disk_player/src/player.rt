@@ -181,6 +181,7 @@ impl<S: Source> DiskPlayer<S> {
     pub fn tell(&mut self, consumer: &mut Consumer)
         requires { IsPair self.old.sending consumer.old }
         ensures tells { Tells self.old.sending consumer.old self.new.sending consumer.new }
+        ensures pair { IsPair self.new.sending consumer.new }
         ensures same { self.new ≡ record self.old { sending = self.new.sending } }
     {
         tell(&mut self.producer, consumer);
