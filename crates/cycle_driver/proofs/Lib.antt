@@ -1,5 +1,1 @@
-mod ResultLemmas
-mod FailedLemmas
 mod PlayedLemmas
-mod OpeningLemmas
-mod InsideLemmas

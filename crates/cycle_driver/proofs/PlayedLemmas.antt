@@ -12,9 +12,8 @@ use Rattle.session_laws.proofs.WaveSamples.{by_width}
 use Rattle.wave_write.specs.Tapes.{SameFile, Tape}
 use Rattle.driver_laws.specs.Cycling.{MayCycle, WritesOnce}
 use Rattle.driver_laws.specs.Drivers.{frames_run}
-use Rattle.cycle_laws.specs.Gears.{Gear, driver_of}
-use Rattle.cycle_laws.proofs.FrameLemmas.{samples-next}
-use Rattle.cycle_laws.proofs.MayLemmas.{later}
+use Rattle.cycle_works.specs.Gears.{Gear, driver_of}
+use Rattle.cycle_works.proofs.CycleLemmas.{later, samples-next}
 use Rattle.cycle_driver.specs.Insides.{IsOwnFile}
 use Rattle.cycle_driver.specs.Openings.{playback_format}
 

@@ -2,4 +2,4 @@
 --     Gear      its parts
 --     driver_of gear      the driver that they make
 --     IsServed script      which scripts it plays
-pub use Rattle.cycle_laws.specs.Gears.{Gear, IsServed, driver_of}
+pub use Rattle.cycle_works.specs.Gears.{Gear, IsServed, driver_of}

@@ -1,4 +1,3 @@
 pub mod Gears
 pub mod Openings
-pub mod Makings
 pub mod Insides

@@ -5,12 +5,10 @@ ghost use Rattle.cycle_driver.specs.declared.faults.CycleFault.{CycleFault as Fa
 
 use crate::driver::Driver;
 use crate::faults::CycleFault;
-use crate::turning::turn;
 use crate::writing::play_back;
 use client_kinds::Guest;
-use cycle_laws::gears::{
-    a_cycle_is_a_step, a_cycle_leaves_the_parts, a_cycle_may_be_played, a_cycle_plays_its_own,
-    a_mix_is_played,
+use cycle_works::{
+    a_cycle_is_a_step, a_cycle_may_be_played, a_cycle_plays_its_own, a_mix_is_played,
 };
 use driver_laws::cycling::steps_that_play_are_a_cycle;
 use jack_host::{Gate, Source, Store};
@@ -23,7 +21,7 @@ impl<S: Source, W: Store, G: Guest + Send> Driver<S, W, G> {
     ghost use Rattle.wave_pcm.specs.Readings.{SameReading};
     ghost use Rattle.wave_write.specs.Tapes.{SameFile, Tape};
     ghost use Rattle.driver_laws.specs.Cycling.{CyclesOnce, FailsAtRead, FailsAtWrite, MayCycle};
-    ghost use Rattle.cycle_laws.specs.Gears.{driver_of};
+    ghost use Rattle.cycle_works.specs.Gears.{driver_of};
 
     /// Runs the next cycle of the script: takes the newest plan and begins, steps the transport, captures, lets the clients of
     /// the plan play, puts the blocks of the recorders, and plays back. A freewheel cycle hears silence and plays nothing back.
@@ -45,13 +43,11 @@ impl<S: Source, W: Store, G: Guest + Send> Driver<S, W, G> {
     {
         a_cycle_may_be_played();
         a_cycle_is_a_step();
-        a_cycle_leaves_the_parts();
         a_cycle_plays_its_own();
         a_mix_is_played();
         steps_that_play_are_a_cycle();
         samples_are_few();
-        if turn(&mut self.works, threads, gate, freewheel).is_err() {
-            self.failed = true;
+        if self.works.turn(threads, gate, freewheel).is_err() {
             return Err(CycleFault::Read);
         }
         if freewheel {
@@ -60,16 +56,8 @@ impl<S: Source, W: Store, G: Guest + Send> Driver<S, W, G> {
         let Some(file) = &mut self.playback else {
             return Ok(());
         };
-        let played = play_back(
-            &mut self.mix,
-            file,
-            self.works.stage.rack().benches(),
-            self.works.stage.heard(),
-            &self.works.capture,
-            self.works.set,
-        );
-        if played.is_err() {
-            self.failed = true;
+        if play_back(&self.works, &mut self.mix, file).is_err() {
+            self.works.fail();
             return Err(CycleFault::Write);
         }
         Ok(())

@@ -23,7 +23,7 @@ impl<S: Source, W: Store, G: Guest> Driver<S, W, G> {
     ghost use Rattle.jack_host.specs.Causes.{Rose};
     ghost use Rattle.wave_write.specs.Tapes.{HasSamples, IsCut, Tape};
     ghost use Rattle.driver_laws.specs.Drivers.{peak_in};
-    ghost use Rattle.cycle_laws.specs.Gears.{driver_of};
+    ghost use Rattle.cycle_works.specs.Gears.{driver_of};
     ghost use Rattle.cycle_driver.specs.Openings.{playback_format};
 
     /// Starts the playback in an empty store: writes the header of an unfinished file. Where that fails, the store comes back.
@@ -51,14 +51,14 @@ impl<S: Source, W: Store, G: Guest> Driver<S, W, G> {
     pub fn period(&mut self, period: u32)
         ensures { self.new ≡ record self.old { set = period } }
     {
-        self.works.set = period;
+        self.works.period(period);
     }
 
     /// Of each cycle run the number that it took.
     pub fn numbers(&self) -> &[u32]
         ensures { result.now ≡ self.now.numbers }
     {
-        &self.works.numbers
+        self.works.numbers()
     }
 
     /// What the transport showed in each cycle run: as many as there are numbers, where nothing failed.
@@ -66,21 +66,21 @@ impl<S: Source, W: Store, G: Guest> Driver<S, W, G> {
         ensures value { result.now ≡ self.now.moments }
         ensures count { self.now.failed ≡ false → length self.now.moments ≡ length self.now.numbers }
     {
-        &self.works.moments
+        self.works.moments()
     }
 
     /// The overruns of all recorders, in the order in which they came.
     pub fn overruns(&self) -> &[Overrun]
         ensures { result.now ≡ self.now.rings.overruns }
     {
-        self.works.rings.overruns()
+        self.works.overruns()
     }
 
     /// The peak of the meter that the change of this number opened, over the cycles run; 0 for every other number.
     pub fn peak(&self, birth: u32) -> u32
         ensures { result ≡ peak_in (driver_of self.now) birth }
     {
-        self.works.stage.peak(birth)
+        self.works.peak(birth)
     }
 
     /// The end of the publication that reads plans, to meet the other end.
@@ -88,7 +88,7 @@ impl<S: Source, W: Store, G: Guest> Driver<S, W, G> {
         ensures* writes_back { sem 𝓛 (Lends (the_row S.row W.row G.row S.Source W.Store G.Guest) (the_reader the_plan (record { base = λ (plan : Planned). plan.base; content = λ (plan : Planned). plan.changes })) self.entry result (λ reader. record self.old { reading = reader.0 })) }
         ensures value { result.now.0 ≡ self.old.reading }
     {
-        &mut self.works.reader
+        self.works.reader()
     }
 
     /// Hands the end of a recorder's ring out that gets, None exactly where it is out.
@@ -97,7 +97,7 @@ impl<S: Source, W: Store, G: Guest> Driver<S, W, G> {
         ensures end { result ≡ consumer_at self.old.rings recorder }
         ensures after { self.new ≡ record self.old { rings = record self.old.rings { out = slice_set self.old.rings.out recorder None } } }
     {
-        self.works.rings.consumer(recorder)
+        self.works.consumer(recorder)
     }
 
     /// The end of a recorder's ring that puts, to end it or to meet the other end.
@@ -106,7 +106,7 @@ impl<S: Source, W: Store, G: Guest> Driver<S, W, G> {
         ensures* writes_back { sem 𝓛 (Lends (the_row S.row W.row G.row S.Source W.Store G.Guest) the_producer self.entry result (λ ring. record self.old { rings = record self.old.rings { rings = slice_set self.old.rings.rings recorder ring } })) }
         ensures value { result.now ≡ ring_at self.old.rings recorder }
     {
-        self.works.rings.producer(recorder)
+        self.works.producer(recorder)
     }
 
     /// Takes the playback out, None exactly where none is attached. After it no cycle may be run.
@@ -122,6 +122,6 @@ impl<S: Source, W: Store, G: Guest> Driver<S, W, G> {
         ensures reading { result ≡ self.capture.reading }
         ensures sound { self.failed ≡ false → result.failed ≡ false }
     {
-        self.works.into_wave()
+        self.works.into_capture()
     }
 }

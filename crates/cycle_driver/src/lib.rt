@@ -6,8 +6,6 @@ mod driver;
 mod ends;
 mod faults;
 mod opening;
-mod turning;
-mod works;
 mod writing;
 
 pub use driver::Driver;

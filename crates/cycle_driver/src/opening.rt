@@ -1,90 +1,23 @@
 //! How a driver is made.
 
-ghost use Rattle.std.specs.Prelude.{◌≡◌, ◌<◌, ◌≤◌, IfErr, IfOk, [], ◌∷◌, false, length, map};
-ghost use Rattle.std.specs.Vec.{vec_capacity};
-ghost use Rattle.driver_laws.specs.Openings.{IsNew};
-ghost use Rattle.task_laws.specs.Calls.{guests_needed};
-ghost use Rattle.cycle_laws.specs.Gears.{IsServed, driver_of};
-ghost use Rattle.cycle_driver.specs.Makings.{AreNewLists, AreNewOutlets, AreNewRings, IsMade, IsNewMix, IsNewOutfit, IsNewStage, IsNewTransport, IsOpeningPlan, IsRoom, IsUnread};
+ghost use Rattle.std.specs.Prelude.{◌≡◌, ◌<◌, ◌≤◌, IfOk, None};
+ghost use Rattle.driver_laws.specs.Drivers.{greatest_period};
+ghost use Rattle.cycle_works.specs.Gears.{IsServed};
 
 use crate::driver::Driver;
-use crate::works::Works;
 use client_kinds::Guest;
-use client_stage::Stage;
 use cycle_plan::Plan;
-use device_periods::Capture;
+use cycle_works::Works;
 use graph_word::Reader;
 use jack_host::{Source, Store};
-use jack_types::{Format, Memory, Moment};
-use plan_transport::PlanTransport;
+use jack_types::{Format, Memory};
 use playback_mix::Playback;
-use proof_notes::Log;
-use recorder_rings::RecorderRings;
-use script_needs::{cycles, greatest_period, open_kinds};
+use script_needs::greatest_period;
 use session_script::Script;
 use std::alloc::Global;
-use task_laws::scripts::kinds_are_of_the_script;
 use wave_pcm::Wave;
 
-/// Where a driver's samples go.
-#[derive(Drop)]
-struct Outlets {
-    rings: RecorderRings,
-    mix: Playback,
-}
-
-/// What a driver keeps of each cycle.
-#[derive(Drop)]
-struct Lists {
-    numbers: Vec<u32>,
-    moments: Vec<Moment>,
-}
-
-/// What stands around a driver's stage.
-#[derive(Drop)]
-struct Outfit {
-    transport: PlanTransport,
-    outlets: Outlets,
-    lists: Lists,
-}
-
-/// All of a driver's memory but the capture's.
-#[derive(Drop)]
-struct Made<G: Guest> {
-    stage: Stage<G>,
-    outfit: Outfit,
-}
-
-/// No number yet, with room for one of each cycle of a script.
-fn no_numbers(alloc: Global, script: &Script) -> Result<Vec<u32>, Memory>
-    ensures { IfOk result (λ numbers. IsRoom script.now numbers.items (vec_capacity numbers)) }
-{
-    match Vec::with_capacity(alloc, cycles(script) as usize) {
-        Ok(numbers) => Ok(numbers),
-        Err(_) => Err(Memory),
-    }
-}
-
-/// No moment yet, with room for one of each cycle of a script.
-fn no_moments(alloc: Global, script: &Script) -> Result<Vec<Moment>, Memory>
-    ensures { IfOk result (λ moments. IsRoom script.now moments.items (vec_capacity moments)) }
-{
-    match Vec::with_capacity(alloc, cycles(script) as usize) {
-        Ok(moments) => Ok(moments),
-        Err(_) => Err(Memory),
-    }
-}
-
-/// The lists of a script's cycles, before the first.
-fn make_lists(alloc: Global, script: &Script) -> Result<Lists, Memory>
-    ensures { IfOk result (AreNewLists script.now) }
-{
-    let numbers = no_numbers(alloc, script)?;
-    let moments = no_moments(alloc, script)?;
-    Ok(Lists { numbers, moments })
-}
-
-/// How many seats the crew of a script has: one for each worker, or the caller's alone.
+/// How many seats there are for those who play a script: one for each worker, or the caller's alone.
 fn seats(script: &Script) -> u32
     ensures { (0 < result) × (result ≤ 16) }
 {
@@ -94,138 +27,28 @@ fn seats(script: &Script) -> u32
     }
 }
 
-/// A plan without changes, of a script's channels.
-fn opening_plan(alloc: Global, script: &Script) -> Result<Plan, Memory>
-    ensures { IfOk result (IsOpeningPlan script.now) }
-{
-    let header = script.header();
-    Plan::new(alloc, header.capture, header.playback)
-}
-
-/// The stage of a script's clients, on which nobody plays yet.
-fn make_stage<G: Guest>(alloc: Global, script: &Script, guests: Vec<G>) -> Result<Stage<G>, Memory>
-    requires served { IsServed script.now }
-    ensures { IfOk result (IsNewStage script.now (map G.score guests.items)) }
-{
-    kinds_are_of_the_script();
-    let opening = opening_plan(alloc, script)?;
-    let kinds = open_kinds(alloc, script)?;
-    Stage::new(
-        alloc,
-        kinds.as_slice(),
-        guests,
-        greatest_period(script),
-        seats(script),
-        &opening,
-    )
-}
-
-/// The rings of a script's recorders, with room for an overrun of each in each cycle.
-fn make_rings(alloc: Global, script: &Script) -> Result<RecorderRings, Memory>
-    ensures { IfOk result (AreNewRings script.now) }
-{
-    let header = script.header();
-    let recorders = header.recorders.as_slice();
-    let overruns = cycles(script) as usize * recorders.len();
-    RecorderRings::new(
-        alloc,
-        recorders,
-        header.ring,
-        greatest_period(script),
-        overruns,
-    )
-}
-
 /// The room for the playback of a script's channels.
 fn make_mix(alloc: Global, script: &Script) -> Result<Playback, Memory>
-    ensures { IfOk result (IsNewMix script.now) }
+    ensures { IfOk result (λ mix. (mix.channels ≡ script.now.header.playback) × (mix.room ≡ greatest_period script.now)) }
 {
     Playback::new(alloc, script.header().playback, greatest_period(script))
 }
 
-/// The rings and the playback's room of a script.
-fn make_outlets(alloc: Global, script: &Script) -> Result<Outlets, Memory>
-    ensures { IfOk result (AreNewOutlets script.now) }
-{
-    let rings = make_rings(alloc, script)?;
-    let mix = make_mix(alloc, script)?;
-    Ok(Outlets { rings, mix })
-}
-
-/// A transport of a script's rate, before the first cycle.
-fn make_transport(script: &Script) -> PlanTransport
-    ensures { IsNewTransport script.now result }
-{
-    PlanTransport::new(script.header().rate)
-}
-
-/// What stands around the stage of a script's clients, before the first cycle.
-fn make_outfit(alloc: Global, script: &Script) -> Result<Outfit, Memory>
-    ensures { IfOk result (IsNewOutfit script.now) }
-{
-    let outlets = make_outlets(alloc, script)?;
-    let lists = make_lists(alloc, script)?;
-    Ok(Outfit {
-        transport: make_transport(script),
-        outlets,
-        lists,
-    })
-}
-
-/// Takes all memory of a script's driver but the capture's.
-fn make<G: Guest>(alloc: Global, script: &Script, guests: Vec<G>) -> Result<Made<G>, Memory>
-    requires served { IsServed script.now }
-    ensures { IfOk result (IsMade script.now (map G.score guests.items)) }
-{
-    let stage = make_stage(alloc, script, guests)?;
-    let outfit = make_outfit(alloc, script)?;
-    Ok(Made { stage, outfit })
-}
-
-/// A script, noted for proofs.
-fn note(script: &Script) -> Log<(), Script>
-    ensures { result.items ≡ (tt, script.now) ∷ [] }
-{
-    Log::new().and(&(), script)
-}
-
-/// A driver of its parts, before the first cycle.
-fn assemble<S: Source, W: Store, G: Guest>(
+/// A driver of a script's works, with this room for its playback, and with none attached.
+fn around<S: Source, W: Store, G: Guest>(
     script: &Script,
-    reader: Reader<Plan>,
-    capture: Capture<S>,
-    made: Made<G>,
+    works: Works<S, G>,
+    mix: Playback,
 ) -> Driver<S, W, G>
     requires served { IsServed script.now }
-    requires rows { reader.0.rows ≡ [] }
-    requires capture { IsUnread script.now capture }
-    requires made { IsMade script.now made.stage.staged.owned.scores made }
-    requires guests { guests_needed script.now ≤ length made.stage.staged.owned.scores }
-    ensures new { IsNew script.now made.stage.staged.owned.scores (driver_of result) }
-    ensures capture { result.capture ≡ capture }
-    ensures reader { result.reading ≡ reader.0 }
-    ensures rings { result.rings ≡ made.outfit.outlets.rings }
+    requires mix { (mix.channels ≡ script.now.header.playback) × (mix.room ≡ greatest_period script.now) }
+    requires script { works.script ≡ script.now }
+    requires playback { works.playback ≡ None }
+    ensures { result ≡ works }
 {
     let header = script.header();
-    let Outfit {
-        transport,
-        outlets,
-        lists,
-    } = made.outfit;
-    let Outlets { rings, mix } = outlets;
-    let Lists { numbers, moments } = lists;
     Driver {
-        script: note(script),
-        works: Works {
-            reader,
-            stage: made.stage,
-            capture,
-            transport,
-            rings,
-            numbers,
-            moments,
-            set: header.period,
-        },
+        works,
         mix,
         format: Format {
             rate: header.rate,
@@ -233,32 +56,6 @@ fn assemble<S: Source, W: Store, G: Guest>(
             bits: header.bits,
         },
         playback: None,
-        failed: false,
-    }
-}
-
-/// A driver of its parts over a file, before the first cycle; the file comes back where its channels find no memory.
-fn over<S: Source, W: Store, G: Guest>(
-    alloc: Global,
-    script: &Script,
-    reader: Reader<Plan>,
-    capture: Wave<S>,
-    made: Made<G>,
-) -> Result<Driver<S, W, G>, (Wave<S>, Memory)>
-    requires served { IsServed script.now }
-    requires rows { reader.0.rows ≡ [] }
-    requires capture { (capture.format.channels ≡ script.now.header.capture) × (capture.failed ≡ false) }
-    requires made { IsMade script.now made.stage.staged.owned.scores made }
-    requires guests { guests_needed script.now ≤ length made.stage.staged.owned.scores }
-    ensures new { IfOk result (λ driver. IsNew script.now made.stage.staged.owned.scores (driver_of driver)) }
-    ensures capture { IfOk result (λ driver. driver.capture.reading ≡ capture) }
-    ensures reader { IfOk result (λ driver. driver.reading ≡ reader.0) }
-    ensures rings { IfOk result (λ driver. driver.rings ≡ made.outfit.outlets.rings) }
-    ensures back { IfErr result (λ refused. refused.0 ≡ capture) }
-{
-    match Capture::new(alloc, capture, greatest_period(script)) {
-        Ok(capture) => Ok(assemble(script, reader, capture, made)),
-        Err(refused) => Err(refused),
     }
 }
 
@@ -269,7 +66,7 @@ impl<S: Source, W: Store, G: Guest> Driver<S, W, G> {
     ghost use Rattle.driver_laws.specs.Openings.{IsNew};
     ghost use Rattle.recorder_rings.specs.Openings.{IsNew as AreNew};
     ghost use Rattle.task_laws.specs.Calls.{guests_needed};
-    ghost use Rattle.cycle_laws.specs.Gears.{IsServed, driver_of};
+    ghost use Rattle.cycle_works.specs.Gears.{IsServed, driver_of};
 
     /// The driver of a script's cycles, with these guests, over a capture of the script's channels of which nothing was read.
     /// No cycle was begun by the reader yet. All memory is taken here; where it lacks, the capture comes back.
@@ -290,9 +87,12 @@ impl<S: Source, W: Store, G: Guest> Driver<S, W, G> {
         ensures rings { IfOk result (λ driver. AreNew script.now.header.recorders script.now.header.ring (greatest_period script.now) (length (turns script.now) * length script.now.header.recorders) driver.rings) }
         ensures back { IfErr result (λ refused. refused.0 ≡ capture) }
     {
-        match make(alloc, script, guests) {
-            Ok(made) => over(alloc, script, reader, capture, made),
-            Err(memory) => Err((capture, memory)),
+        match Works::new(alloc, script, reader, capture, guests, seats(script)) {
+            Ok(works) => match make_mix(alloc, script) {
+                Ok(mix) => Ok(around(script, works, mix)),
+                Err(memory) => Err((works.into_capture(), memory)),
+            },
+            Err(refused) => Err(refused),
         }
     }
 }

@@ -110,5 +110,7 @@ module _ (freewheel : Bool) (before after : Gear) (plan : Planned) (moment : Mom
         let same : length (turns before.script) ≡ length (turns after.script) = script-back (λ (s : Script). length (turns s)) in
         let ran = size in
         omega (arith, left, same, ran);
+    events = turned.events ∙ is.events;
+    disks = turned.disks ∙ is.disks;
     in_step = λ sound. in-step;
   }

@@ -1,5 +1,6 @@
 -- What a driver is made of, as the contracts of its parts see them.
 --     Gear      its parts
+--     no_events      what is heard where no client plays an event
 --     driver_of gear      the driver that they make
 --     IsServed script      a script of the words that are played yet
 --     IsGear gear      what is true of the parts between two cycles
@@ -21,6 +22,8 @@ use Rattle.client_seats.specs.Seatings.{memories}
 use Rattle.recorder_rings.specs.Sending.{Sent}
 use Rattle.task_laws.specs.Calls.{guests_needed, open_kinds}
 use Rattle.stage_laws.specs.Stages.{bench_on}
+use Rattle.midi_wiring.specs.Hearings.{Heard}
+use Rattle.disk_feeds.specs.Feeding.{Fed, no_disks}
 pub use Rattle.stage_laws.specs.Standing.{OnStage, StandsOn}
 
 pub record Gear : Type 0 where
@@ -35,6 +38,11 @@ pub record Gear : Type 0 where
   pub playback : Option Tape
   pub set : ℕ
   pub failed : Bool
+  pub events : Heard
+  pub disks : Fed
+
+abbrev pub no_events : Heard
+no_events = record { lists = []; period = 0; played = []; carried = []; before = []; logs = [] }
 
 -- what the last cycle took is the content of the plan that the stage played last, and its MIDI ports are quiet; there are no disks
 abbrev pub driver_of : Gear → Driver
@@ -92,4 +100,6 @@ pub record IsGear (gear : Gear) : Type 0 where
   pub overruns : length gear.rings.overruns ≤ length gear.numbers * length gear.rings.rings
   pub losses : length (turns gear.script) * length gear.rings.rings ≤ gear.rings.losses
   pub few : length gear.numbers ≤ length (turns gear.script)
+  pub events : gear.events ≡ no_events
+  pub disks : gear.disks ≡ no_disks
   pub in_step : gear.failed ≡ false → IsInStep gear

@@ -57,3 +57,5 @@ pub record Turns (freewheel : Bool) (before : Gear) (plan : Planned) (moment : M
   pub sends : Sends after.stage.staged.racked (open_clients plan.nodes) (length before.numbers + 1) before.set before.rings after.rings
   pub script : after.script ≡ before.script
   pub set : after.set ≡ before.set
+  pub events : after.events ≡ before.events
+  pub disks : after.disks ≡ before.disks

@@ -1,0 +1,6 @@
+-- What is behind one cycle more, for owners of the works.
+--     later      a driver one cycle on
+--     samples-next, frames-is      how many samples and frames that is
+pub use Rattle.cycle_laws.proofs.FrameLemmas.{samples-next}
+pub use Rattle.cycle_laws.proofs.MayLemmas.{later}
+pub use Rattle.cycle_laws.proofs.StepLemmas.{frames-is}

@@ -1,0 +1,3 @@
+pub mod Gears
+pub mod Makings
+pub mod Insides

@@ -1,0 +1,93 @@
+//! What the works lend and hand out, and what they are told between two cycles.
+
+use crate::works::Works;
+use client_kinds::Guest;
+use cycle_plan::Plan;
+use graph_word::Reader;
+use jack_host::Source;
+use jack_types::{Moment, Overrun};
+use record_ring::{Consumer, Producer};
+use wave_pcm::Wave;
+
+impl<S: Source, G: Guest> Works<S, G> {
+    ghost use Rattle.std.specs.Prelude.{◌≡◌, ◌<◌, false, None, length, slice_set};
+    ghost use Rattle.std.specs.Borrow.{sem, Lends};
+    ghost use Rattle.graph_word.specs.contracts.reader.Reader.{the_row as the_reader};
+    ghost use Rattle.cycle_plan.specs.contracts.plan.Plan.{the_row as the_plan};
+    ghost use Rattle.cycle_plan.specs.Plans.{Planned};
+    ghost use Rattle.record_ring.specs.contracts.producer.Producer.{the_row as the_producer};
+    ghost use Rattle.recorder_rings.specs.Sending.{consumer_at, ring_at};
+    ghost use Rattle.cycle_works.specs.contracts.works.Works.{the_row};
+    ghost use Rattle.driver_laws.specs.Drivers.{peak_in};
+    ghost use Rattle.cycle_laws.specs.Gears.{driver_of};
+
+    /// Sets the period of the next cycle, in frames.
+    pub fn period(&mut self, period: u32)
+        ensures { self.new ≡ record self.old { set = period } }
+    {
+        self.parts.set = period;
+    }
+
+    /// Of each cycle run the number that it took.
+    pub fn numbers(&self) -> &[u32]
+        ensures { result.now ≡ self.now.numbers }
+    {
+        &self.parts.numbers
+    }
+
+    /// What the transport showed in each cycle run: as many as there are numbers, where nothing failed.
+    pub fn moments(&self) -> &[Moment]
+        ensures value { result.now ≡ self.now.moments }
+        ensures count { self.now.failed ≡ false → length self.now.moments ≡ length self.now.numbers }
+    {
+        &self.parts.moments
+    }
+
+    /// The overruns of all recorders, in the order in which they came.
+    pub fn overruns(&self) -> &[Overrun]
+        ensures { result.now ≡ self.now.rings.overruns }
+    {
+        self.parts.rings.overruns()
+    }
+
+    /// The peak of the meter that the change of this number opened, over the cycles run; 0 for every other number.
+    pub fn peak(&self, birth: u32) -> u32
+        ensures { result ≡ peak_in (driver_of self.now) birth }
+    {
+        self.parts.stage.peak(birth)
+    }
+
+    /// The end of the publication that reads plans, to meet the other end.
+    pub fn reader(&mut self) -> &mut Reader<Plan>
+        ensures* writes_back { sem 𝓛 (Lends (the_row S.row G.row S.Source G.Guest) (the_reader the_plan (record { base = λ (plan : Planned). plan.base; content = λ (plan : Planned). plan.changes })) self.entry result (λ reader. record self.old { reading = reader.0 })) }
+        ensures value { result.now.0 ≡ self.old.reading }
+    {
+        &mut self.parts.reader
+    }
+
+    /// Hands the end of a recorder's ring out that gets, None exactly where it is out.
+    pub fn consumer(&mut self, recorder: u8) -> Option<Consumer>
+        requires { recorder < length self.old.rings.rings }
+        ensures end { result ≡ consumer_at self.old.rings recorder }
+        ensures after { self.new ≡ record self.old { rings = record self.old.rings { out = slice_set self.old.rings.out recorder None } } }
+    {
+        self.parts.rings.consumer(recorder)
+    }
+
+    /// The end of a recorder's ring that puts, to end it or to meet the other end.
+    pub fn producer(&mut self, recorder: u8) -> &mut Producer
+        requires { recorder < length self.old.rings.rings }
+        ensures* writes_back { sem 𝓛 (Lends (the_row S.row G.row S.Source G.Guest) the_producer self.entry result (λ ring. record self.old { rings = record self.old.rings { rings = slice_set self.old.rings.rings recorder ring } })) }
+        ensures value { result.now ≡ ring_at self.old.rings recorder }
+    {
+        self.parts.rings.producer(recorder)
+    }
+
+    /// The capture, as far as it was read. Where no cycle failed, none of its reads did.
+    pub fn into_capture(self) -> Wave<S>
+        ensures reading { result ≡ self.capture.reading }
+        ensures sound { self.failed ≡ false → result.failed ≡ false }
+    {
+        self.parts.into_wave()
+    }
+}

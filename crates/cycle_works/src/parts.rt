@@ -1,0 +1,37 @@
+//! The parts that a cycle moves.
+
+use client_kinds::Guest;
+use client_stage::Stage;
+use cycle_plan::Plan;
+use device_periods::Capture;
+use graph_word::Reader;
+use jack_host::Source;
+use jack_types::Moment;
+use plan_transport::PlanTransport;
+use recorder_rings::RecorderRings;
+use wave_pcm::Wave;
+
+/// The end of the publication that reads plans; the stage on which their clients play; the capture, the transport and the
+/// recorders' rings; of each cycle so far the number that it took, and what the transport showed; and the period of the next.
+#[derive(Drop)]
+pub(crate) struct Parts<S: Source, G: Guest> {
+    pub reader: Reader<Plan>,
+    pub stage: Stage<G>,
+    pub capture: Capture<S>,
+    pub transport: PlanTransport,
+    pub rings: RecorderRings,
+    pub numbers: Vec<u32>,
+    pub moments: Vec<Moment>,
+    pub set: u32,
+}
+
+impl<S: Source, G: Guest> Parts<S, G> {
+    ghost use Rattle.std.specs.Prelude.{◌≡◌};
+
+    /// The file of the capture.
+    pub fn into_wave(self) -> Wave<S>
+        ensures { result ≡ self.capture.reading }
+    {
+        self.capture.into_wave()
+    }
+}
