@@ -1,0 +1,6 @@
+mod Going
+mod Tallied
+mod Changing
+mod Seated
+mod Offered
+mod Cycled

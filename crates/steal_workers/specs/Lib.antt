@@ -1,0 +1,6 @@
+pub mod Tallies
+pub mod Deques
+pub mod Places
+pub mod Steals
+pub mod Works
+pub mod Thefts

@@ -1,0 +1,53 @@
+//! All seats in threads, and what the calling thread does behind them.
+ghost use Rattle.std.specs.Prelude.{◌≡◌, ◌≤◌, List, length, All, vec_capacity};
+ghost use Rattle.activation.specs.Ends.{AreEnded};
+ghost use Rattle.activation.specs.Rounds.{AreSeats, HavePlayed, Know, AreFresh};
+ghost use Rattle.cycle_workers.specs.Runs.{HaveRoom};
+ghost use Rattle.steal_workers.specs.Thefts.{AreEmpty};
+ghost use Rattle.steal_workers.specs.Works.{IsReady, HasPlayedOn};
+
+use crate::ends::Stealer;
+use crate::places::Place;
+use crate::seating::{begin, end};
+use crate::stealing::{sweep_all, work};
+use crate::thieves::Thieves;
+use activation::{Crew, Seat, Work};
+use jack_host::Gate;
+use std::thread;
+use std::thread::Threads;
+
+/// Plays every node of the crew once, with the seats shared among as many threads. The seats take each
+/// other's nodes.
+///
+/// The crew is new or was reset, and these are all its seats; each bench has room at the places of its
+/// node's outgoing links. There is a deque for each seat. With one seat no thread is started. A push may
+/// take memory for its deque; where that is refused the seat plays the node itself.
+pub fn steal_cycle<B: Work + Send, G: Gate, T: Threads + Sync>(
+    threads: &T,
+    crew: &Crew<B>,
+    seats: &mut Vec<Seat<B>>,
+    thieves: &mut Thieves<B>,
+    gate: &G,
+)
+    requires all { AreSeats crew.now.board.shared.table_id crew.now.links.items crew.now.nodes crew.now.seats seats.old.items }
+    requires fresh { (before : List B) × AreFresh crew.now.links.items before crew.now.seats seats.old.items × HaveRoom B.has_room crew.now.links.items before }
+    requires deques { length thieves.old.places.items ≡ crew.now.seats }
+    ensures all { AreSeats crew.now.board.shared.table_id crew.now.links.items crew.now.nodes crew.now.seats seats.new.items }
+    ensures played { HavePlayed crew.now.nodes crew.now.seats seats.new.items }
+    ensures before { (before : List B) → Know before seats.old.items → Know before seats.new.items }
+    ensures ended { (before : List B) → Know before seats.old.items → AreEnded B.memory B.has_room B.after B.gives crew.now.links.items before seats.new.items }
+    ensures deques { length thieves.new.places.items ≡ crew.now.seats }
+    ensures empty { AreEmpty thieves.new.places.items }
+{
+    let places = thieves.places.as_mut_slice();
+    begin(places, seats, &mut thieves.passes);
+    let count = places.len();
+    let stealers = &thieves.stealers;
+    let step = |_index: usize, place: &mut Place<B>|
+        requires { IsReady B.has_room crew.now.board.shared.table_id crew.now.links.items crew.now.nodes crew.now.seats stealers.now.items place.old × (length stealers.now.items ≡ crew.now.seats) }
+        ensures { HasPlayedOn crew.entry.now.board.shared.table_id crew.entry.now.links.items crew.entry.now.nodes crew.entry.now.seats stealers.entry.now.items place.entry.now place.exit.now }
+    { work(crew, place, stealers.as_slice(), gate) };
+    thread::for_each_mut(threads, places, count, &step);
+    end(places, seats, &mut thieves.passes);
+    sweep_all(crew, seats.as_mut_slice(), gate);
+}

@@ -1,0 +1,16 @@
+//! One cycle of a crew whose seats take each other's nodes.
+#![tactic(auto)]
+
+mod cycling;
+mod deques;
+mod ends;
+mod making;
+mod places;
+mod running;
+mod seating;
+mod stealing;
+mod tallies;
+mod thieves;
+
+pub use cycling::steal_cycle;
+pub use thieves::Thieves;

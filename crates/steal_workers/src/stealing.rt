@@ -1,0 +1,203 @@
+//! What each seat runs.
+ghost use Rattle.std.specs.Prelude.{◌≡◌, ◌<◌, ◌≤◌, ◌⊎◌, ℕ, List, [], ◌∷◌, length, All, true, vec_capacity};
+ghost use Rattle.activation.specs.Rule.{has};
+ghost use Rattle.activation.specs.Plays.{without};
+ghost use Rattle.activation.specs.Seats.{Sits, new_duty};
+ghost use Rattle.activation.specs.Takens.{IsUnplayed, AreBetween};
+ghost use Rattle.cycle_workers.specs.Runs.{HaveRoom};
+ghost use Rattle.steal_workers.specs.Tallies.{with_pushed};
+ghost use Rattle.steal_workers.specs.Deques.{tally_of, IsPassFor};
+ghost use Rattle.steal_workers.specs.Places.{Paired};
+ghost use Rattle.steal_workers.specs.Steals.{KeepsDeque, IsOffered, LeavesAbove, IsPicked, HasWorked, HasSwept};
+ghost use Rattle.steal_workers.specs.Works.{IsReady, HasPlayedOn, MaySweep, Sweeps};
+
+use crate::ends::{Deque, Pass, Stealer};
+use crate::places::{Place, Thief};
+use crate::running::run;
+use activation::{Crew, Seat, Taken, Work};
+use jack_host::Gate;
+
+// Leaves a node that the seat took, and pushes its number. Where the push is refused the seat picks the
+// node again, and runs it.
+fn offer<B: Work, G: Gate>(
+    crew: &Crew<B>,
+    seat: &mut Seat<B>,
+    deque: &mut Deque,
+    gate: &G,
+    taken: Taken<B>,
+)
+    requires seat { Sits crew.now.board.shared.table_id crew.now.links.items crew.now.nodes crew.now.seats seat.old.number seat.old.token }
+    requires taken { IsUnplayed B.memory B.has_room B.value_at B.after B.gives seat.old.token.me.0.duty taken.node taken.desk }
+    requires room { HaveRoom B.has_room crew.now.links.items seat.old.token.me.0.duty.before }
+    ensures seat { (seat.new.number ≡ seat.old.number) × Sits crew.now.board.shared.table_id crew.now.links.items crew.now.nodes crew.now.seats seat.new.number seat.new.token }
+    ensures deque { KeepsDeque deque.old deque.new }
+    ensures offered { IsOffered crew.now.links.items taken.node seat.old.token.me.0.duty seat.new.token.me.0.duty }
+    ensures left { ((tally_of deque.new ≡ with_pushed (tally_of deque.old) (taken.node ∷ [])) × (seat.new.token.me.0.duty.left ≡ taken.node ∷ seat.old.token.me.0.duty.left))
+        ⊎ ((tally_of deque.new ≡ tally_of deque.old) × (seat.new.token.me.0.duty.left ≡ without taken.node seat.old.token.me.0.duty.left)) }
+{
+    let node = taken.node();
+    crew.leave(seat, taken);
+    if deque.push(node).is_ok() {
+        return;
+    }
+    if let Some(taken) = crew.pick(seat, node) {
+        run(crew, seat, gate, taken);
+    }
+}
+
+// Plays a node that the seat picked, releases its links, offers what that takes, and brings it home.
+fn play<B: Work, G: Gate>(
+    crew: &Crew<B>,
+    seat: &mut Seat<B>,
+    deque: &mut Deque,
+    gate: &G,
+    mut taken: Taken<B>,
+)
+    requires seat { Sits crew.now.board.shared.table_id crew.now.links.items crew.now.nodes crew.now.seats seat.old.number seat.old.token }
+    requires taken { IsUnplayed B.memory B.has_room B.value_at B.after B.gives seat.old.token.me.0.duty taken.node taken.desk }
+    requires room { HaveRoom B.has_room crew.now.links.items seat.old.token.me.0.duty.before }
+    ensures seat { (seat.new.number ≡ seat.old.number) × Sits crew.now.board.shared.table_id crew.now.links.items crew.now.nodes crew.now.seats seat.new.number seat.new.token }
+    ensures deque { KeepsDeque deque.old deque.new }
+    ensures played { IsOffered crew.now.links.items taken.node seat.old.token.me.0.duty seat.new.token.me.0.duty }
+    ensures left { LeavesAbove taken.node crew.now.nodes seat.old.token.me.0.duty.left seat.new.token.me.0.duty.left }
+{
+    let node = taken.node();
+    gate.before_client(seat.number(), node);
+    taken.play();
+    let links = crew.outgoing(node);
+    for link in links {
+        if let Some(next) = crew.release(seat, &mut taken, *link) {
+            offer(crew, seat, deque, gate, next);
+        }
+    }
+    crew.home(seat, taken);
+}
+
+// Picks a node whose number a deque gave, and plays it.
+fn pick<B: Work, G: Gate>(
+    crew: &Crew<B>,
+    seat: &mut Seat<B>,
+    deque: &mut Deque,
+    gate: &G,
+    node: u32,
+)
+    requires seat { Sits crew.now.board.shared.table_id crew.now.links.items crew.now.nodes crew.now.seats seat.old.number seat.old.token }
+    requires node { node < crew.now.nodes }
+    requires room { HaveRoom B.has_room crew.now.links.items seat.old.token.me.0.duty.before }
+    ensures seat { (seat.new.number ≡ seat.old.number) × Sits crew.now.board.shared.table_id crew.now.links.items crew.now.nodes crew.now.seats seat.new.number seat.new.token }
+    ensures deque { KeepsDeque deque.old deque.new }
+    ensures picked { IsPicked node crew.now.nodes seat.old.token.me.0.duty seat.new.token.me.0.duty }
+{
+    if let Some(taken) = crew.pick(seat, node) {
+        play(crew, seat, deque, gate, taken);
+    }
+}
+
+// Offers every node that the starts of the seat's share take.
+fn start<B: Work, G: Gate>(
+    crew: &Crew<B>,
+    seat: &mut Seat<B>,
+    deque: &mut Deque,
+    gate: &G,
+    count: u32,
+)
+    requires seat { Sits crew.now.board.shared.table_id crew.now.links.items crew.now.nodes crew.now.seats seat.old.number seat.old.token }
+    requires count { count ≡ crew.now.seats }
+    requires fresh { seat.old.token.me.0.duty ≡ new_duty crew.now.links.items seat.old.token.me.0.duty.before count (seat.old.number ∷ []) }
+    requires room { HaveRoom B.has_room crew.now.links.items seat.old.token.me.0.duty.before }
+    ensures seat { (seat.new.number ≡ seat.old.number) × Sits crew.now.board.shared.table_id crew.now.links.items crew.now.nodes crew.now.seats seat.new.number seat.new.token }
+    ensures deque { KeepsDeque deque.old deque.new }
+    ensures worked { HasWorked crew.now.nodes count seat.new.number seat.old.token.me.0.duty seat.new.token.me.0.duty }
+{
+    for node in 0..crew.nodes() {
+        if node % count == seat.number() {
+            if let Some(taken) = crew.start(seat, node) {
+                offer(crew, seat, deque, gate, taken);
+            }
+        }
+    }
+}
+
+// The number that one of the other deques gives, asked once each, from the next seat's on.
+fn steal(stealers: &[Stealer], passes: &mut Vec<Pass>, own: u32) -> Option<u32>
+    requires { Paired IsPassFor stealers.now passes.old.items }
+    ensures passes { Paired IsPassFor stealers.now passes.new.items }
+    ensures room { vec_capacity passes.new ≡ vec_capacity passes.old }
+{
+    let count = stealers.len();
+    for step in 1..count {
+        let place = (own as usize + step) % count;
+        if let Some(node) = stealers[place].steal(&mut passes[place]) {
+            return Some(node);
+        }
+    }
+    None
+}
+
+// A number of the seat's own deque, or else of another.
+fn find(deque: &mut Deque, stealers: &[Stealer], passes: &mut Vec<Pass>, own: u32) -> Option<u32>
+    requires part { 0 < (tally_of deque.old).parts }
+    requires passes { Paired IsPassFor stealers.now passes.old.items }
+    ensures deque { KeepsDeque deque.old deque.new }
+    ensures passes { Paired IsPassFor stealers.now passes.new.items }
+    ensures room { vec_capacity passes.new ≡ vec_capacity passes.old }
+{
+    if let Some(node) = deque.pop() {
+        return Some(node);
+    }
+    steal(stealers, passes, own)
+}
+
+/// Starts the seat's share, and plays what its deque and the others hold, until none of them gives more.
+pub(crate) fn work<B: Work, G: Gate>(
+    crew: &Crew<B>,
+    place: &mut Place<B>,
+    stealers: &[Stealer],
+    gate: &G,
+)
+    requires ready { IsReady B.has_room crew.now.board.shared.table_id crew.now.links.items crew.now.nodes crew.now.seats stealers.now place.old }
+    requires count { length stealers.now ≡ crew.now.seats }
+    ensures { HasPlayedOn crew.now.board.shared.table_id crew.now.links.items crew.now.nodes crew.now.seats stealers.now place.old place.new }
+{
+    let Place { deque, thief } = place;
+    let Some(thief) = thief else {
+        return;
+    };
+    let Thief { seat, passes } = thief;
+    start(crew, seat, deque, gate, stealers.len() as u32);
+    // Each node's number is pushed once a cycle at most, so no seat finds more.
+    for _ in 0..crew.nodes() {
+        let Some(node) = find(deque, stealers, passes, seat.number()) else {
+            return;
+        };
+        if node < crew.nodes() {
+            pick(crew, seat, deque, gate, node);
+        }
+    }
+}
+
+// Picks every node, and runs those that were left.
+fn sweep<B: Work, G: Gate>(crew: &Crew<B>, seat: &mut Seat<B>, gate: &G)
+    requires seat { Sits crew.now.board.shared.table_id crew.now.links.items crew.now.nodes crew.now.seats seat.old.number seat.old.token }
+    requires room { HaveRoom B.has_room crew.now.links.items seat.old.token.me.0.duty.before }
+    requires none_held { seat.old.token.me.0.duty.held ≡ [] }
+    requires left { AreBetween 0 crew.now.nodes seat.old.token.me.0.duty.left }
+    ensures seat { (seat.new.number ≡ seat.old.number) × Sits crew.now.board.shared.table_id crew.now.links.items crew.now.nodes crew.now.seats seat.new.number seat.new.token }
+    ensures swept { HasSwept seat.old.token.me.0.duty seat.new.token.me.0.duty }
+{
+    for node in 0..crew.nodes() {
+        if let Some(taken) = crew.pick(seat, node) {
+            run(crew, seat, gate, taken);
+        }
+    }
+}
+
+/// Lets each seat pick every node, and run those that were left.
+pub(crate) fn sweep_all<B: Work, G: Gate>(crew: &Crew<B>, seats: &mut [Seat<B>], gate: &G)
+    requires seats { All (λ seat. MaySweep B.has_room crew.now.board.shared.table_id crew.now.links.items crew.now.nodes crew.now.seats seat) seats.old }
+    ensures { Paired (Sweeps crew.now.board.shared.table_id crew.now.links.items crew.now.nodes crew.now.seats) seats.old seats.new }
+{
+    for seat in seats.iter_mut() {
+        sweep(crew, seat, gate);
+    }
+}
