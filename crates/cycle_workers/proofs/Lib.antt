@@ -1,2 +1,1 @@
-mod Going
-mod Hashing
+pub mod Going

@@ -11,8 +11,11 @@ use jack_host::Gate;
 use std::thread;
 use std::thread::Threads;
 
-// Plays a node that the seat took, releases its links, runs what that takes, and brings it home.
-fn run<B: Work, G: Gate>(crew: &Crew<B>, seat: &mut Seat<B>, gate: &G, mut taken: Taken<B>)
+/// Plays a node that the seat took, releases its links, runs what that takes, and brings it home.
+///
+/// Each bench has room at the places of its node's outgoing links. The gate is told the node before it
+/// is played.
+pub fn run<B: Work, G: Gate>(crew: &Crew<B>, seat: &mut Seat<B>, gate: &G, mut taken: Taken<B>)
     requires seat { Sits crew.now.board.shared.table_id crew.now.links.items crew.now.nodes crew.now.seats seat.old.number seat.old.token }
     requires taken { IsUnplayed B.memory B.has_room B.value_at B.after B.gives seat.old.token.me.0.duty taken.node taken.desk }
     requires room { HaveRoom B.has_room crew.now.links.items seat.old.token.me.0.duty.before }

@@ -131,7 +131,7 @@ fn relay<R: Threads + Wait + Sync>(
 
 #[test]
 fn what_one_thread_puts_another_gets(rt: HostRuntime) -> Result<(), Fail> {
-    let (_producer, _consumer, in_order) = relay(&rt, rt.alloc(), 100_000)?;
+    let (_producer, _consumer, in_order) = relay(&rt, rt.alloc(), 5_000)?;
     assert!(rt; in_order);
     Ok(())
 }

@@ -10,7 +10,7 @@ use Rattle.activation.specs.Rule.{has}
 use Rattle.activation.specs.Rounds.{AreSeats, HavePlayed, Know, AreFresh}
 use Rattle.activation.specs.Seats.{Sits, new_duty}
 use Rattle.cycle_workers.specs.Runs.{HaveRoom}
-use Rattle.steal_workers.proofs.Going.{mapped_same}
+use Rattle.cycle_workers.proofs.Going.{mapped_same}
 use Rattle.steal_workers.specs.declared.tallies.Tally.{Tally}
 use Rattle.steal_workers.specs.declared.ends.Stealer.{Stealer}
 use Rattle.steal_workers.specs.declared.places.Place.{Place}

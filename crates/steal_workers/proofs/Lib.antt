@@ -1,4 +1,3 @@
-mod Going
 mod Tallied
 mod Changing
 mod Seated

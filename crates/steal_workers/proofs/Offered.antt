@@ -11,7 +11,7 @@ use Rattle.activation.specs.Takens.{with_started, with_released, with_held, with
 use Rattle.activation.proofs.Looking.{looked_on, looked_all, left_more}
 use Rattle.activation.proofs.Testing.{has_here, has_skip, off_or_on}
 use Rattle.cycle_workers.specs.Runs.{IsRun}
-use Rattle.steal_workers.proofs.Going.{Going, Shared, gone, has_without, without_front, going_none, going_some, shared_none, shared_some}
+use Rattle.cycle_workers.proofs.Going.{Going, Shared, gone, has_without, without_front, going_none, going_some, shared_none, shared_some}
 use Rattle.steal_workers.specs.declared.ends.Deque.{Deque}
 use Rattle.steal_workers.specs.Steals.{KeepsDeque, LeavesAbove, IsOffered, IsPicked, HasWorked, HasSwept}
 

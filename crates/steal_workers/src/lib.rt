@@ -6,7 +6,6 @@ mod deques;
 mod ends;
 mod making;
 mod places;
-mod running;
 mod seating;
 mod stealing;
 mod tallies;

@@ -13,8 +13,8 @@ ghost use Rattle.steal_workers.specs.Works.{IsReady, HasPlayedOn, MaySweep, Swee
 
 use crate::ends::{Deque, Pass, Stealer};
 use crate::places::{Place, Thief};
-use crate::running::run;
 use activation::{Crew, Seat, Taken, Work};
+use cycle_workers::run;
 use jack_host::Gate;
 
 // Leaves a node that the seat took, and pushes its number. Where the push is refused the seat picks the

@@ -3,7 +3,7 @@ use Rattle.activation.specs.declared.takens.Seat.{Seat}
 use Rattle.activation.specs.Ends.{AreEnded}
 use Rattle.activation.specs.Rounds.{AreSeats, HavePlayed, Know}
 use Rattle.activation.proofs.Ended.{all_ended}
-use Rattle.steal_workers.proofs.Going.{long_as}
+use Rattle.cycle_workers.proofs.Going.{long_as}
 use Rattle.std.specs.Global.{Global, Vec}
 use Rattle.crossbeam_deque.specs.Handles.{Pass}
 use Rattle.steal_workers.specs.declared.tallies.Tally.{Tally}

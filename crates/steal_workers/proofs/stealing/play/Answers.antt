@@ -8,7 +8,7 @@ use Rattle.activation.specs.Seats.{Sits}
 use Rattle.activation.specs.Takens.{IsPlayed, with_released}
 use Rattle.activation.proofs.Waiting.{unplayed_low, played_stays, has_room_at}
 use Rattle.cycle_workers.specs.Runs.{HaveRoom}
-use Rattle.steal_workers.proofs.Going.{Going, out_fact, kept_held, going_first, going_done}
+use Rattle.cycle_workers.proofs.Going.{Going, out_fact, kept_held, going_first, going_done}
 use Rattle.steal_workers.specs.declared.ends.Deque.{Deque}
 use Rattle.steal_workers.specs.Steals.{KeepsDeque, LeavesAbove}
 use Rattle.steal_workers.proofs.Offered.{beside, left_one, left_same, offered_none, offered_some, came_home, deque_stays}

@@ -1,7 +1,7 @@
 use Rattle.std.proofs.Common.{◌≡◌}
 use Rattle.activation.specs.Seats.{Sits}
 use Rattle.activation.specs.Takens.{IsPlayed}
-use Rattle.steal_workers.proofs.Going.{Going}
+use Rattle.cycle_workers.proofs.Going.{Going}
 use Rattle.steal_workers.specs.Steals.{KeepsDeque, LeavesAbove}
 use Rattle.steal_workers.proofs.Offered.{beside}
 use Rattle.steal_workers.proofs.stealing.play.Given as goal

@@ -6,7 +6,7 @@ use Rattle.activation.specs.Seats.{Sits}
 use Rattle.activation.specs.Takens.{AreBetween}
 use Rattle.activation.proofs.Looking.{none_between}
 use Rattle.cycle_workers.specs.Runs.{HaveRoom}
-use Rattle.steal_workers.proofs.Going.{Shared, shared_skip}
+use Rattle.cycle_workers.proofs.Going.{Shared, shared_skip}
 use Rattle.steal_workers.specs.declared.ends.Deque.{Deque}
 use Rattle.steal_workers.specs.Steals.{KeepsDeque, IsOffered}
 use Rattle.steal_workers.proofs.Offered.{aside, started_none, started_some, offered_between, deque_stays}

@@ -1,7 +1,7 @@
 use Rattle.std.proofs.Common.{◌≡◌}
 use Rattle.activation.specs.Seats.{Sits}
 use Rattle.activation.specs.Takens.{AreBetween}
-use Rattle.steal_workers.proofs.Going.{Shared}
+use Rattle.cycle_workers.proofs.Going.{Shared}
 use Rattle.steal_workers.specs.Steals.{KeepsDeque}
 use Rattle.steal_workers.proofs.Offered.{aside}
 use Rattle.steal_workers.proofs.stealing.start.Given as goal

@@ -3,10 +3,10 @@ use Rattle.std.proofs.lemmas.List.{get_or-replicate}
 use Rattle.session_model.specs.Activation.{AreLinks}
 use Rattle.activation.specs.Rounds.{AreFresh}
 use Rattle.activation.proofs.Returned.{room_returned}
-use Rattle.cycle_workers.specs.declared.benches.Hasher.{Hasher}
-use Rattle.cycle_workers.specs.Hashes.{hashed}
-use Rattle.cycle_workers.proofs.Hashing.{have_room}
-use Rattle.cycle_workers.proofs.tests.run_twice.Goals as goal
+use Rattle.worker_tests.specs.declared.benches.Hasher.{Hasher}
+use Rattle.worker_tests.specs.Hashes.{hashed}
+use Rattle.worker_tests.proofs.Hashing.{have_room}
+use Rattle.worker_tests.proofs.tests.run_twice.Goals as goal
 
 abbrev has_room : Hasher → ℕ → Bool
 has_room b place = get_or b.room place false

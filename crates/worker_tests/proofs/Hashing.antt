@@ -7,7 +7,7 @@ use Rattle.session_model.specs.Activation.{AreLinks, link_at, place_among}
 use Rattle.activation.specs.Values.{values_of}
 use Rattle.activation.proofs.Listed.{one_of}
 use Rattle.activation.proofs.Places.{low_place}
-use Rattle.cycle_workers.specs.Hashes.{hashed}
+use Rattle.worker_tests.specs.Hashes.{hashed}
 use Rattle.cycle_workers.specs.Runs.{HaveRoom}
 
 abbrev pub item : Option ℕ → ℕ

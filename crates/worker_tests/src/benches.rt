@@ -17,7 +17,7 @@ impl Work for Hasher {
     type Memory = u64;
 
     ghost use Rattle.std.specs.Prelude.{slice_index_or, false, ◌+◌, ◌%◌, ◌^◌};
-    ghost use Rattle.cycle_workers.specs.Hashes.{hashed};
+    ghost use Rattle.worker_tests.specs.Hashes.{hashed};
 
     ghost memory = { λ b. b.hash };
 

@@ -1,7 +1,7 @@
 use Rattle.std.proofs.Common.{rules, ◌≡◌, ℕ, length, take, drop, ◌++◌, inl, sym, ap, ◌∙◌, subst}
 use Rattle.std.proofs.Math.Seq.{take-append_seam}
 use Rattle.activation.specs.Rounds.{HavePlayed}
-use Rattle.cycle_workers.proofs.tests.cycled_twice.Goals as goal
+use Rattle.worker_tests.proofs.tests.cycled_twice.Goals as goal
 
 pub close-benches-requires-clause-over : goal.close-benches-requires-clause-over
 close-benches-requires-clause-over g c κs =

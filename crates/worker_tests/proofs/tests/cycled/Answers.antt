@@ -2,9 +2,9 @@ use Rattle.std.proofs.Common.{rules, ◌≡◌, ◌≤◌, ◌<◌, ℕ, List, l
 use Rattle.std.proofs.lemmas.List.{get_or-replicate}
 use Rattle.jack_types.specs.declared.ports.Link.{Link}
 use Rattle.activation.specs.Rounds.{AreFresh}
-use Rattle.cycle_workers.specs.declared.benches.Hasher.{Hasher}
-use Rattle.cycle_workers.proofs.Hashing.{have_room}
-use Rattle.cycle_workers.proofs.tests.cycled.Goals as goal
+use Rattle.worker_tests.specs.declared.benches.Hasher.{Hasher}
+use Rattle.worker_tests.proofs.Hashing.{have_room}
+use Rattle.worker_tests.proofs.tests.cycled.Goals as goal
 
 pub run_cycle-requires-clause-fresh : goal.run_cycle-requires-clause-fresh
 run_cycle-requires-clause-fresh g c κs within =

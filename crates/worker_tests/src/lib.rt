@@ -1,0 +1,11 @@
+//! Tests of crews whose nodes are played by threads.
+#![tactic(auto)]
+
+#[cfg(test)]
+mod benches;
+#[cfg(test)]
+mod graphs;
+#[cfg(test)]
+mod meetings;
+#[cfg(test)]
+mod tests;
