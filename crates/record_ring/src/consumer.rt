@@ -71,4 +71,11 @@ impl Consumer {
         self.taken += 1;
         Got::Block
     }
+
+    /// How many blocks were taken out of the ring.
+    pub fn taken(&self) -> u64
+        ensures { result ≡ length self.now.got }
+    {
+        self.taken
+    }
 }
