@@ -1,14 +1,16 @@
 -- One get and its put.
-use Rattle.std.proofs.Common.{◌≡◌, ℕ, ◌+◌, ◌*◌, ◌≤◌, true, false, List, [], ◌∷◌, ◌++◌, length, sym, refl, ap, ◌∙◌, subst, arith, length-append}
+use Rattle.std.proofs.Common.{◌≡◌, ℕ, ◌+◌, ◌*◌, ◌≤◌, true, false, List, [], ◌∷◌, ◌++◌, length, take, Option, Some, None, IfSome, Result, Ok, Err, OnErr, sym, refl, ap, ◌∙◌, subst, arith, length-append}
 use Rattle.std.specs.Prelude.{ℤ}
 use Rattle.std.proofs.lemmas.List.Sums.{sum_by_push}
+use Rattle.jack_host.specs.Bytes.{Gains}
+use Rattle.jack_types.specs.declared.files.Format.{Format}
 use Rattle.session_laws.proofs.WaveSamples.{by_width, length-bytes_of}
 use Rattle.session_model.specs.Rings.{RingBlock}
 use Rattle.session_model.specs.Samples.{width, bytes_of}
-use Rattle.session_model.specs.WaveFiles.{IsFormat, is_width}
+use Rattle.session_model.specs.WaveFiles.{IsFormat, is_width, opening_text}
 use Rattle.record_ring.specs.Rings.{Getting, items_of}
-use Rattle.wave_write.specs.Tapes.{Tape, HasSamples, HasUnfinished, Gained, SameFile}
-use Rattle.disk_recorder.specs.Recordings.{samples_of_blocks, MayWrite, SameEnds, Writes, Fails}
+use Rattle.wave_write.specs.Tapes.{Tape, HasSamples, HasUnfinished, Gained, GainedPart, SameFile}
+use Rattle.disk_recorder.specs.Recordings.{samples_of_blocks, MayWrite, SameEnds, Writes, Fails, IsCutBehind}
 use Rattle.disk_recorder.proofs.Fronts.{front_append, samples_more}
 
 -- the bytes of all blocks of a ring are few enough
@@ -50,12 +52,33 @@ wrote g g' t t' block found may is least few gained same going samples = subst (
   };
 }
 
-pub broke : (g g' : Getting) (t t' : Tape) (block : RingBlock) (found : ℕ) → g' ≡ behind g block found → g.least ≤ found → SameFile t t' → t'.stopped ≡ true
+-- a front of a piece behind a head and a body
+cut_told : (old new : Option (List ℕ)) (head body piece : List ℕ) (n : ℕ) → IfSome old (λ bytes. bytes ≡ head ++ body) → Gains old new (take n piece) → IfSome new (λ bytes. (n : ℕ) × (bytes ≡ head ++ body ++ take n piece))
+cut_told None None head body piece n was gains = tt
+cut_told None (Some y) head body piece n was gains = absurd gains
+cut_told (Some x) None head body piece n was gains = absurd gains
+cut_told (Some x) (Some y) head body piece n was gains = (n, gains ∙ ap (λ (l : List ℕ). l ++ take n piece) was)
+
+cut_behind : (t t' : Tape) (samples more : List ℤ) → SameFile t t' → HasSamples t samples → GainedPart t t' (bytes_of t.format.bits more) → IsCutBehind t' samples more
+cut_behind t t' samples more same has part = subst (λ (f : Format). IfSome t'.bytes (λ bytes. (n : ℕ) × (bytes ≡ opening_text f ++ bytes_of f.bits samples ++ take n (bytes_of f.bits more)))) (sym same.format)
+    (cut_told t.bytes t'.bytes (opening_text t.format) (bytes_of t.format.bits samples) (bytes_of t.format.bits more) part.0 has.bytes part.2)
+
+pub broke : (g g' : Getting) (t t' : Tape) (block : RingBlock) (found : ℕ) → g' ≡ behind g block found → g.least ≤ found → SameFile t t' → t'.stopped ≡ true → GainedPart t t' (bytes_of t.format.bits block.samples)
     → ((before : List ℤ) → HasSamples t before → HasUnfinished t.format (before ++ block.samples) t'.bytes) → Fails g t g' t'
-broke g g' t t' block found is least same stopped front = subst (λ (u : Getting). Fails g t u t') (sym is) record {
+broke g g' t t' block found is least same stopped part front = subst (λ (u : Getting). Fails g t u t') (sym is) record {
   same = ends g t t' block found least same;
   longer = front_append g.got (block ∷ []);
   stopped = stopped;
+  count = 0;
+  whole = g.got;
+  last = block;
+  got_are = refl;
+  count_is = omega arith;
+  cut = λ before has. cut_behind t t' (before ++ samples_of_blocks g.got) block.samples same has part;
   front = λ before has. subst (λ f. HasUnfinished f (before ++ samples_of_blocks (g.got ++ block ∷ [])) t'.bytes) (sym same.format)
       (subst (λ (l : List ℤ). HasUnfinished t.format l t'.bytes) (samples_more before g.got block) (front (before ++ samples_of_blocks g.got) has));
 }
+
+pub on_err : {T E : Type 0} (result : Result T E) (P : Type 0) → P → OnErr result P
+on_err (Ok x) P holds = tt
+on_err (Err e) P holds = holds

@@ -69,11 +69,17 @@ writes_on m n g g₁ g₂ t t₁ t₂ a b = let first = a.count_is in let second
 }
 
 pub fails_on : (m : ℕ) (g g₁ g₂ : Getting) (t t₁ t₂ : Tape) → Writes m g t g₁ t₁ → Fails g₁ t₁ g₂ t₂ → Fails g t g₂ t₂
-fails_on m g g₁ g₂ t t₁ t₂ a b = record {
+fails_on m g g₁ g₂ t t₁ t₂ a b = let first = a.count_is in let second = b.count_is in record {
   same = ends_on g g₁ g₂ t t₁ t₂ a.same b.same;
   longer = front_on g.got g₁.got g₂.got a.longer b.longer;
   stopped = b.stopped;
   front = λ before has. b.front before (a.samples before has);
+  count = m + b.count;
+  whole = b.whole;
+  last = b.last;
+  got_are = b.got_are;
+  count_is = omega (arith, first, second);
+  cut = λ before has. b.cut before (a.samples before has);
 }
 
 -- none more

@@ -2,11 +2,12 @@
 --     MayWrite getting tape      when they may be called
 --     FindsNone getting getting_after      a get of the call found no block more
 --     Drains, Serves, Finishes      what they did
---     Fails      what stands behind a failed put
+--     IsCutBehind tape samples more      what the file holds behind a failed put
+--     Fails      what stands behind that
 use Rattle.std.specs.Prelude.{◌≡◌, ℕ, ◌+◌, ◌*◌, ◌<◌, ◌≤◌, true, false, List, [], ◌∷◌, ◌++◌, length, take, flat_map, ℤ, Option, IfSome, is_some}
 use Rattle.session_model.specs.Rings.{RingBlock}
-use Rattle.session_model.specs.Samples.{width}
-use Rattle.session_model.specs.WaveFiles.{IsFormat, wave_text}
+use Rattle.session_model.specs.Samples.{width, bytes_of}
+use Rattle.session_model.specs.WaveFiles.{IsFormat, opening_text, wave_text}
 use Rattle.record_ring.specs.Rings.{Getting, items_of}
 use Rattle.wave_write.specs.Tapes.{Tape, HasSamples, HasFront, HasUnfinished}
 
@@ -61,12 +62,22 @@ pub record Serves (count : ℕ) (getting : Getting) (tape : Tape) (getting_after
   pub all : getting_after.least ≡ length getting_after.got
   pub found_none : FindsNone getting getting_after
 
--- a put failed: the file, whose sizes are not written, holds a front of its header and of the samples of the blocks got
+-- the file, whose sizes are not written, holds its header, these samples, and a front of the bytes of more
+abbrev pub IsCutBehind : Tape → List ℤ → List ℤ → Type 0
+IsCutBehind tape samples more = IfSome tape.bytes (λ bytes. (n : ℕ) × (bytes ≡ opening_text tape.format ++ bytes_of tape.format.bits samples ++ take n (bytes_of tape.format.bits more)))
+
+-- a put failed behind so many that did not: the file, whose sizes are not written, holds all blocks got but the last one, and a front of that
 pub record Fails (getting : Getting) (tape : Tape) (getting_after : Getting) (tape_after : Tape) : Type 0 where
   pub same : SameEnds getting tape getting_after tape_after
   pub longer : getting.got ≡ take (length getting.got) getting_after.got
   pub stopped : tape_after.stopped ≡ true
   pub front : (samples : List ℤ) → HasSamples tape (samples ++ samples_of_blocks getting.got) → HasUnfinished tape_after.format (samples ++ samples_of_blocks getting_after.got) tape_after.bytes
+  pub count : ℕ
+  pub whole : List RingBlock
+  pub last : RingBlock
+  pub got_are : getting_after.got ≡ whole ++ last ∷ []
+  pub count_is : length whole ≡ length getting.got + count
+  pub cut : (samples : List ℤ) → HasSamples tape (samples ++ samples_of_blocks getting.got) → IsCutBehind tape_after (samples ++ samples_of_blocks whole) last.samples
 
 -- all blocks that were found, and then the file is finished
 pub record Finishes (count : ℕ) (getting : Getting) (tape : Tape) (getting_after : Getting) (bytes : Option (List ℕ)) : Type 0 where

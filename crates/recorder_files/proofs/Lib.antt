@@ -1,2 +1,3 @@
 mod Closings
+mod Counting
 pub mod Reels

@@ -5,6 +5,7 @@
 --     Reel      the two ends of a recorder's ring, its file in the making, and how many blocks were written into that
 --     GivesUp most before after      blocks went from the ring to the file
 --     BreaksOff before after      or the file failed
+--     Tears before tape after tape_after      so it did while another thread put them
 use Rattle.std.specs.Prelude.{◌≡◌, ℕ, ◌+◌, List, Option, Some, None}
 use Rattle.jack_types.specs.declared.files.Format.{Format}
 use Rattle.record_ring.specs.Rings.{Sending, Getting, Renews}
@@ -53,7 +54,7 @@ pub record GivesUp (most : ℕ) (before after : Reel) : Type 0 where
   pub second : Renews ring_met written after.ring after.getting
   pub counted : after.blocks ≡ before.blocks + count
 
--- the file failed at one of them; both ends met all the same
+-- the file failed at one of them, and those before it are counted; both ends met all the same
 pub record BreaksOff (before after : Reel) : Type 0 where
   pub ring_met : Sending
   pub got_met : Getting
@@ -61,3 +62,9 @@ pub record BreaksOff (before after : Reel) : Type 0 where
   pub written : Getting
   pub fails : Fails got_met before.tape written after.tape
   pub second : Renews ring_met written after.ring after.getting
+  pub counted : after.blocks ≡ before.blocks + fails.count
+
+-- the file failed at a block, and those before it are counted
+pub record Tears (before : Recording) (tape : Tape) (after : Recording) (tape_after : Tape) : Type 0 where
+  pub fails : Fails before.getting tape after.getting tape_after
+  pub counted : after.blocks ≡ before.blocks + fails.count

@@ -1,6 +1,6 @@
 //! A recorder of a session.
 
-ghost use Rattle.std.specs.Prelude.{◌≡◌, ◌+◌, ◌<◌, ◌≤◌, ◌^◌, IfOk, IfSome, IsSome, OnErr, length};
+ghost use Rattle.std.specs.Prelude.{◌≡◌, ◌+◌, ◌<◌, ◌≤◌, ◌^◌, IfOk, IfSome, IsSome, OnErr, false, length, true};
 ghost use Rattle.jack_host.specs.Causes.{HasCause};
 ghost use Rattle.jack_host.specs.Told.{BothTold};
 ghost use Rattle.disk_recorder.specs.Recordings.{Drains, Fails, MayWrite, Serves};
@@ -28,8 +28,8 @@ fn write<W: Store>(
     ensures err { OnErr result (BothTold file.old file.new (λ tape after. Fails consumer.old tape consumer.new after)) }
     ensures cause { BothTold file.old file.new (λ tape after. HasCause tape.faults after.faults result) }
     ensures count { IfOk result (λ count. length consumer.new.got ≡ length consumer.old.got + count) }
-    ensures few { IfOk result (λ count. 0 < count → length consumer.new.got < 2 ^ 63) }
     ensures longer { length consumer.old.got ≤ length consumer.new.got }
+    ensures lost { OnErr result (length consumer.old.got < length consumer.new.got) }
     ensures room { spare.new.samples.room ≡ consumer.new.samples }
 {
     match file {
@@ -54,14 +54,25 @@ fn write_all<R: Wait, W: Store, G: Gate>(
     ensures err { OnErr result (BothTold file.old file.new (λ tape after. Fails consumer.old tape consumer.new after)) }
     ensures cause { BothTold file.old file.new (λ tape after. HasCause tape.faults after.faults result) }
     ensures count { IfOk result (λ count. length consumer.new.got ≡ length consumer.old.got + count) }
-    ensures few { length consumer.new.got < 2 ^ 63 }
     ensures longer { length consumer.old.got ≤ length consumer.new.got }
+    ensures lost { OnErr result (length consumer.old.got < length consumer.new.got) }
     ensures room { spare.new.samples.room ≡ consumer.new.samples }
 {
     match file {
         Some(file) => serve(wait, consumer, spare, file, gate, place),
         None => Ok(0),
     }
+}
+
+// How many blocks were written behind the first so many: all that were taken, but the last one where its write failed.
+fn written_behind(consumer: &Consumer, taken: u64, failed: bool) -> u64
+    requires taken { taken ≤ length consumer.now.got }
+    requires lost { failed ≡ true → taken < length consumer.now.got }
+    ensures whole { failed ≡ false → taken + result ≡ length consumer.now.got }
+    ensures lost { failed ≡ true → taken + result + 1 ≡ length consumer.now.got }
+    ensures few { taken + result < 2 ^ 64 }
+{
+    consumer.taken() - taken - u64::from(failed)
 }
 
 /// A recorder of a session: the end of its ring that gets, and the file that is filled from it.
@@ -96,8 +107,8 @@ impl<W: Store> Recorder<W> {
     ghost use Rattle.record_ring.specs.Rings.{IsPair, Renews};
     ghost use Rattle.session_model.specs.WaveFiles.{IsFormat, wave_text};
     ghost use Rattle.wave_write.specs.Tapes.{HasFront, HasSamples, IsCut, Tape};
-    ghost use Rattle.disk_recorder.specs.Recordings.{Fails, MayWrite, Serves};
-    ghost use Rattle.recorder_files.specs.Recorders.{BreaksOff, GivesUp, Stored, held_in};
+    ghost use Rattle.disk_recorder.specs.Recordings.{MayWrite, Serves};
+    ghost use Rattle.recorder_files.specs.Recorders.{BreaksOff, GivesUp, Stored, Tears, held_in};
 
     /// A recorder without a file, over this end of a ring whose blocks have so many samples.
     pub fn new(
@@ -152,16 +163,18 @@ impl<W: Store> Recorder<W> {
         requires file { (tape : Tape) × (self.old.tape ≡ Some tape) × MayWrite self.old.getting tape }
         ensures given { OnOk result ((tape : Tape) → self.old.tape ≡ Some tape → (after : Tape) × (self.new ≡ record self.old { getting = self.new.getting; tape = Some after; blocks = self.new.blocks })
             × GivesUp most (record { ring = producer.old; getting = self.old.getting; tape = tape; blocks = self.old.blocks }) (record { ring = producer.new; getting = self.new.getting; tape = after; blocks = self.new.blocks })) }
-        ensures broken { OnErr result ((tape : Tape) → self.old.tape ≡ Some tape → (after : Tape) × (self.new ≡ record self.old { getting = self.new.getting; tape = Some after })
-            × BreaksOff (record { ring = producer.old; getting = self.old.getting; tape = tape; blocks = self.old.blocks }) (record { ring = producer.new; getting = self.new.getting; tape = after; blocks = self.old.blocks })) }
+        ensures broken { OnErr result ((tape : Tape) → self.old.tape ≡ Some tape → (after : Tape) × (self.new ≡ record self.old { getting = self.new.getting; tape = Some after; blocks = self.new.blocks })
+            × BreaksOff (record { ring = producer.old; getting = self.old.getting; tape = tape; blocks = self.old.blocks }) (record { ring = producer.new; getting = self.new.getting; tape = after; blocks = self.new.blocks })) }
         ensures cause { (tape after : Tape) → self.old.tape ≡ Some tape → self.new.tape ≡ Some after → HasCause tape.faults after.faults result }
         ensures tells { (tape after : Tape) → self.old.tape ≡ Some tape → self.new.tape ≡ Some after → is_some after.bytes ≡ is_some tape.bytes }
     {
         renew(producer, &mut self.consumer);
+        let taken = self.consumer.taken();
         let given = write(&mut self.consumer, &mut self.spare, &mut self.file, most);
+        self.blocks += written_behind(&self.consumer, taken, given.is_err());
         let consumer = &mut self.consumer;
         renew(producer, consumer);
-        self.blocks += u64::from(given?);
+        given?;
         Ok(())
     }
 
@@ -178,10 +191,11 @@ impl<W: Store> Recorder<W> {
         requires file { (tape : Tape) × (self.old.tape ≡ Some tape) × MayWrite self.old.getting tape }
         ensures served { OnOk result ((tape : Tape) → self.old.tape ≡ Some tape → (after : Tape) × (count : ℕ) × (self.new ≡ record self.old { getting = self.new.getting; tape = Some after; blocks = self.old.blocks + count })
             × Serves count self.old.getting tape self.new.getting after) }
-        ensures broken { OnErr result ((tape : Tape) → self.old.tape ≡ Some tape → (after : Tape) × (self.new ≡ record self.old { getting = self.new.getting; tape = Some after }) × Fails self.old.getting tape self.new.getting after) }
+        ensures broken { OnErr result ((tape : Tape) → self.old.tape ≡ Some tape → (after : Tape) × (self.new ≡ record self.old { getting = self.new.getting; tape = Some after; blocks = self.new.blocks }) × Tears self.old tape self.new after) }
         ensures cause { (tape after : Tape) → self.old.tape ≡ Some tape → self.new.tape ≡ Some after → HasCause tape.faults after.faults result }
         ensures tells { (tape after : Tape) → self.old.tape ≡ Some tape → self.new.tape ≡ Some after → is_some after.bytes ≡ is_some tape.bytes }
     {
+        let taken = self.consumer.taken();
         let served = write_all(
             wait,
             &mut self.consumer,
@@ -190,7 +204,8 @@ impl<W: Store> Recorder<W> {
             gate,
             place,
         );
-        self.blocks += served?;
+        self.blocks += written_behind(&self.consumer, taken, served.is_err());
+        served?;
         Ok(())
     }
 
@@ -243,7 +258,7 @@ impl<W: Store> Recorder<W> {
         }
     }
 
-    /// How many blocks were written into the file by calls that did not fail.
+    /// How many blocks were written into the file. The block of a failed write is not counted.
     pub fn blocks(&self) -> u64
         ensures { result ≡ self.now.blocks }
     {

@@ -107,7 +107,7 @@ fn a_refused_write_ends_the_serving(rt: HostRuntime) -> Result<(), Fail> {
     assert!(rt; !recorder.failed());
     assert!(rt; recorder.serve(&rt, &FreeGate, 0).is_err());
     assert!(rt; recorder.failed());
-    assert_eq!(rt; recorder.blocks(), 0);
+    assert_eq!(rt; recorder.blocks(), 1);
     let Some(store) = recorder.take() else {
         return Err(Fail::from("no store"));
     };
@@ -120,7 +120,7 @@ fn a_refused_write_ends_the_serving(rt: HostRuntime) -> Result<(), Fail> {
 fn a_refused_write_leaves_the_blocks_before_it(rt: HostRuntime) -> Result<(), Fail> {
     let (mut producer, mut recorder) = filled(rt.alloc(), 3)?;
     assert!(rt; recorder.give_up(&mut producer, 2).is_err());
-    assert_eq!(rt; recorder.blocks(), 0);
+    assert_eq!(rt; recorder.blocks(), 1);
     let Some(store) = recorder.take() else {
         return Err(Fail::from("no store"));
     };

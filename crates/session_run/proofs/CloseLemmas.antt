@@ -25,7 +25,7 @@ use Rattle.session_threads.proofs.RingLemmas.{AreEach, IsLeft, each-none, each-s
 use Rattle.session_run.proofs.ToldLemmas.{both-err, on-ok}
 
 pub failed-giving : (capacity : ℕ) (ring ring_after : Sending) (recording after : Recording) (tape tape_after : Tape) → recording.tape ≡ Some tape → after.tape ≡ Some tape_after
-    → BreaksOff (reel_of ring recording tape) (record { ring = ring_after; getting = after.getting; tape = tape_after; blocks = recording.blocks }) → Rose tape.faults tape_after.faults → Failed capacity ring recording after
+    → BreaksOff (reel_of ring recording tape) (reel_of ring_after after tape_after) → Rose tape.faults tape_after.faults → Failed capacity ring recording after
 failed-giving capacity ring ring_after recording after tape tape_after was is breaks rose = record {
   tape = tape;
   back = stored_of tape_after;
@@ -33,7 +33,7 @@ failed-giving capacity ring ring_after recording after tape tape_after was is br
   held = ap (held_or after.store) is;
   later = record { name = breaks.fails.same.name; tells = breaks.fails.same.tells; faults = breaks.fails.same.later };
   rose = rose;
-  tried = Broken (record { ring = ring_after; getting = after.getting; tape = tape_after; blocks = recording.blocks }) breaks refl;
+  tried = Broken (reel_of ring_after after tape_after) breaks refl;
 }
 
 -- a store that came back from a file behind its blocks

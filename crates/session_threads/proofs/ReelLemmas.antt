@@ -134,8 +134,8 @@ gave-one most ring ring_after before after recording recording_after tape was fi
     is = ap (λ (r : Recording). r.tape) given.1
 
 pub broke-one : (ring ring_after before after : Sending) (recording recording_after : Recording) (tape : Tape) → recording.tape ≡ Some tape → before ≡ ring → after ≡ ring_after
-    → ((tape_after : Tape) × (recording_after ≡ record recording { getting = recording_after.getting; tape = Some tape_after })
-    × BreaksOff (record { ring = before; getting = recording.getting; tape = tape; blocks = recording.blocks }) (record { ring = after; getting = recording_after.getting; tape = tape_after; blocks = recording.blocks }))
+    → ((tape_after : Tape) × (recording_after ≡ record recording { getting = recording_after.getting; tape = Some tape_after; blocks = recording_after.blocks })
+    × BreaksOff (reel_of before recording tape) (reel_of after recording_after tape_after))
     → ((tape_after : Tape) → recording_after.tape ≡ Some tape_after → Rose tape.faults tape_after.faults)
     → BrokeOff ring recording ring_after recording_after
 broke-one ring ring_after before after recording recording_after tape was first second broken cause = record {
@@ -145,19 +145,15 @@ broke-one ring ring_after before after recording recording_after tape was first 
     was = was;
     is = is;
     file = same-file _ _ tape broken.0 broken.2.fails.same;
-    same = broken.1 ∙ ap₂ (λ (t : Option Tape) (n : ℕ). record recording { getting = recording_after.getting; tape = t; blocks = n }) (sym is) (sym blocks);
+    same = broken.1 ∙ ap (λ (t : Option Tape). record recording { getting = recording_after.getting; tape = t; blocks = recording_after.blocks }) (sym is);
   };
   breaks = subst (λ (s : Sending). BreaksOff (reel_of s recording tape) (reel_of ring_after recording_after broken.0)) first
-      (subst (λ (s : Sending). BreaksOff (reel_of before recording tape) (reel_of s recording_after broken.0)) second
-      (subst (λ (n : ℕ). BreaksOff (reel_of before recording tape) (record { ring = after; getting = recording_after.getting; tape = broken.0; blocks = n })) (sym blocks) broken.2));
+      (subst (λ (s : Sending). BreaksOff (reel_of before recording tape) (reel_of s recording_after broken.0)) second broken.2);
   rose = cause broken.0 is;
 }
   where
     is : recording_after.tape ≡ Some broken.0
     is = ap (λ (r : Recording). r.tape) broken.1
-
-    blocks : recording_after.blocks ≡ recording.blocks
-    blocks = ap (λ (r : Recording). r.blocks) broken.1
 
 -- ---- all recorders
 

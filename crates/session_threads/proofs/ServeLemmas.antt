@@ -10,8 +10,8 @@ use Rattle.std.proofs.lemmas.Option.{get_or_from_slice_get, none-some, same_Some
 use Rattle.jack_host.specs.Causes.{HasCause}
 use Rattle.record_ring.specs.Rings.{Sending}
 use Rattle.wave_write.specs.Tapes.{Tape}
-use Rattle.disk_recorder.specs.Recordings.{Fails, Serves}
-use Rattle.recorder_files.specs.Recorders.{Recording, Reel}
+use Rattle.disk_recorder.specs.Recordings.{Serves}
+use Rattle.recorder_files.specs.Recorders.{Recording, Reel, Tears}
 use Rattle.serial_laws.specs.Steps.{IsReel}
 use Rattle.thread_faults.specs.Faults.{Got, ReelEnds, ServedSome, Torn}
 use Rattle.thread_laws.specs.Segments.{Served, ServesReel}
@@ -27,7 +27,7 @@ IsServed recording after = (tape : Tape) → recording.tape ≡ Some tape → (t
     × Serves count recording.getting tape after.getting tape_after
 
 abbrev pub IsTorn : Recording → Recording → Type 0
-IsTorn recording after = (tape : Tape) → recording.tape ≡ Some tape → (tape_after : Tape) × (after ≡ record recording { getting = after.getting; tape = Some tape_after }) × Fails recording.getting tape after.getting tape_after
+IsTorn recording after = (tape : Tape) → recording.tape ≡ Some tape → (tape_after : Tape) × (after ≡ record recording { getting = after.getting; tape = Some tape_after; blocks = after.blocks }) × Tears recording tape after tape_after
 
 pub served-by : {T E : Type 0} (r : Result T E) (recording after : Recording) (tape : Tape) → recording.tape ≡ Some tape → OnOk r (IsServed recording after) → OnErr r (IsTorn recording after)
     → ((old new : Tape) → recording.tape ≡ Some old → after.tape ≡ Some new → HasCause old.faults new.faults r) → ServedBy recording after
@@ -50,18 +50,17 @@ served-by (Ok x) recording after tape was served torn cause =
 served-by (Err e) recording after tape was served torn cause =
     let it = torn tape was in
     let is : after.tape ≡ Some it.0 = ap (λ (r : Recording). r.tape) it.1 in
-    let counted : after.blocks ≡ recording.blocks = ap (λ (r : Recording). r.blocks) it.1 in
     record {
       keeps = record {
         tape = tape;
         tape_after = it.0;
         was = was;
         is = is;
-        file = same-file _ _ tape it.0 it.2.same;
-        same = it.1 ∙ ap₂ (λ (t : Option Tape) (n : ℕ). record recording { getting = after.getting; tape = t; blocks = n }) (sym is) (sym counted);
+        file = same-file _ _ tape it.0 it.2.fails.same;
+        same = it.1 ∙ ap (λ (t : Option Tape). record recording { getting = after.getting; tape = t; blocks = after.blocks }) (sym is);
       };
-      whole = λ going. absurd (true≢false (sym it.2.stopped ∙ going));
-      torn = λ _. record { fails = it.2; counted = counted; rose = (cause tape it.0 was is).failed };
+      whole = λ going. absurd (true≢false (sym it.2.fails.stopped ∙ going));
+      torn = λ _. record { fails = it.2.fails; counted = it.2.counted; rose = (cause tape it.0 was is).failed };
     }
 
 pub served-at : (recordings after : List Recording) (i : ℕ) (x y : Recording) → AreServed recordings after → slice_get recordings i ≡ Some x → slice_get after i ≡ Some y → ServedBy x y

@@ -22,7 +22,7 @@ pub record WholeServed (recording after : Recording) (tape tape_after : Tape) : 
 
 pub record TornServed (recording after : Recording) (tape tape_after : Tape) : Type 0 where
   pub fails : Fails recording.getting tape after.getting tape_after
-  pub counted : after.blocks ≡ recording.blocks
+  pub counted : after.blocks ≡ recording.blocks + fails.count
   pub rose : Rose tape.faults tape_after.faults
 
 pub record ServedBy (recording after : Recording) : Type 0 where

@@ -1,0 +1,10 @@
+use Rattle.disk_recorder.specs.Recordings.{Fails}
+use Rattle.disk_recorder.proofs.Blocks.{on_err}
+use Rattle.disk_recorder.proofs.Going.{fails_on}
+use Rattle.disk_recorder.proofs.writing.rest.Goals as goal
+
+pub returns-in_err-pass-clause-err : goal.returns-in_err-pass-clause-err
+returns-in_err-pass-clause-err g c =
+    let l = c.loop-count in
+    on_err c.from_residual.result (Fails c.args.consumer.now c.args.out.now c.pass.new.consumer c.pass.new.out)
+    (fails_on l.count c.args.consumer.now l.consumer c.pass.new.consumer c.args.out.now l.out c.pass.new.out l.invariant.writes c.in_err-pass.ensures.err)
