@@ -1,6 +1,6 @@
 //! The parts of a mix, gathered four at a time.
 
-ghost use Rattle.std.specs.Prelude.{◌≡◌, ◌+◌, ◌<◌, ◌++◌, ◌∷◌, [], ℤ, List, All, IsTrue, length};
+ghost use Rattle.std.specs.Prelude.{◌≡◌, ◌↔◌, ◌+◌, ◌<◌, ◌++◌, ◌∷◌, [], ℤ, List, All, IsTrue, length};
 ghost use Rattle.port_mixer.specs.Sums.{sums_of};
 
 use crate::passes::{copy_part, mix_four, mix_none, mix_three, mix_two};
@@ -32,7 +32,7 @@ impl<'a> Model for Few<'a> {
 /// Adds a part of any length: what it lacks is silence, and what lies behind the last frame is not heard.
 ///
 /// `padded` is room for as many samples as there are sums; what it holds behind the call is not told.
-pub fn add_part(mixer: &mut Mixer, padded: &mut [i32], part: &[i32])
+fn add_part(mixer: &mut Mixer, padded: &mut [i32], part: &[i32])
     requires frames { length mixer.old.sums ≡ length padded.old }
     requires few { mixer.old.parts < 512 }
     ensures parts { (parts : List (List ℤ)) → mixer.old.sums ≡ sums_of (length padded.old) parts → mixer.new.sums ≡ sums_of (length padded.old) (parts ++ part.now ∷ []) }
@@ -51,7 +51,7 @@ pub fn add_part(mixer: &mut Mixer, padded: &mut [i32], part: &[i32])
 
 /// Whether each of four parts is of so many frames.
 fn are_all_of(frames: usize, one: &[i32], two: &[i32], three: &[i32], four: &[i32]) -> bool
-    ensures { IsTrue result → All (λ part. length part ≡ frames) (one.now ∷ two.now ∷ three.now ∷ four.now ∷ []) }
+    ensures { IsTrue result ↔ All (λ part. length part ≡ frames) (one.now ∷ two.now ∷ three.now ∷ four.now ∷ []) }
 {
     one.len() == frames && two.len() == frames && three.len() == frames && four.len() == frames
 }

@@ -21,10 +21,9 @@ mod values;
 mod wires;
 
 pub use benches::{BenchMemory, ClientBench, Turn};
-pub use gathering::{Few, add_part};
+pub use gathering::Few;
 pub use known::Room;
 pub use laws::{crew_plays_by_all_scores, plays_by_all_scores};
-pub use passes::copy_part;
 pub use values::{Rooms, Route};
 pub use wires::{Source, Wire};
 

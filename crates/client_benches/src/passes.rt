@@ -38,7 +38,7 @@ fn copy_any(out: &mut [i32], part: &[i32])
 
 /// Copies a part of any length in the place of a mix of it alone: what it lacks is silence, and what lies behind the last
 /// frame is not heard.
-pub fn copy_part(out: &mut [i32], part: &[i32])
+pub(crate) fn copy_part(out: &mut [i32], part: &[i32])
     ensures mixed { out.new ≡ mix (length out.old) (part.now ∷ []) }
     ensures samples { (k : ℕ) → k < length out.old → sample out.new k ≡ sample part.now k }
 {
