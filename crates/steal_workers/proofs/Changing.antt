@@ -1,7 +1,8 @@
 -- A list whose elements change one by one.
 --     ChangedUpTo R count old new      the first elements changed as R says of each place, and the others are as they were
 --     ChangedFrom R count old new      the elements from this one on did, and the others are as they were
-use Rattle.std.proofs.Common.{◌≡◌, ◌≢◌, ℕ, zero, suc, ◌+◌, ◌<◌, ◌≤◌, List, [], ◌∷◌, ◌++◌, length, set, get_or, take, drop, length-take, sym, refl, ap, ◌∙◌, subst, arith, length-set, length-append}
+--     all_map      what holds of what the elements are mapped to
+use Rattle.std.proofs.Common.{◌≡◌, ◌≢◌, ℕ, zero, suc, ◌+◌, ◌<◌, ◌≤◌, List, [], ◌∷◌, ◌++◌, All, length, map, set, get_or, take, drop, length-take, sym, refl, ap, ◌∙◌, subst, arith, length-set, length-append}
 use Rattle.std.proofs.lemmas.List.{get_or_default, get_or-set_same, get_or-set_other}
 use lib.ListN.{get_or-append}
 use lib.Seq.{get_or-append_seam, take-append_seam}
@@ -128,3 +129,8 @@ both_pushed {A} {B} R xs ys i x y long long' this each k d e less = dite (ℕ_di
     let a = get_or-append xs (x ∷ []) d k (omega (arith, less, ne, long)) in
     let b = get_or-append ys (y ∷ []) e k (omega (arith, less, ne, long')) in
     subst (λ (z : A × B). R z.0 z.1) (λ j. (sym a j, sym b j)) (each k d e (omega (arith, less, ne))))
+
+pub all_map : {A B : Type 0} (f : A → B) (P : B → Type 0) (xs : List A) → All (λ (x : A). P (f x)) xs → All P (map f xs)
+all_map f P [] h k d low = absurd (omega (arith, low))
+all_map f P (x ∷ xs) h zero d low = h zero x (omega arith)
+all_map f P (x ∷ xs) h (suc k) d low = all_map f P xs (λ j e less. h (suc j) e (omega (arith, less))) k d (omega (arith, low))

@@ -1,9 +1,9 @@
 -- What a whole cycle makes of the seats.
-use Rattle.std.proofs.Common.{◌≡◌, ℕ, ◌+◌, ◌%◌, ◌<◌, ◌≤◌, Bool, true, List, [], ◌∷◌, length, get_or, All, IfSome, None, Some, vec_capacity, sym, refl, ap, ◌∙◌, subst, arith}
-use Rattle.std.specs.Global.{Global, Vec}
+use Rattle.std.proofs.Common.{◌≡◌, ℕ, ◌%◌, ◌<◌, ◌≤◌, Bool, true, List, [], ◌∷◌, length, get_or, All, IfSome, None, sym, ap, ◌∙◌, subst, arith}
+use Rattle.std.specs.Global.{Global}
 use Rattle.std.proofs.lemmas.List.{get_or_default}
 use Rattle.atomic_table.specs.Seated.{TableId}
-use Rattle.crossbeam_deque.specs.Handles.{Pass, IsPassOf, worker_deque}
+use Rattle.crossbeam_deque.specs.Handles.{Pass, IsPassOf}
 use Rattle.jack_types.specs.declared.ports.Link.{Link}
 use Rattle.activation.specs.declared.takens.Seat.{Seat}
 use Rattle.activation.specs.Rule.{has}
@@ -17,10 +17,9 @@ use Rattle.steal_workers.specs.declared.places.Place.{Place}
 use Rattle.steal_workers.specs.declared.places.Thief.{Thief}
 use Rattle.steal_workers.specs.Tallies.{HasAll}
 use Rattle.steal_workers.specs.Deques.{tally_of, SameDeque, LeadsTo, IsPassFor}
-use Rattle.steal_workers.specs.Places.{Paired, parts_of, IsPassAt, thief_of, TakesPlace, MayLeave}
+use Rattle.steal_workers.specs.Places.{Paired, IsPassAt, thief_of, TakesPlace, MayLeave}
 use Rattle.steal_workers.specs.Works.{IsReady, HasPlayedOn, MaySweep, Sweeps}
 use Rattle.steal_workers.proofs.Changing.{any_of}
-use Rattle.steal_workers.proofs.Seated.{some_same}
 
 module _ {B Y M : Type 0} where
   abbrev pub Reach : List Stealer → List (Place B Y M) → Type 0

@@ -1,5 +1,5 @@
 mod Tallied
-mod Changing
+pub mod Changing
 mod Seated
 mod Offered
 mod Cycled

@@ -1,5 +1,5 @@
 -- What a seat knows once it offered a node, played one, or looked for all.
-use Rattle.std.proofs.Common.{◌≡◌, ◌≢◌, ◌⊎◌, ℕ, ◌+◌, ◌%◌, ◌<◌, ◌≤◌, true, false, List, [], ◌∷◌, length, get_or, refl, sym, ◌∙◌, ap, subst, inl, inr, ⊎_elim, arith, true≢false, cond, eq-eqb, ne_eqb}
+use Rattle.std.proofs.Common.{◌≡◌, ◌≢◌, ◌⊎◌, ℕ, ◌+◌, ◌<◌, ◌≤◌, true, false, List, [], ◌∷◌, length, get_or, refl, sym, ◌∙◌, ap, subst, inr, ⊎_elim, arith, true≢false, cond, eq-eqb, ne_eqb}
 use mathlib.Core.Logic.{dite}
 use native.Mathlib.Decide.{ℕ_discrete}
 use Rattle.jack_types.specs.declared.ports.Link.{Link}
@@ -9,9 +9,9 @@ use Rattle.activation.specs.Rule.{has}
 use Rattle.activation.specs.Plays.{without}
 use Rattle.activation.specs.Takens.{with_started, with_released, with_held, with_home, with_left, with_looked, AreBetween}
 use Rattle.activation.proofs.Looking.{looked_on, looked_all, left_more}
-use Rattle.activation.proofs.Testing.{has_here, has_skip, off_or_on}
+use Rattle.activation.proofs.Testing.{has_skip, off_or_on}
 use Rattle.cycle_workers.specs.Runs.{IsRun}
-use Rattle.cycle_workers.proofs.Going.{Going, Shared, gone, has_without, without_front, going_none, going_some, shared_none, shared_some}
+use Rattle.cycle_workers.proofs.Going.{Going, Shared, gone, has_without, going_none, going_some, shared_none, shared_some}
 use Rattle.steal_workers.specs.declared.ends.Deque.{Deque}
 use Rattle.steal_workers.specs.Steals.{KeepsDeque, LeavesAbove, IsOffered, IsPicked, HasWorked, HasSwept}
 

@@ -2,7 +2,7 @@
 --     IsReady .. place      the seat sits there as new, with its passes
 --     HasPlayedOn .. old new      the seat sits there still, and has worked
 --     MaySweep .. seat, Sweeps .. old new      a seat before it looks for all nodes, and behind that
-use Rattle.std.specs.Prelude.{◌≡◌, ◌<◌, ℕ, Bool, List, [], ◌∷◌, length, Some, vec_capacity}
+use Rattle.std.specs.Prelude.{◌≡◌, ◌<◌, ℕ, Bool, List, [], ◌∷◌, Some, vec_capacity}
 use Rattle.atomic_table.specs.Seated.{TableId}
 use Rattle.jack_types.specs.declared.ports.Link.{Link}
 use Rattle.activation.specs.declared.takens.Seat.{Seat}

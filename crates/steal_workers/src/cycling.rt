@@ -31,13 +31,13 @@ pub fn steal_cycle<B: Work + Send, G: Gate, T: Threads + Sync>(
 )
     requires all { AreSeats crew.now.board.shared.table_id crew.now.links.items crew.now.nodes crew.now.seats seats.old.items }
     requires fresh { (before : List B) × AreFresh crew.now.links.items before crew.now.seats seats.old.items × HaveRoom B.has_room crew.now.links.items before }
-    requires deques { length thieves.old.places.items ≡ crew.now.seats }
+    requires deques { length thieves.old ≡ crew.now.seats }
     ensures all { AreSeats crew.now.board.shared.table_id crew.now.links.items crew.now.nodes crew.now.seats seats.new.items }
     ensures played { HavePlayed crew.now.nodes crew.now.seats seats.new.items }
     ensures before { (before : List B) → Know before seats.old.items → Know before seats.new.items }
     ensures ended { (before : List B) → Know before seats.old.items → AreEnded B.memory B.has_room B.after B.gives crew.now.links.items before seats.new.items }
-    ensures deques { length thieves.new.places.items ≡ crew.now.seats }
-    ensures empty { AreEmpty thieves.new.places.items }
+    ensures deques { length thieves.new ≡ crew.now.seats }
+    ensures empty { AreEmpty thieves.new }
 {
     let places = thieves.places.as_mut_slice();
     begin(places, seats, &mut thieves.passes);

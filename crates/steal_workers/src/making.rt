@@ -12,8 +12,8 @@ impl<B: Work> Thieves<B> {
     /// An empty deque for each seat, and the room for all that a cycle lends.
     pub fn new(alloc: Global, seats: u32) -> Result<Thieves<B>, AllocError>
         requires { seats ≤ 16 }
-        ensures count { IfOk result (λ thieves. length thieves.places.items ≡ seats) }
-        ensures empty { IfOk result (λ thieves. AreEmpty thieves.places.items) }
+        ensures count { IfOk result (λ thieves. length thieves ≡ seats) }
+        ensures empty { IfOk result (λ thieves. AreEmpty thieves) }
     {
         let count = seats as usize;
         let mut stealers = Vec::with_capacity(alloc, count)?;

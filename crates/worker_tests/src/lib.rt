@@ -9,3 +9,5 @@ mod graphs;
 mod meetings;
 #[cfg(test)]
 mod tests;
+#[cfg(test)]
+mod thefts;

@@ -88,7 +88,7 @@ fn cycled_twice<T: Threads + Sync>(
 }
 
 // A diamond, with two connections each between nodes 0 and 1 and between nodes 2 and 3.
-fn diamond(alloc: Global) -> Result<Graph, AllocError>
+pub(crate) fn diamond(alloc: Global) -> Result<Graph, AllocError>
     ensures { IfOk result (λ graph. graph.nodes ≡ 4) }
 {
     Graph::of(alloc, 4, &[(0, 1), (0, 1), (0, 2), (1, 3), (2, 3), (2, 3)])

@@ -1,4 +1,5 @@
-use Rattle.std.proofs.Common.{rules, arith, ◌≡◌, ◌≤◌, ◌<◌, ℕ, List, [], ◌∷◌, ◌++◌, length, get_or, take, drop, All, None, vec_capacity, sym, refl, ap, ◌∙◌, subst}
+use Rattle.std.proofs.Common.{rules, arith, ◌≡◌, ◌≤◌, ◌<◌, ℕ, List, [], length, get_or, All, None, vec_capacity, sym, ap, ◌∙◌, subst}
+use Rattle.std.proofs.lemmas.List.{length-map}
 use Rattle.activation.specs.declared.takens.Seat.{Seat}
 use Rattle.activation.specs.Ends.{AreEnded}
 use Rattle.activation.specs.Rounds.{AreSeats, HavePlayed, Know}
@@ -12,8 +13,8 @@ use Rattle.steal_workers.specs.Tallies.{HasAll, IsEven}
 use Rattle.steal_workers.specs.Deques.{tally_of, SameDeque}
 use Rattle.steal_workers.specs.Places.{Paired}
 use Rattle.steal_workers.specs.Works.{IsReady, HasPlayedOn, MaySweep, Sweeps}
-use Rattle.steal_workers.specs.Thefts.{AreEmpty}
-use Rattle.steal_workers.proofs.Changing.{written, paired_map}
+use Rattle.steal_workers.specs.Thefts.{AreEmpty, IsEmpty, tallies_of}
+use Rattle.steal_workers.proofs.Changing.{all_map, written, paired_map}
 use Rattle.steal_workers.proofs.Tallied.{holds_none}
 use Rattle.steal_workers.proofs.Cycled.{Reach, reach_stays, reach_on, ready, Played, may_leave, may_sweep, HasCycled, cycled, are_seats, have_played, know_still}
 use Rattle.steal_workers.proofs.cycling.steal_cycle.Goals as goal
@@ -26,14 +27,15 @@ begin-requires-clause-counts g c κs within =
     let A : Type 0 = Seat g.row.B.Denot g.row.B-Value.Denot g.row.B-Memory.Denot in
     let D : Type 0 = Place g.row.B.Denot g.row.B-Value.Denot g.row.B-Memory.Denot in
     let all : List A = c.args.seats.now.items in
-    let stealers = c.args.thieves.now.stealers.items in
+    let stealers = c.thieves.inside.stealers.items in
     let first : List D = c.as_mut_slice-places.result.now in
-    let there : first ≡ c.args.thieves.now.places.items = c.as_mut_slice-places.ensures.value in
-    let many : length all ≡ length first = long_as (λ (s : A). s.number) all crew.seats c.requires.all.numbers ∙ (sym c.requires.deques ∙ sym (ap length there)) in
-    let reach : Reach stealers first = subst (λ (ps : List D). Reach stealers ps) (sym there) c.args.thieves.now.reached in
-    let rest : All (λ (p : D). HasAll (tally_of p.deque) × (p.thief ≡ None)) first = subst (λ (ps : List D). All (λ (p : D). HasAll (tally_of p.deque) × (p.thief ≡ None)) ps) (sym there) c.args.thieves.now.at_rest in
-    let few : length first ≤ 16 = subst (λ (ps : List D). length ps ≤ 16) (sym there) c.args.thieves.now.few in
-    (many, c.args.thieves.now.room.0 ∙ sym (ap length there))
+    let there : first ≡ c.thieves.inside.places.items = c.as_mut_slice-places.ensures.value in
+    let deques : length c.thieves.inside.places.items ≡ crew.seats = sym (length-map c.thieves.inside.places.items (λ (p : D). tally_of p.deque)) ∙ (ap length c.thieves.view_is ∙ c.requires.deques) in
+    let many : length all ≡ length first = long_as (λ (s : A). s.number) all crew.seats c.requires.all.numbers ∙ (sym deques ∙ sym (ap length there)) in
+    let reach : Reach stealers first = subst (λ (ps : List D). Reach stealers ps) (sym there) c.thieves.invariant.reached in
+    let rest : All (λ (p : D). HasAll (tally_of p.deque) × (p.thief ≡ None)) first = subst (λ (ps : List D). All (λ (p : D). HasAll (tally_of p.deque) × (p.thief ≡ None)) ps) (sym there) c.thieves.invariant.at_rest in
+    let few : length first ≤ 16 = subst (λ (ps : List D). length ps ≤ 16) (sym there) c.thieves.invariant.few in
+    (many, c.thieves.invariant.room.0 ∙ sym (ap length there))
 
 pub for_each_mut-requires-clause-accepts : goal.for_each_mut-requires-clause-accepts
 for_each_mut-requires-clause-accepts g c κs within i p low is =
@@ -43,20 +45,21 @@ for_each_mut-requires-clause-accepts g c κs within i p low is =
     let A : Type 0 = Seat g.row.B.Denot g.row.B-Value.Denot g.row.B-Memory.Denot in
     let D : Type 0 = Place g.row.B.Denot g.row.B-Value.Denot g.row.B-Memory.Denot in
     let all : List A = c.args.seats.now.items in
-    let stealers = c.args.thieves.now.stealers.items in
+    let stealers = c.thieves.inside.stealers.items in
     let first : List D = c.as_mut_slice-places.result.now in
-    let there : first ≡ c.args.thieves.now.places.items = c.as_mut_slice-places.ensures.value in
-    let many : length all ≡ length first = long_as (λ (s : A). s.number) all crew.seats c.requires.all.numbers ∙ (sym c.requires.deques ∙ sym (ap length there)) in
-    let reach : Reach stealers first = subst (λ (ps : List D). Reach stealers ps) (sym there) c.args.thieves.now.reached in
-    let rest : All (λ (p : D). HasAll (tally_of p.deque) × (p.thief ≡ None)) first = subst (λ (ps : List D). All (λ (p : D). HasAll (tally_of p.deque) × (p.thief ≡ None)) ps) (sym there) c.args.thieves.now.at_rest in
-    let few : length first ≤ 16 = subst (λ (ps : List D). length ps ≤ 16) (sym there) c.args.thieves.now.few in
+    let there : first ≡ c.thieves.inside.places.items = c.as_mut_slice-places.ensures.value in
+    let deques : length c.thieves.inside.places.items ≡ crew.seats = sym (length-map c.thieves.inside.places.items (λ (p : D). tally_of p.deque)) ∙ (ap length c.thieves.view_is ∙ c.requires.deques) in
+    let many : length all ≡ length first = long_as (λ (s : A). s.number) all crew.seats c.requires.all.numbers ∙ (sym deques ∙ sym (ap length there)) in
+    let reach : Reach stealers first = subst (λ (ps : List D). Reach stealers ps) (sym there) c.thieves.invariant.reached in
+    let rest : All (λ (p : D). HasAll (tally_of p.deque) × (p.thief ≡ None)) first = subst (λ (ps : List D). All (λ (p : D). HasAll (tally_of p.deque) × (p.thief ≡ None)) ps) (sym there) c.thieves.invariant.at_rest in
+    let few : length first ≤ 16 = subst (λ (ps : List D). length ps ≤ 16) (sym there) c.thieves.invariant.few in
     let mid : List D = c.begin.new.places in
     let long : length mid ≡ length first = c.begin.auto.places in
     let took = c.begin.ensures.places in
     let fresh = c.requires.fresh in (
       subst (λ (x : D). IsReady g.B.Work.has_room id links crew.nodes crew.seats stealers x × (length stealers ≡ crew.seats)) (sym is) (
         ready id links crew.nodes crew.seats stealers g.B.Work.has_room fresh.0 all first mid c.requires.all fresh.1 fresh.2 reach rest few many long took i p.now low,
-        sym c.args.thieves.now.reached.0 ∙ c.requires.deques,
+        sym c.thieves.invariant.reached.0 ∙ deques,
       ),
       (search rules, search rules, search rules),
     )
@@ -69,13 +72,14 @@ end-requires-clause-places g c κs within =
     let A : Type 0 = Seat g.row.B.Denot g.row.B-Value.Denot g.row.B-Memory.Denot in
     let D : Type 0 = Place g.row.B.Denot g.row.B-Value.Denot g.row.B-Memory.Denot in
     let all : List A = c.args.seats.now.items in
-    let stealers = c.args.thieves.now.stealers.items in
+    let stealers = c.thieves.inside.stealers.items in
     let first : List D = c.as_mut_slice-places.result.now in
-    let there : first ≡ c.args.thieves.now.places.items = c.as_mut_slice-places.ensures.value in
-    let many : length all ≡ length first = long_as (λ (s : A). s.number) all crew.seats c.requires.all.numbers ∙ (sym c.requires.deques ∙ sym (ap length there)) in
-    let reach : Reach stealers first = subst (λ (ps : List D). Reach stealers ps) (sym there) c.args.thieves.now.reached in
-    let rest : All (λ (p : D). HasAll (tally_of p.deque) × (p.thief ≡ None)) first = subst (λ (ps : List D). All (λ (p : D). HasAll (tally_of p.deque) × (p.thief ≡ None)) ps) (sym there) c.args.thieves.now.at_rest in
-    let few : length first ≤ 16 = subst (λ (ps : List D). length ps ≤ 16) (sym there) c.args.thieves.now.few in
+    let there : first ≡ c.thieves.inside.places.items = c.as_mut_slice-places.ensures.value in
+    let deques : length c.thieves.inside.places.items ≡ crew.seats = sym (length-map c.thieves.inside.places.items (λ (p : D). tally_of p.deque)) ∙ (ap length c.thieves.view_is ∙ c.requires.deques) in
+    let many : length all ≡ length first = long_as (λ (s : A). s.number) all crew.seats c.requires.all.numbers ∙ (sym deques ∙ sym (ap length there)) in
+    let reach : Reach stealers first = subst (λ (ps : List D). Reach stealers ps) (sym there) c.thieves.invariant.reached in
+    let rest : All (λ (p : D). HasAll (tally_of p.deque) × (p.thief ≡ None)) first = subst (λ (ps : List D). All (λ (p : D). HasAll (tally_of p.deque) × (p.thief ≡ None)) ps) (sym there) c.thieves.invariant.at_rest in
+    let few : length first ≤ 16 = subst (λ (ps : List D). length ps ≤ 16) (sym there) c.thieves.invariant.few in
     let mid : List D = c.begin.new.places in
     let long : length mid ≡ length first = c.begin.auto.places in
     let took = c.begin.ensures.places in
@@ -93,13 +97,14 @@ end-requires-clause-seats g c κs within =
     let A : Type 0 = Seat g.row.B.Denot g.row.B-Value.Denot g.row.B-Memory.Denot in
     let D : Type 0 = Place g.row.B.Denot g.row.B-Value.Denot g.row.B-Memory.Denot in
     let all : List A = c.args.seats.now.items in
-    let stealers = c.args.thieves.now.stealers.items in
+    let stealers = c.thieves.inside.stealers.items in
     let first : List D = c.as_mut_slice-places.result.now in
-    let there : first ≡ c.args.thieves.now.places.items = c.as_mut_slice-places.ensures.value in
-    let many : length all ≡ length first = long_as (λ (s : A). s.number) all crew.seats c.requires.all.numbers ∙ (sym c.requires.deques ∙ sym (ap length there)) in
-    let reach : Reach stealers first = subst (λ (ps : List D). Reach stealers ps) (sym there) c.args.thieves.now.reached in
-    let rest : All (λ (p : D). HasAll (tally_of p.deque) × (p.thief ≡ None)) first = subst (λ (ps : List D). All (λ (p : D). HasAll (tally_of p.deque) × (p.thief ≡ None)) ps) (sym there) c.args.thieves.now.at_rest in
-    let few : length first ≤ 16 = subst (λ (ps : List D). length ps ≤ 16) (sym there) c.args.thieves.now.few in
+    let there : first ≡ c.thieves.inside.places.items = c.as_mut_slice-places.ensures.value in
+    let deques : length c.thieves.inside.places.items ≡ crew.seats = sym (length-map c.thieves.inside.places.items (λ (p : D). tally_of p.deque)) ∙ (ap length c.thieves.view_is ∙ c.requires.deques) in
+    let many : length all ≡ length first = long_as (λ (s : A). s.number) all crew.seats c.requires.all.numbers ∙ (sym deques ∙ sym (ap length there)) in
+    let reach : Reach stealers first = subst (λ (ps : List D). Reach stealers ps) (sym there) c.thieves.invariant.reached in
+    let rest : All (λ (p : D). HasAll (tally_of p.deque) × (p.thief ≡ None)) first = subst (λ (ps : List D). All (λ (p : D). HasAll (tally_of p.deque) × (p.thief ≡ None)) ps) (sym there) c.thieves.invariant.at_rest in
+    let few : length first ≤ 16 = subst (λ (ps : List D). length ps ≤ 16) (sym there) c.thieves.invariant.few in
     let mid : List D = c.begin.new.places in
     let long : length mid ≡ length first = c.begin.auto.places in
     let took = c.begin.ensures.places in
@@ -111,21 +116,22 @@ end-requires-clause-seats g c κs within =
     let kept = c.begin.ensures.seats.1 in
     (c.begin.ensures.seats.0, omega (arith, room, kept, many, long, long'))
 
-pub invariant_of-thieves-clause-few : goal.invariant_of-thieves-clause-few
-invariant_of-thieves-clause-few g c =
+pub invariant_of-thieves : goal.invariant_of-thieves
+invariant_of-thieves g c =
     let crew = c.args.crew.now in
     let id = crew.board.shared.table_id in
     let links = crew.links.items in
     let A : Type 0 = Seat g.row.B.Denot g.row.B-Value.Denot g.row.B-Memory.Denot in
     let D : Type 0 = Place g.row.B.Denot g.row.B-Value.Denot g.row.B-Memory.Denot in
     let all : List A = c.args.seats.now.items in
-    let stealers = c.args.thieves.now.stealers.items in
+    let stealers = c.thieves.inside.stealers.items in
     let first : List D = c.as_mut_slice-places.result.now in
-    let there : first ≡ c.args.thieves.now.places.items = c.as_mut_slice-places.ensures.value in
-    let many : length all ≡ length first = long_as (λ (s : A). s.number) all crew.seats c.requires.all.numbers ∙ (sym c.requires.deques ∙ sym (ap length there)) in
-    let reach : Reach stealers first = subst (λ (ps : List D). Reach stealers ps) (sym there) c.args.thieves.now.reached in
-    let rest : All (λ (p : D). HasAll (tally_of p.deque) × (p.thief ≡ None)) first = subst (λ (ps : List D). All (λ (p : D). HasAll (tally_of p.deque) × (p.thief ≡ None)) ps) (sym there) c.args.thieves.now.at_rest in
-    let few : length first ≤ 16 = subst (λ (ps : List D). length ps ≤ 16) (sym there) c.args.thieves.now.few in
+    let there : first ≡ c.thieves.inside.places.items = c.as_mut_slice-places.ensures.value in
+    let deques : length c.thieves.inside.places.items ≡ crew.seats = sym (length-map c.thieves.inside.places.items (λ (p : D). tally_of p.deque)) ∙ (ap length c.thieves.view_is ∙ c.requires.deques) in
+    let many : length all ≡ length first = long_as (λ (s : A). s.number) all crew.seats c.requires.all.numbers ∙ (sym deques ∙ sym (ap length there)) in
+    let reach : Reach stealers first = subst (λ (ps : List D). Reach stealers ps) (sym there) c.thieves.invariant.reached in
+    let rest : All (λ (p : D). HasAll (tally_of p.deque) × (p.thief ≡ None)) first = subst (λ (ps : List D). All (λ (p : D). HasAll (tally_of p.deque) × (p.thief ≡ None)) ps) (sym there) c.thieves.invariant.at_rest in
+    let few : length first ≤ 16 = subst (λ (ps : List D). length ps ≤ 16) (sym there) c.thieves.invariant.few in
     let mid : List D = c.begin.new.places in
     let long : length mid ≡ length first = c.begin.auto.places in
     let took = c.begin.ensures.places in
@@ -137,96 +143,13 @@ invariant_of-thieves-clause-few g c =
     let long'' : length last ≡ length new = c.end.auto.places in
     let back : List A = c.end.new.seats.items in
     let risen : length back ≡ length new = c.end.ensures.seats.0 in
-    let is = written c.args.thieves.now.places.len c.args.thieves.now.places.items last (search rules) in
-    subst (λ (l : List D). length l ≤ 16) (sym is) (omega (arith, few, long, long', long''))
-
-pub invariant_of-thieves-clause-reached : goal.invariant_of-thieves-clause-reached
-invariant_of-thieves-clause-reached g c =
-    let crew = c.args.crew.now in
-    let id = crew.board.shared.table_id in
-    let links = crew.links.items in
-    let A : Type 0 = Seat g.row.B.Denot g.row.B-Value.Denot g.row.B-Memory.Denot in
-    let D : Type 0 = Place g.row.B.Denot g.row.B-Value.Denot g.row.B-Memory.Denot in
-    let all : List A = c.args.seats.now.items in
-    let stealers = c.args.thieves.now.stealers.items in
-    let first : List D = c.as_mut_slice-places.result.now in
-    let there : first ≡ c.args.thieves.now.places.items = c.as_mut_slice-places.ensures.value in
-    let many : length all ≡ length first = long_as (λ (s : A). s.number) all crew.seats c.requires.all.numbers ∙ (sym c.requires.deques ∙ sym (ap length there)) in
-    let reach : Reach stealers first = subst (λ (ps : List D). Reach stealers ps) (sym there) c.args.thieves.now.reached in
-    let rest : All (λ (p : D). HasAll (tally_of p.deque) × (p.thief ≡ None)) first = subst (λ (ps : List D). All (λ (p : D). HasAll (tally_of p.deque) × (p.thief ≡ None)) ps) (sym there) c.args.thieves.now.at_rest in
-    let few : length first ≤ 16 = subst (λ (ps : List D). length ps ≤ 16) (sym there) c.args.thieves.now.few in
-    let mid : List D = c.begin.new.places in
-    let long : length mid ≡ length first = c.begin.auto.places in
-    let took = c.begin.ensures.places in
-    let new : List D = c.for_each_mut.new.s in
-    let long' : length new ≡ length mid = c.for_each_mut.auto.s in
-    let P : D → D → Type 0 = HasPlayedOn id links crew.nodes crew.seats stealers in
-    let played : Played id links crew.nodes crew.seats stealers mid new = λ k d low. let it = (c.for_each_mut.ensures k d low).1 in subst (λ (z : D × D). P z.0 z.1) (λ j. (it.argument_is j, it.left j)) it.call in
-    let last : List D = c.end.new.places in
-    let long'' : length last ≡ length new = c.end.auto.places in
-    let back : List A = c.end.new.seats.items in
-    let risen : length back ≡ length new = c.end.ensures.seats.0 in
-    let is = written c.args.thieves.now.places.len c.args.thieves.now.places.items last (search rules) in
-    subst (λ (l : List D). Reach stealers l) (sym is) (reach_stays stealers new last (paired_map (λ (a b : D). SameDeque a.deque b.deque × HasAll (tally_of b.deque) × IsEven (tally_of b.deque) × (b.thief ≡ None)) (λ (a b : D). SameDeque a.deque b.deque) new last (λ a b h. h.0) c.end.ensures.places) (reach_on id links crew.nodes crew.seats stealers all first mid new many long long' took played reach))
-
-pub invariant_of-thieves-clause-at_rest : goal.invariant_of-thieves-clause-at_rest
-invariant_of-thieves-clause-at_rest g c =
-    let crew = c.args.crew.now in
-    let id = crew.board.shared.table_id in
-    let links = crew.links.items in
-    let A : Type 0 = Seat g.row.B.Denot g.row.B-Value.Denot g.row.B-Memory.Denot in
-    let D : Type 0 = Place g.row.B.Denot g.row.B-Value.Denot g.row.B-Memory.Denot in
-    let all : List A = c.args.seats.now.items in
-    let stealers = c.args.thieves.now.stealers.items in
-    let first : List D = c.as_mut_slice-places.result.now in
-    let there : first ≡ c.args.thieves.now.places.items = c.as_mut_slice-places.ensures.value in
-    let many : length all ≡ length first = long_as (λ (s : A). s.number) all crew.seats c.requires.all.numbers ∙ (sym c.requires.deques ∙ sym (ap length there)) in
-    let reach : Reach stealers first = subst (λ (ps : List D). Reach stealers ps) (sym there) c.args.thieves.now.reached in
-    let rest : All (λ (p : D). HasAll (tally_of p.deque) × (p.thief ≡ None)) first = subst (λ (ps : List D). All (λ (p : D). HasAll (tally_of p.deque) × (p.thief ≡ None)) ps) (sym there) c.args.thieves.now.at_rest in
-    let few : length first ≤ 16 = subst (λ (ps : List D). length ps ≤ 16) (sym there) c.args.thieves.now.few in
-    let mid : List D = c.begin.new.places in
-    let long : length mid ≡ length first = c.begin.auto.places in
-    let took = c.begin.ensures.places in
-    let new : List D = c.for_each_mut.new.s in
-    let long' : length new ≡ length mid = c.for_each_mut.auto.s in
-    let P : D → D → Type 0 = HasPlayedOn id links crew.nodes crew.seats stealers in
-    let played : Played id links crew.nodes crew.seats stealers mid new = λ k d low. let it = (c.for_each_mut.ensures k d low).1 in subst (λ (z : D × D). P z.0 z.1) (λ j. (it.argument_is j, it.left j)) it.call in
-    let last : List D = c.end.new.places in
-    let long'' : length last ≡ length new = c.end.auto.places in
-    let back : List A = c.end.new.seats.items in
-    let risen : length back ≡ length new = c.end.ensures.seats.0 in
-    let is = written c.args.thieves.now.places.len c.args.thieves.now.places.items last (search rules) in
-    subst (λ (l : List D). All (λ (p : D). HasAll (tally_of p.deque) × (p.thief ≡ None)) l) (sym is) (λ k d low. let it = c.end.ensures.places.1 k d d (omega (arith, low, long'')) in (it.1, it.3))
-
-pub invariant_of-thieves-clause-room : goal.invariant_of-thieves-clause-room
-invariant_of-thieves-clause-room g c =
-    let crew = c.args.crew.now in
-    let id = crew.board.shared.table_id in
-    let links = crew.links.items in
-    let A : Type 0 = Seat g.row.B.Denot g.row.B-Value.Denot g.row.B-Memory.Denot in
-    let D : Type 0 = Place g.row.B.Denot g.row.B-Value.Denot g.row.B-Memory.Denot in
-    let all : List A = c.args.seats.now.items in
-    let stealers = c.args.thieves.now.stealers.items in
-    let first : List D = c.as_mut_slice-places.result.now in
-    let there : first ≡ c.args.thieves.now.places.items = c.as_mut_slice-places.ensures.value in
-    let many : length all ≡ length first = long_as (λ (s : A). s.number) all crew.seats c.requires.all.numbers ∙ (sym c.requires.deques ∙ sym (ap length there)) in
-    let reach : Reach stealers first = subst (λ (ps : List D). Reach stealers ps) (sym there) c.args.thieves.now.reached in
-    let rest : All (λ (p : D). HasAll (tally_of p.deque) × (p.thief ≡ None)) first = subst (λ (ps : List D). All (λ (p : D). HasAll (tally_of p.deque) × (p.thief ≡ None)) ps) (sym there) c.args.thieves.now.at_rest in
-    let few : length first ≤ 16 = subst (λ (ps : List D). length ps ≤ 16) (sym there) c.args.thieves.now.few in
-    let mid : List D = c.begin.new.places in
-    let long : length mid ≡ length first = c.begin.auto.places in
-    let took = c.begin.ensures.places in
-    let new : List D = c.for_each_mut.new.s in
-    let long' : length new ≡ length mid = c.for_each_mut.auto.s in
-    let P : D → D → Type 0 = HasPlayedOn id links crew.nodes crew.seats stealers in
-    let played : Played id links crew.nodes crew.seats stealers mid new = λ k d low. let it = (c.for_each_mut.ensures k d low).1 in subst (λ (z : D × D). P z.0 z.1) (λ j. (it.argument_is j, it.left j)) it.call in
-    let last : List D = c.end.new.places in
-    let long'' : length last ≡ length new = c.end.auto.places in
-    let back : List A = c.end.new.seats.items in
-    let risen : length back ≡ length new = c.end.ensures.seats.0 in
-    let is = written c.args.thieves.now.places.len c.args.thieves.now.places.items last (search rules) in
-    subst (λ (l : List D). (length c.end.new.passes.items ≡ length l) × ((k : ℕ) (d : Vec (Pass ℕ Tally Global)) → k < length c.end.new.passes.items → ((get_or c.end.new.passes.items k d).items ≡ []) × (length l ≤ vec_capacity (get_or c.end.new.passes.items k d)))) (sym is)
-    (c.end.ensures.passes.0 ∙ sym long'', λ k d low. let it = c.end.ensures.passes.1 k d low in let room = it.1 in (it.0, omega (arith, room, long'')))
+    let is = written c.thieves.inside.places.len c.thieves.inside.places.items last (search rules) in record {
+      few = subst (λ (l : List D). length l ≤ 16) (sym is) (omega (arith, few, long, long', long''));
+      reached = subst (λ (l : List D). Reach stealers l) (sym is) (reach_stays stealers new last (paired_map (λ (a b : D). SameDeque a.deque b.deque × HasAll (tally_of b.deque) × IsEven (tally_of b.deque) × (b.thief ≡ None)) (λ (a b : D). SameDeque a.deque b.deque) new last (λ a b h. h.0) c.end.ensures.places) (reach_on id links crew.nodes crew.seats stealers all first mid new many long long' took played reach));
+      at_rest = subst (λ (l : List D). All (λ (p : D). HasAll (tally_of p.deque) × (p.thief ≡ None)) l) (sym is) (λ k d low. let it = c.end.ensures.places.1 k d d (omega (arith, low, long'')) in (it.1, it.3));
+      room = subst (λ (l : List D). (length c.end.new.passes.items ≡ length l) × ((k : ℕ) (d : Vec (Pass ℕ Tally Global)) → k < length c.end.new.passes.items → ((get_or c.end.new.passes.items k d).items ≡ []) × (length l ≤ vec_capacity (get_or c.end.new.passes.items k d)))) (sym is)
+          (c.end.ensures.passes.0 ∙ sym long'', λ k d low. let it = c.end.ensures.passes.1 k d low in let room = it.1 in (it.0, omega (arith, room, long'')));
+    }
 
 pub sweep_all-requires-clause-seats : goal.sweep_all-requires-clause-seats
 sweep_all-requires-clause-seats g c κs within =
@@ -236,13 +159,14 @@ sweep_all-requires-clause-seats g c κs within =
     let A : Type 0 = Seat g.row.B.Denot g.row.B-Value.Denot g.row.B-Memory.Denot in
     let D : Type 0 = Place g.row.B.Denot g.row.B-Value.Denot g.row.B-Memory.Denot in
     let all : List A = c.args.seats.now.items in
-    let stealers = c.args.thieves.now.stealers.items in
+    let stealers = c.thieves.inside.stealers.items in
     let first : List D = c.as_mut_slice-places.result.now in
-    let there : first ≡ c.args.thieves.now.places.items = c.as_mut_slice-places.ensures.value in
-    let many : length all ≡ length first = long_as (λ (s : A). s.number) all crew.seats c.requires.all.numbers ∙ (sym c.requires.deques ∙ sym (ap length there)) in
-    let reach : Reach stealers first = subst (λ (ps : List D). Reach stealers ps) (sym there) c.args.thieves.now.reached in
-    let rest : All (λ (p : D). HasAll (tally_of p.deque) × (p.thief ≡ None)) first = subst (λ (ps : List D). All (λ (p : D). HasAll (tally_of p.deque) × (p.thief ≡ None)) ps) (sym there) c.args.thieves.now.at_rest in
-    let few : length first ≤ 16 = subst (λ (ps : List D). length ps ≤ 16) (sym there) c.args.thieves.now.few in
+    let there : first ≡ c.thieves.inside.places.items = c.as_mut_slice-places.ensures.value in
+    let deques : length c.thieves.inside.places.items ≡ crew.seats = sym (length-map c.thieves.inside.places.items (λ (p : D). tally_of p.deque)) ∙ (ap length c.thieves.view_is ∙ c.requires.deques) in
+    let many : length all ≡ length first = long_as (λ (s : A). s.number) all crew.seats c.requires.all.numbers ∙ (sym deques ∙ sym (ap length there)) in
+    let reach : Reach stealers first = subst (λ (ps : List D). Reach stealers ps) (sym there) c.thieves.invariant.reached in
+    let rest : All (λ (p : D). HasAll (tally_of p.deque) × (p.thief ≡ None)) first = subst (λ (ps : List D). All (λ (p : D). HasAll (tally_of p.deque) × (p.thief ≡ None)) ps) (sym there) c.thieves.invariant.at_rest in
+    let few : length first ≤ 16 = subst (λ (ps : List D). length ps ≤ 16) (sym there) c.thieves.invariant.few in
     let mid : List D = c.begin.new.places in
     let long : length mid ≡ length first = c.begin.auto.places in
     let took = c.begin.ensures.places in
@@ -267,13 +191,14 @@ returns-clause-all g c =
     let A : Type 0 = Seat g.row.B.Denot g.row.B-Value.Denot g.row.B-Memory.Denot in
     let D : Type 0 = Place g.row.B.Denot g.row.B-Value.Denot g.row.B-Memory.Denot in
     let all : List A = c.args.seats.now.items in
-    let stealers = c.args.thieves.now.stealers.items in
+    let stealers = c.thieves.inside.stealers.items in
     let first : List D = c.as_mut_slice-places.result.now in
-    let there : first ≡ c.args.thieves.now.places.items = c.as_mut_slice-places.ensures.value in
-    let many : length all ≡ length first = long_as (λ (s : A). s.number) all crew.seats c.requires.all.numbers ∙ (sym c.requires.deques ∙ sym (ap length there)) in
-    let reach : Reach stealers first = subst (λ (ps : List D). Reach stealers ps) (sym there) c.args.thieves.now.reached in
-    let rest : All (λ (p : D). HasAll (tally_of p.deque) × (p.thief ≡ None)) first = subst (λ (ps : List D). All (λ (p : D). HasAll (tally_of p.deque) × (p.thief ≡ None)) ps) (sym there) c.args.thieves.now.at_rest in
-    let few : length first ≤ 16 = subst (λ (ps : List D). length ps ≤ 16) (sym there) c.args.thieves.now.few in
+    let there : first ≡ c.thieves.inside.places.items = c.as_mut_slice-places.ensures.value in
+    let deques : length c.thieves.inside.places.items ≡ crew.seats = sym (length-map c.thieves.inside.places.items (λ (p : D). tally_of p.deque)) ∙ (ap length c.thieves.view_is ∙ c.requires.deques) in
+    let many : length all ≡ length first = long_as (λ (s : A). s.number) all crew.seats c.requires.all.numbers ∙ (sym deques ∙ sym (ap length there)) in
+    let reach : Reach stealers first = subst (λ (ps : List D). Reach stealers ps) (sym there) c.thieves.invariant.reached in
+    let rest : All (λ (p : D). HasAll (tally_of p.deque) × (p.thief ≡ None)) first = subst (λ (ps : List D). All (λ (p : D). HasAll (tally_of p.deque) × (p.thief ≡ None)) ps) (sym there) c.thieves.invariant.at_rest in
+    let few : length first ≤ 16 = subst (λ (ps : List D). length ps ≤ 16) (sym there) c.thieves.invariant.few in
     let mid : List D = c.begin.new.places in
     let long : length mid ≡ length first = c.begin.auto.places in
     let took = c.begin.ensures.places in
@@ -300,13 +225,14 @@ returns-clause-played g c =
     let A : Type 0 = Seat g.row.B.Denot g.row.B-Value.Denot g.row.B-Memory.Denot in
     let D : Type 0 = Place g.row.B.Denot g.row.B-Value.Denot g.row.B-Memory.Denot in
     let all : List A = c.args.seats.now.items in
-    let stealers = c.args.thieves.now.stealers.items in
+    let stealers = c.thieves.inside.stealers.items in
     let first : List D = c.as_mut_slice-places.result.now in
-    let there : first ≡ c.args.thieves.now.places.items = c.as_mut_slice-places.ensures.value in
-    let many : length all ≡ length first = long_as (λ (s : A). s.number) all crew.seats c.requires.all.numbers ∙ (sym c.requires.deques ∙ sym (ap length there)) in
-    let reach : Reach stealers first = subst (λ (ps : List D). Reach stealers ps) (sym there) c.args.thieves.now.reached in
-    let rest : All (λ (p : D). HasAll (tally_of p.deque) × (p.thief ≡ None)) first = subst (λ (ps : List D). All (λ (p : D). HasAll (tally_of p.deque) × (p.thief ≡ None)) ps) (sym there) c.args.thieves.now.at_rest in
-    let few : length first ≤ 16 = subst (λ (ps : List D). length ps ≤ 16) (sym there) c.args.thieves.now.few in
+    let there : first ≡ c.thieves.inside.places.items = c.as_mut_slice-places.ensures.value in
+    let deques : length c.thieves.inside.places.items ≡ crew.seats = sym (length-map c.thieves.inside.places.items (λ (p : D). tally_of p.deque)) ∙ (ap length c.thieves.view_is ∙ c.requires.deques) in
+    let many : length all ≡ length first = long_as (λ (s : A). s.number) all crew.seats c.requires.all.numbers ∙ (sym deques ∙ sym (ap length there)) in
+    let reach : Reach stealers first = subst (λ (ps : List D). Reach stealers ps) (sym there) c.thieves.invariant.reached in
+    let rest : All (λ (p : D). HasAll (tally_of p.deque) × (p.thief ≡ None)) first = subst (λ (ps : List D). All (λ (p : D). HasAll (tally_of p.deque) × (p.thief ≡ None)) ps) (sym there) c.thieves.invariant.at_rest in
+    let few : length first ≤ 16 = subst (λ (ps : List D). length ps ≤ 16) (sym there) c.thieves.invariant.few in
     let mid : List D = c.begin.new.places in
     let long : length mid ≡ length first = c.begin.auto.places in
     let took = c.begin.ensures.places in
@@ -333,13 +259,14 @@ returns-clause-before g c before know =
     let A : Type 0 = Seat g.row.B.Denot g.row.B-Value.Denot g.row.B-Memory.Denot in
     let D : Type 0 = Place g.row.B.Denot g.row.B-Value.Denot g.row.B-Memory.Denot in
     let all : List A = c.args.seats.now.items in
-    let stealers = c.args.thieves.now.stealers.items in
+    let stealers = c.thieves.inside.stealers.items in
     let first : List D = c.as_mut_slice-places.result.now in
-    let there : first ≡ c.args.thieves.now.places.items = c.as_mut_slice-places.ensures.value in
-    let many : length all ≡ length first = long_as (λ (s : A). s.number) all crew.seats c.requires.all.numbers ∙ (sym c.requires.deques ∙ sym (ap length there)) in
-    let reach : Reach stealers first = subst (λ (ps : List D). Reach stealers ps) (sym there) c.args.thieves.now.reached in
-    let rest : All (λ (p : D). HasAll (tally_of p.deque) × (p.thief ≡ None)) first = subst (λ (ps : List D). All (λ (p : D). HasAll (tally_of p.deque) × (p.thief ≡ None)) ps) (sym there) c.args.thieves.now.at_rest in
-    let few : length first ≤ 16 = subst (λ (ps : List D). length ps ≤ 16) (sym there) c.args.thieves.now.few in
+    let there : first ≡ c.thieves.inside.places.items = c.as_mut_slice-places.ensures.value in
+    let deques : length c.thieves.inside.places.items ≡ crew.seats = sym (length-map c.thieves.inside.places.items (λ (p : D). tally_of p.deque)) ∙ (ap length c.thieves.view_is ∙ c.requires.deques) in
+    let many : length all ≡ length first = long_as (λ (s : A). s.number) all crew.seats c.requires.all.numbers ∙ (sym deques ∙ sym (ap length there)) in
+    let reach : Reach stealers first = subst (λ (ps : List D). Reach stealers ps) (sym there) c.thieves.invariant.reached in
+    let rest : All (λ (p : D). HasAll (tally_of p.deque) × (p.thief ≡ None)) first = subst (λ (ps : List D). All (λ (p : D). HasAll (tally_of p.deque) × (p.thief ≡ None)) ps) (sym there) c.thieves.invariant.at_rest in
+    let few : length first ≤ 16 = subst (λ (ps : List D). length ps ≤ 16) (sym there) c.thieves.invariant.few in
     let mid : List D = c.begin.new.places in
     let long : length mid ≡ length first = c.begin.auto.places in
     let took = c.begin.ensures.places in
@@ -366,13 +293,14 @@ returns-clause-ended g c before know =
     let A : Type 0 = Seat g.row.B.Denot g.row.B-Value.Denot g.row.B-Memory.Denot in
     let D : Type 0 = Place g.row.B.Denot g.row.B-Value.Denot g.row.B-Memory.Denot in
     let all : List A = c.args.seats.now.items in
-    let stealers = c.args.thieves.now.stealers.items in
+    let stealers = c.thieves.inside.stealers.items in
     let first : List D = c.as_mut_slice-places.result.now in
-    let there : first ≡ c.args.thieves.now.places.items = c.as_mut_slice-places.ensures.value in
-    let many : length all ≡ length first = long_as (λ (s : A). s.number) all crew.seats c.requires.all.numbers ∙ (sym c.requires.deques ∙ sym (ap length there)) in
-    let reach : Reach stealers first = subst (λ (ps : List D). Reach stealers ps) (sym there) c.args.thieves.now.reached in
-    let rest : All (λ (p : D). HasAll (tally_of p.deque) × (p.thief ≡ None)) first = subst (λ (ps : List D). All (λ (p : D). HasAll (tally_of p.deque) × (p.thief ≡ None)) ps) (sym there) c.args.thieves.now.at_rest in
-    let few : length first ≤ 16 = subst (λ (ps : List D). length ps ≤ 16) (sym there) c.args.thieves.now.few in
+    let there : first ≡ c.thieves.inside.places.items = c.as_mut_slice-places.ensures.value in
+    let deques : length c.thieves.inside.places.items ≡ crew.seats = sym (length-map c.thieves.inside.places.items (λ (p : D). tally_of p.deque)) ∙ (ap length c.thieves.view_is ∙ c.requires.deques) in
+    let many : length all ≡ length first = long_as (λ (s : A). s.number) all crew.seats c.requires.all.numbers ∙ (sym deques ∙ sym (ap length there)) in
+    let reach : Reach stealers first = subst (λ (ps : List D). Reach stealers ps) (sym there) c.thieves.invariant.reached in
+    let rest : All (λ (p : D). HasAll (tally_of p.deque) × (p.thief ≡ None)) first = subst (λ (ps : List D). All (λ (p : D). HasAll (tally_of p.deque) × (p.thief ≡ None)) ps) (sym there) c.thieves.invariant.at_rest in
+    let few : length first ≤ 16 = subst (λ (ps : List D). length ps ≤ 16) (sym there) c.thieves.invariant.few in
     let mid : List D = c.begin.new.places in
     let long : length mid ≡ length first = c.begin.auto.places in
     let took = c.begin.ensures.places in
@@ -403,13 +331,14 @@ returns-clause-empty g c =
     let A : Type 0 = Seat g.row.B.Denot g.row.B-Value.Denot g.row.B-Memory.Denot in
     let D : Type 0 = Place g.row.B.Denot g.row.B-Value.Denot g.row.B-Memory.Denot in
     let all : List A = c.args.seats.now.items in
-    let stealers = c.args.thieves.now.stealers.items in
+    let stealers = c.thieves.inside.stealers.items in
     let first : List D = c.as_mut_slice-places.result.now in
-    let there : first ≡ c.args.thieves.now.places.items = c.as_mut_slice-places.ensures.value in
-    let many : length all ≡ length first = long_as (λ (s : A). s.number) all crew.seats c.requires.all.numbers ∙ (sym c.requires.deques ∙ sym (ap length there)) in
-    let reach : Reach stealers first = subst (λ (ps : List D). Reach stealers ps) (sym there) c.args.thieves.now.reached in
-    let rest : All (λ (p : D). HasAll (tally_of p.deque) × (p.thief ≡ None)) first = subst (λ (ps : List D). All (λ (p : D). HasAll (tally_of p.deque) × (p.thief ≡ None)) ps) (sym there) c.args.thieves.now.at_rest in
-    let few : length first ≤ 16 = subst (λ (ps : List D). length ps ≤ 16) (sym there) c.args.thieves.now.few in
+    let there : first ≡ c.thieves.inside.places.items = c.as_mut_slice-places.ensures.value in
+    let deques : length c.thieves.inside.places.items ≡ crew.seats = sym (length-map c.thieves.inside.places.items (λ (p : D). tally_of p.deque)) ∙ (ap length c.thieves.view_is ∙ c.requires.deques) in
+    let many : length all ≡ length first = long_as (λ (s : A). s.number) all crew.seats c.requires.all.numbers ∙ (sym deques ∙ sym (ap length there)) in
+    let reach : Reach stealers first = subst (λ (ps : List D). Reach stealers ps) (sym there) c.thieves.invariant.reached in
+    let rest : All (λ (p : D). HasAll (tally_of p.deque) × (p.thief ≡ None)) first = subst (λ (ps : List D). All (λ (p : D). HasAll (tally_of p.deque) × (p.thief ≡ None)) ps) (sym there) c.thieves.invariant.at_rest in
+    let few : length first ≤ 16 = subst (λ (ps : List D). length ps ≤ 16) (sym there) c.thieves.invariant.few in
     let mid : List D = c.begin.new.places in
     let long : length mid ≡ length first = c.begin.auto.places in
     let took = c.begin.ensures.places in
@@ -421,5 +350,5 @@ returns-clause-empty g c =
     let long'' : length last ≡ length new = c.end.auto.places in
     let back : List A = c.end.new.seats.items in
     let risen : length back ≡ length new = c.end.ensures.seats.0 in
-    let is = written c.args.thieves.now.places.len c.args.thieves.now.places.items last (search rules) in
-    subst (λ (l : List D). AreEmpty l) (sym is) (λ k d low. let it = c.end.ensures.places.1 k d d (omega (arith, low, long'')) in holds_none (tally_of (get_or last k d).deque) it.1 it.2)
+    let is = written c.thieves.inside.places.len c.thieves.inside.places.items last (search rules) in
+    subst (λ (l : List D). AreEmpty (tallies_of l)) (sym is) (all_map (λ (p : D). tally_of p.deque) IsEmpty last (λ k d low. let it = c.end.ensures.places.1 k d d (omega (arith, low, long'')) in holds_none (tally_of (get_or last k d).deque) it.1 it.2))

@@ -1,4 +1,4 @@
-use Rattle.std.proofs.Common.{rules, ◌≡◌, ◌<◌, ℕ, List, length, get_or, take, drop, ◌++◌, Some, sym, ap, ◌∙◌, subst}
+use Rattle.std.proofs.Common.{rules, ◌≡◌, ◌<◌, ℕ, List, length, get_or, Some, subst}
 use Rattle.std.specs.Global.{Vec, Global}
 use Rattle.crossbeam_deque.specs.Handles.{Pass}
 use Rattle.activation.specs.declared.takens.Seat.{Seat}

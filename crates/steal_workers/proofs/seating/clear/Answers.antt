@@ -1,7 +1,6 @@
-use Rattle.std.proofs.Common.{arith, ◌≡◌, ◌<◌, ◌+◌, ℕ, length, get_or, sym, refl, ap, ◌∙◌, subst}
+use Rattle.std.proofs.Common.{arith, ◌<◌, ℕ, length, get_or, refl, ap, ◌∙◌, subst}
 use Rattle.steal_workers.specs.declared.places.Place.{Place}
 use Rattle.steal_workers.specs.Places.{Empties, parts_of}
-use Rattle.steal_workers.specs.Tallies.{every_part}
 use Rattle.steal_workers.proofs.Changing.{up_none, up_here, up_more, up_all}
 use Rattle.steal_workers.proofs.seating.clear.Goals as goal
 

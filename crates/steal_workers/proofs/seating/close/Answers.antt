@@ -1,4 +1,4 @@
-use Rattle.std.proofs.Common.{rules, arith, ◌≡◌, ◌<◌, ◌≤◌, ◌+◌, ℕ, [], length, get_or, vec_capacity, sym, refl, ap, ◌∙◌, subst}
+use Rattle.std.proofs.Common.{arith, ◌≡◌, ◌<◌, ◌≤◌, ◌+◌, ℕ, [], length, get_or, vec_capacity, sym, ap, subst}
 use Rattle.std.specs.Global.{Global, Vec}
 use Rattle.crossbeam_deque.specs.Handles.{Pass}
 use Rattle.steal_workers.specs.declared.tallies.Tally.{Tally}

@@ -1,9 +1,8 @@
-use Rattle.std.proofs.Common.{rules, arith, ◌≡◌, ◌<◌, ◌≤◌, ℕ, List, length, get_or, IfSome, None, Some, vec_capacity, refl, sym, ap, ◌∙◌, subst}
+use Rattle.std.proofs.Common.{rules, arith, ◌≡◌, ◌<◌, ◌≤◌, ℕ, List, length, get_or, IfSome, vec_capacity, refl, sym, ap, ◌∙◌, subst}
 use Rattle.std.specs.Global.{Vec, Global}
 use Rattle.crossbeam_deque.specs.Handles.{Pass, worker_deque}
 use Rattle.steal_workers.specs.declared.tallies.Tally.{Tally}
 use Rattle.steal_workers.specs.declared.places.Place.{Place}
-use Rattle.steal_workers.specs.declared.places.Thief.{Thief}
 use Rattle.steal_workers.specs.Places.{Paired, IsPassAt, parts_of}
 use Rattle.steal_workers.proofs.Changing.{any_of}
 use Rattle.steal_workers.proofs.Seated.{rose}

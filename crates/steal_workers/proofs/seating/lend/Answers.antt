@@ -1,4 +1,4 @@
-use Rattle.std.proofs.Common.{rules, arith, ◌≡◌, ◌<◌, ◌+◌, ℕ, length, set, get_or, sym, refl, ap, ◌∙◌, subst}
+use Rattle.std.proofs.Common.{rules, arith, ◌<◌, ℕ, length, set, get_or, sym, refl, ap, ◌∙◌, subst}
 use Rattle.steal_workers.specs.declared.places.Place.{Place}
 use Rattle.steal_workers.specs.Places.{IsPassAt, Lends, parts_of}
 use Rattle.steal_workers.proofs.Changing.{up_none, up_here, up_more, up_all, both_more}

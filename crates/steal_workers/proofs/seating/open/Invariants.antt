@@ -1,4 +1,4 @@
-use Rattle.std.proofs.Common.{◌≡◌, ◌≤◌, ℕ, length, vec_capacity}
+use Rattle.std.proofs.Common.{◌≤◌, ℕ, length, vec_capacity}
 use Rattle.std.specs.Global.{Global, Vec}
 use Rattle.crossbeam_deque.specs.Handles.{Pass}
 use Rattle.steal_workers.specs.declared.tallies.Tally.{Tally}

@@ -1,11 +1,11 @@
-use Rattle.std.proofs.Common.{rules, arith, ◌≡◌, ◌<◌, ◌+◌, ℕ, List, [], length, get_or, None, Some, sym, refl, ap, ◌∙◌, subst}
+use Rattle.std.proofs.Common.{rules, arith, ◌≡◌, ◌<◌, ℕ, List, length, get_or, None, Some, sym, refl, ap, ◌∙◌, subst}
 use Rattle.std.specs.Global.{Global, Vec}
 use Rattle.crossbeam_deque.specs.Handles.{Pass}
 use Rattle.activation.specs.declared.takens.Seat.{Seat}
 use Rattle.steal_workers.specs.declared.tallies.Tally.{Tally}
 use Rattle.steal_workers.specs.declared.places.Place.{Place}
 use Rattle.steal_workers.specs.Places.{thief_of}
-use Rattle.steal_workers.proofs.Changing.{up_none, up_here, up_more, up_all}
+use Rattle.steal_workers.proofs.Changing.{up_none, up_here, up_more}
 use Rattle.steal_workers.proofs.Seated.{thieves_more}
 use Rattle.steal_workers.proofs.seating.rise.Goals as goal
 

@@ -1,4 +1,4 @@
-use Rattle.std.proofs.Common.{◌≡◌, ◌≤◌, ℕ, length, take, vec_capacity}
+use Rattle.std.proofs.Common.{◌≡◌, ◌≤◌, length, take, vec_capacity}
 use Rattle.steal_workers.specs.Places.{TakesBack}
 use Rattle.steal_workers.proofs.Changing.{ChangedFrom}
 use Rattle.steal_workers.proofs.seating.take_back.Given as goal

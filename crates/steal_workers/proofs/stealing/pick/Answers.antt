@@ -1,4 +1,4 @@
-use Rattle.std.proofs.Common.{◌≡◌, ℕ, sym, refl, ap, ◌∙◌, subst}
+use Rattle.std.proofs.Common.{ℕ, sym, refl, ap, subst}
 use Rattle.cycle_workers.specs.Runs.{HaveRoom}
 use Rattle.steal_workers.specs.Steals.{IsOffered, LeavesAbove}
 use Rattle.steal_workers.proofs.Offered.{picked_none, picked_some}

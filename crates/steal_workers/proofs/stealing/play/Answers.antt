@@ -1,4 +1,4 @@
-use Rattle.std.proofs.Common.{rules, arith, ◌≡◌, ◌<◌, ◌+◌, ◌⊎◌, ℕ, false, List, ◌∷◌, length, get_or, sym, ap, ◌∙◌, subst, refl, inl, inr, ⊎_elim}
+use Rattle.std.proofs.Common.{arith, ◌≡◌, ◌<◌, ◌+◌, ℕ, false, List, ◌∷◌, length, get_or, sym, ap, ◌∙◌, subst, refl, inl, inr, ⊎_elim}
 use Rattle.jack_types.specs.declared.ports.Link.{Link}
 use Rattle.session_model.specs.Activation.{no_link, link_at, outgoing}
 use Rattle.activation.specs.declared.takens.Seat.{Seat}

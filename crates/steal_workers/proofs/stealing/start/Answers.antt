@@ -1,4 +1,4 @@
-use Rattle.std.proofs.Common.{rules, arith, ◌≡◌, ◌≢◌, ◌<◌, ◌+◌, ◌%◌, ◌⊎◌, ℕ, ◌∷◌, sym, refl, ap, ◌∙◌, subst, inl, inr, ⊎_elim}
+use Rattle.std.proofs.Common.{arith, ◌≡◌, ◌≢◌, ◌<◌, ◌+◌, ◌%◌, ◌⊎◌, ℕ, ◌∷◌, sym, refl, ap, ◌∙◌, subst, inl, inr, ⊎_elim}
 use Rattle.activation.specs.declared.takens.Seat.{Seat}
 use Rattle.activation.specs.Rule.{has}
 use Rattle.activation.specs.Plays.{without}

@@ -1,4 +1,4 @@
-use Rattle.std.proofs.Common.{subst, sym, ◌≡◌, ℕ, [], ◌<◌}
+use Rattle.std.proofs.Common.{subst, sym, ℕ, []}
 use Rattle.crossbeam_deque.specs.Tasks.{Forks}
 use Rattle.crossbeam_deque.specs.Handles.{worker_view}
 use Rattle.steal_workers.specs.Tallies.{IsDeque, tally, without_part}

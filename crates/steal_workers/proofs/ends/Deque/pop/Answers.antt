@@ -1,4 +1,4 @@
-use Rattle.std.proofs.Common.{subst, sym, ◌≡◌, ◌<◌, ℕ, List, length}
+use Rattle.std.proofs.Common.{subst, sym, ◌≡◌, ◌<◌, ℕ, length}
 use Rattle.crossbeam_deque.specs.Tasks.{Takes, Finds}
 use Rattle.crossbeam_deque.specs.Handles.{worker_view}
 use Rattle.steal_workers.specs.Tallies.{IsDeque, with_taken, HasAll, IsEven}

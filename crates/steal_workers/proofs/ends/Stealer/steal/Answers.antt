@@ -1,4 +1,4 @@
-use Rattle.std.proofs.Common.{arith, subst, sym, ◌≡◌, ℕ, [], ◌<◌}
+use Rattle.std.proofs.Common.{arith}
 use Rattle.crossbeam_deque.specs.Handles.{view}
 use Rattle.steal_workers.proofs.Tallied.{takes}
 use Rattle.steal_workers.proofs.ends.Stealer.steal.Goals as goal

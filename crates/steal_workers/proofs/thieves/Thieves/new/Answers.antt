@@ -6,7 +6,8 @@ use Rattle.steal_workers.specs.declared.ends.Stealer.{Stealer}
 use Rattle.steal_workers.specs.declared.places.Place.{Place}
 use Rattle.steal_workers.specs.Tallies.{tally, every_part}
 use Rattle.steal_workers.specs.Deques.{tally_of, LeadsTo}
-use Rattle.steal_workers.proofs.Changing.{all_pushed, both_pushed}
+use Rattle.steal_workers.specs.Thefts.{IsEmpty}
+use Rattle.steal_workers.proofs.Changing.{all_map, all_pushed, both_pushed}
 use Rattle.steal_workers.proofs.Tallied.{holds_none}
 use Rattle.steal_workers.proofs.thieves.Thieves.new.Goals as goal
 
@@ -30,7 +31,6 @@ loop-preserved g c =
     }
 
 pub returns-clause-empty : goal.returns-clause-empty
-returns-clause-empty g c = λ k d low.
-    let A : Type 0 = Place g.row.B.Denot g.row.B-Value.Denot g.row.B-Memory.Denot in
+returns-clause-empty g c = all_map (λ place. tally_of place.deque) IsEmpty c.loop.places.items (λ k d low.
     let is = (c.loop.invariant.at_rest k d low).0 in
-    holds_none (tally_of (get_or c.loop.places.items k d).deque) (ap (λ v. v.parts) is) (λ weight. ap (λ (v : Tally). Rattle.std.proofs.Common.sum_by weight v.taken) is ∙ sym (ap (λ (v : Tally). Rattle.std.proofs.Common.sum_by weight v.pushed) is))
+    holds_none (tally_of (get_or c.loop.places.items k d).deque) (ap (λ v. v.parts) is) (λ weight. ap (λ (v : Tally). Rattle.std.proofs.Common.sum_by weight v.taken) is ∙ sym (ap (λ (v : Tally). Rattle.std.proofs.Common.sum_by weight v.pushed) is)))

@@ -1,4 +1,4 @@
-use Rattle.std.proofs.Common.{◌≡◌, ◌<◌, ◌≤◌, ℕ, [], None, length, get_or, All, vec_capacity, vec_len}
+use Rattle.std.proofs.Common.{◌≡◌, ◌<◌, ◌≤◌, ℕ, [], None, get_or, All, vec_capacity, vec_len}
 use Rattle.steal_workers.specs.declared.ends.Stealer.{Stealer}
 use Rattle.steal_workers.specs.declared.places.Place.{Place}
 use Rattle.steal_workers.specs.Tallies.{tally, every_part}
