@@ -4,7 +4,7 @@ ghost use Rattle.session_model.specs.Activation.{AreLinks, sequential};
 ghost use Rattle.activation.specs.Rounds.{AreReturned};
 ghost use Rattle.client_benches.specs.Seen.{has_room_at, kept_after, kept_gives};
 ghost use Rattle.cycle_workers.specs.Runs.{HaveRoom};
-ghost use Rattle.bench_crew.specs.Ensembles.{bench_of};
+ghost use Rattle.bench_crew.specs.Ensembles.{HaveDeques, bench_of};
 ghost use Rattle.bench_crew.specs.Meanings.{ensembled_of, seats_of, IsReady, IsReadyTeam};
 
 use crate::alone::play_in_order;
@@ -19,6 +19,7 @@ use jack_types::{Kind, Link, Memory};
 use std::alloc::Global;
 use std::marker::Model;
 use std::thread::Threads;
+use steal_workers::Thieves;
 
 /// What plays a cycle: this thread by itself, in the order of the nodes, or where there are several seats a team.
 #[derive(Drop)]
@@ -31,11 +32,12 @@ struct Means<G: Guest> {
 /// A crew with its seats, and what a cycle needs to be played by it.
 ///
 /// A crew is made over benches of nobody, which stand in for the session's benches between two cycles and
-/// are never played.
+/// are never played. Where its seats take each other's nodes it has thieves.
 #[derive(Drop)]
 struct Team<G: Guest> {
     crew: Crew<ClientBench<G>>,
     seats: Vec<Seat<ClientBench<G>>>,
+    thieves: Option<Thieves<ClientBench<G>>>,
     worth: Worth,
 }
 
@@ -71,16 +73,40 @@ fn stand_ins<G: Guest>(alloc: Global, nodes: u32) -> Result<Vec<ClientBench<G>>,
     Ok(benches)
 }
 
+/// Thieves for so many seats, where these steal.
+fn thieves_of<G: Guest>(
+    alloc: Global,
+    seats: u32,
+    steals: bool,
+) -> Result<Option<Thieves<ClientBench<G>>>, Memory>
+    requires { seats ≤ 16 }
+    ensures { IfOk result (HaveDeques seats) }
+{
+    if !steals {
+        return Ok(None);
+    }
+    match Thieves::new(alloc, seats) {
+        Ok(thieves) => Ok(Some(thieves)),
+        Err(_) => Err(Memory),
+    }
+}
+
 /// A crew, over benches of nobody.
-fn team_of<G: Guest>(alloc: Global, nodes: u32, seats: u32) -> Result<Team<G>, Memory>
+fn team_of<G: Guest>(alloc: Global, nodes: u32, seats: u32, steals: bool) -> Result<Team<G>, Memory>
     requires nodes { nodes ≤ 64 }
     requires seats { (0 < seats) × (seats ≤ 16) }
     ensures { IfOk result (λ team. (team.crew.nodes ≡ nodes) × (team.crew.seats ≡ seats) × IsReadyTeam team) }
 {
-    let worth = Worth::of(seats);
+    let worth = Worth::of(seats, steals);
+    let thieves = thieves_of(alloc, seats, steals)?;
     let benches = stand_ins(alloc, nodes)?;
     match Crew::new(alloc, &[], benches, seats) {
-        Ok((crew, seats)) => Ok(Team { crew, seats, worth }),
+        Ok((crew, seats)) => Ok(Team {
+            crew,
+            seats,
+            thieves,
+            worth,
+        }),
         Err(_) => Err(Memory),
     }
 }
@@ -90,6 +116,7 @@ fn team_if_several<G: Guest>(
     alloc: Global,
     nodes: u32,
     seats: u32,
+    steals: bool,
 ) -> Result<Option<Team<G>>, Memory>
     requires nodes { nodes ≤ 64 }
     requires seats { (0 < seats) × (seats ≤ 16) }
@@ -98,11 +125,16 @@ fn team_if_several<G: Guest>(
     if seats == 1 {
         return Ok(None);
     }
-    Ok(Some(team_of(alloc, nodes, seats)?))
+    Ok(Some(team_of(alloc, nodes, seats, steals)?))
 }
 
 /// The room of a thread that plays by itself, and with several seats a team.
-fn means_of<G: Guest>(alloc: Global, nodes: u32, seats: u32) -> Result<Means<G>, Memory>
+fn means_of<G: Guest>(
+    alloc: Global,
+    nodes: u32,
+    seats: u32,
+    steals: bool,
+) -> Result<Means<G>, Memory>
     requires nodes { nodes ≤ 64 }
     requires seats { (0 < seats) × (seats ≤ 16) }
     ensures { IfOk result (λ means. (ensembled_of means ≡ record { nodes = nodes; seats = seats }) × IsReady means) }
@@ -113,7 +145,7 @@ fn means_of<G: Guest>(alloc: Global, nodes: u32, seats: u32) -> Result<Means<G>,
     let Ok(given) = Vec::with_capacity(alloc, 512) else {
         return Err(Memory);
     };
-    let team = team_if_several(alloc, nodes, seats)?;
+    let team = team_if_several(alloc, nodes, seats, steals)?;
     Ok(Means {
         sources,
         given,
@@ -122,15 +154,15 @@ fn means_of<G: Guest>(alloc: Global, nodes: u32, seats: u32) -> Result<Means<G>,
 }
 
 impl<G: Guest> Ensemble<G> {
-    /// A crew of so many nodes and seats, over benches of nobody.
+    /// A crew of so many nodes and seats, over benches of nobody. Where they steal, seats take each other's nodes.
     ///
     /// Want of memory is the only refusal.
-    pub fn new(alloc: Global, nodes: u32, seats: u32) -> Result<Ensemble<G>, Memory>
+    pub fn new(alloc: Global, nodes: u32, seats: u32, steals: bool) -> Result<Ensemble<G>, Memory>
         requires nodes { nodes ≤ 64 }
         requires seats { (0 < seats) × (seats ≤ 16) }
         ensures { IfOk result (λ made. (made.nodes ≡ nodes) × (made.seats ≡ seats)) }
     {
-        let means = means_of(alloc, nodes, seats)?;
+        let means = means_of(alloc, nodes, seats, steals)?;
         Ok(Ensemble { means })
     }
 
@@ -164,7 +196,8 @@ fn play_by<G: Guest + Send, K: Gate, T: Threads + Sync>(
             threads,
             gate,
             &mut team.crew,
-            team.seats.as_mut_slice(),
+            &mut team.seats,
+            &mut team.thieves,
             links,
             benches,
         ),
@@ -176,7 +209,8 @@ impl<G: Guest + Send> Ensemble<G> {
     /// Plays a bench a node, over these links: each on what the benches of its incoming links handed it.
     ///
     /// Where the cycle's load is worth the start of threads, the seats are shared among as many; else this thread
-    /// plays all, as with one seat. What is played is the same. It takes no memory.
+    /// plays all, as with one seat. What is played is the same. It takes no memory, but that seats that steal may
+    /// take some for their deques, and do without where that is refused.
     pub fn play<K: Gate, T: Threads + Sync>(
         &mut self,
         threads: &T,

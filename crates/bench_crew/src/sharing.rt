@@ -21,17 +21,19 @@ pub struct Load {
 #[derive(Clone, Copy)]
 pub(crate) struct Worth {
     seats: u32,
+    steals: bool,
     least_work: u64,
     ghost some: { 0 < seats },
 }
 
 impl Worth {
-    /// With so many seats.
-    pub(crate) fn of(seats: u32) -> Worth
+    /// With so many seats, which take each other's nodes where they steal.
+    pub(crate) fn of(seats: u32, steals: bool) -> Worth
         requires { (0 < seats) × (seats ≤ 16) }
     {
         Worth {
             seats,
+            steals,
             least_work: LEAST_WORK + LEAST_SHARE * u64::from(seats),
         }
     }
@@ -39,9 +41,9 @@ impl Worth {
     /// Whether there is enough work, and more than one seat that can begin with it.
     ///
     /// A client is played by the seat that releases the last of its incoming links. So where the clients without
-    /// one are all of one seat's share, that seat plays everything.
+    /// one are all of one seat's share, that seat plays everything, unless the others steal.
     pub(crate) fn is_met(&self, sources: &Sources, load: Load) -> bool {
-        self.least_work <= load.work && self.begins_apart(sources, load.clients)
+        self.least_work <= load.work && (self.steals || self.begins_apart(sources, load.clients))
     }
 
     fn begins_apart(&self, sources: &Sources, clients: u32) -> bool {

@@ -97,13 +97,15 @@ fn wire(alloc: Global, plan: &Plan) -> Result<Wiring, Memory>
 
 impl<G: Guest> Stage<G> {
     /// A stage for clients of these kinds, each bench for one of them, and for cycles of at most so many frames. Nobody plays
-    /// yet: `opening` is a plan without changes. The crew has so many seats.
+    /// yet: `opening` is a plan without changes. The crew has so many seats, which take each other's clients where they
+    /// steal.
     pub fn new(
         alloc: Global,
         kinds: &[Kind],
         guests: Vec<G>,
         period: u32,
         seats: u32,
+        steals: bool,
         opening: &Plan,
     ) -> Result<Stage<G>, Memory>
         requires kinds { All IsPlayable kinds.now }
@@ -123,7 +125,7 @@ impl<G: Guest> Stage<G> {
         let wiring = wire(alloc, opening)?;
         let earlier = Wiring::new(alloc)?;
         let last = no_places(alloc)?;
-        let ensemble = Ensemble::new(alloc, crew as u32, seats)?;
+        let ensemble = Ensemble::new(alloc, crew as u32, seats, steals)?;
         let silence = silent(alloc, period)?;
         let parts = Parts {
             rack,

@@ -131,49 +131,63 @@ fn ends(sample: i32) -> (Option<i32>, Option<i32>) {
     (Some(sample), Some(sample.wrapping_neg()))
 }
 
-// Two cycles of such loads, which other seats than the first share or not: the wave goes to nodes 1 and 2, and then,
-// over another plan, to nodes 2 and 3.
+// Two cycles of such loads: the wave goes to nodes 1 and 2, and then, over another plan, to nodes 2 and 3. Whether each
+// was shared by other seats than the first.
 fn plays_two_plans<R: Threads + Sync + AllocGlobal + Abort>(
     rt: &R,
+    steals: bool,
     loads: [Load; 2],
-    are_shared: [bool; 2],
-) -> Result<(), Fail> {
+) -> Result<[bool; 2], Fail> {
     let alloc = rt.alloc();
     let mut benches = Vec::with_capacity(alloc, 4)?;
     benches.push_reserved(wave(alloc)?);
     benches.push_reserved(times(alloc, 2)?);
     benches.push_reserved(times(alloc, 3)?);
     benches.push_reserved(times(alloc, 4)?);
-    let mut ensemble = Ensemble::new(alloc, 4, 4)?;
-    let shared = play(rt, &mut ensemble, benches.as_mut_slice(), 1, 2, loads[0]);
-    assert_eq!(rt; shared, are_shared[0]);
+    let mut ensemble = Ensemble::new(alloc, 4, 4, steals)?;
+    let first = play(rt, &mut ensemble, benches.as_mut_slice(), 1, 2, loads[0]);
     assert_eq!(rt;
         given(&benches),
         [ends(1000), ends(2000), ends(3000), ends(0)]
     );
-    let shared = play(rt, &mut ensemble, benches.as_mut_slice(), 2, 3, loads[1]);
-    assert_eq!(rt; shared, are_shared[1]);
+    let second = play(rt, &mut ensemble, benches.as_mut_slice(), 2, 3, loads[1]);
     assert_eq!(rt;
         given(&benches),
         [ends(1000), ends(0), ends(3000), ends(4000)]
     );
-    Ok(())
+    Ok([first, second])
 }
 
 #[test]
 fn four_seats_play_two_plans(rt: HostRuntime) -> Result<(), Fail> {
-    plays_two_plans(&rt, [HEAVY, HEAVY], [true, true])
+    let shared = plays_two_plans(&rt, false, [HEAVY, HEAVY])?;
+    assert_eq!(rt; shared, [true, true]);
+    Ok(())
+}
+
+// Which of them plays a client is not known.
+#[test]
+fn four_seats_that_steal_play_two_plans(rt: HostRuntime) -> Result<(), Fail> {
+    plays_two_plans(&rt, true, [HEAVY, HEAVY])?;
+    Ok(())
 }
 
 #[test]
 fn light_cycles_are_played_by_one_seat(rt: HostRuntime) -> Result<(), Fail> {
-    plays_two_plans(&rt, [LIGHT, LIGHT], [false, false])
+    let shared = plays_two_plans(&rt, false, [LIGHT, LIGHT])?;
+    assert_eq!(rt; shared, [false, false]);
+    let shared = plays_two_plans(&rt, true, [LIGHT, LIGHT])?;
+    assert_eq!(rt; shared, [false, false]);
+    Ok(())
 }
 
 #[test]
 fn light_and_heavy_cycles_follow_each_other(rt: HostRuntime) -> Result<(), Fail> {
-    plays_two_plans(&rt, [HEAVY, LIGHT], [true, false])?;
-    plays_two_plans(&rt, [LIGHT, HEAVY], [false, true])
+    let shared = plays_two_plans(&rt, false, [HEAVY, LIGHT])?;
+    assert_eq!(rt; shared, [true, false]);
+    let shared = plays_two_plans(&rt, false, [LIGHT, HEAVY])?;
+    assert_eq!(rt; shared, [false, true]);
+    Ok(())
 }
 
 // Without node 3 all that waits for nothing is node 0, whose seat would play nodes 1 and 2 as well.
@@ -183,5 +197,7 @@ fn what_one_seat_begins_it_plays_alone(rt: HostRuntime) -> Result<(), Fail> {
         clients: 3,
         work: u64::MAX,
     };
-    plays_two_plans(&rt, [begun_by_one, HEAVY], [false, true])
+    let shared = plays_two_plans(&rt, false, [begun_by_one, HEAVY])?;
+    assert_eq!(rt; shared, [false, true]);
+    Ok(())
 }

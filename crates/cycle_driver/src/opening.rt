@@ -87,7 +87,16 @@ impl<S: Source, W: Store, G: Guest> Driver<S, W, G> {
         ensures rings { IfOk result (λ driver. AreNew script.now.header.recorders script.now.header.ring (greatest_period script.now) (length (turns script.now) * length script.now.header.recorders) driver.rings) }
         ensures back { IfErr result (λ refused. refused.0 ≡ capture) }
     {
-        match Works::new(alloc, script, reader, capture, guests, seats(script)) {
+        let steals = script.header().steal;
+        match Works::new(
+            alloc,
+            script,
+            reader,
+            capture,
+            guests,
+            seats(script),
+            steals,
+        ) {
             Ok(works) => match make_mix(alloc, script) {
                 Ok(mix) => Ok(around(script, works, mix)),
                 Err(memory) => Err((works.into_capture(), memory)),

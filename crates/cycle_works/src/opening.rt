@@ -90,6 +90,7 @@ fn make_stage<G: Guest>(
     script: &Script,
     guests: Vec<G>,
     seats: u32,
+    steals: bool,
 ) -> Result<Stage<G>, Memory>
     requires served { IsServed script.now }
     requires seats { (0 < seats) × (seats ≤ 16) }
@@ -104,6 +105,7 @@ fn make_stage<G: Guest>(
         guests,
         greatest_period(script),
         seats,
+        steals,
         &opening,
     )
 }
@@ -150,12 +152,13 @@ fn make<G: Guest>(
     script: &Script,
     guests: Vec<G>,
     seats: u32,
+    steals: bool,
 ) -> Result<Made<G>, Memory>
     requires served { IsServed script.now }
     requires seats { (0 < seats) × (seats ≤ 16) }
     ensures { IfOk result (IsMade script.now (map G.score guests.items)) }
 {
-    let stage = make_stage(alloc, script, guests, seats)?;
+    let stage = make_stage(alloc, script, guests, seats, steals)?;
     let outfit = make_outfit(alloc, script)?;
     Ok(Made { stage, outfit })
 }
@@ -240,9 +243,9 @@ impl<S: Source, G: Guest> Works<S, G> {
     ghost use Rattle.task_laws.specs.Calls.{guests_needed};
     ghost use Rattle.cycle_laws.specs.Gears.{IsServed, driver_of};
 
-    /// The works of a script's cycles, with these guests and so many seats for those who play, over a capture of the script's
-    /// channels of which nothing was read. No cycle was begun by the reader yet. All memory is taken here; where it lacks,
-    /// the capture comes back.
+    /// The works of a script's cycles, with these guests and so many seats for those who play, which take each other's clients
+    /// where they steal, over a capture of the script's channels of which nothing was read. No cycle was begun by the reader
+    /// yet. All memory is taken here; where it lacks, the capture comes back.
     pub fn new(
         alloc: Global,
         script: &Script,
@@ -250,6 +253,7 @@ impl<S: Source, G: Guest> Works<S, G> {
         capture: Wave<S>,
         guests: Vec<G>,
         seats: u32,
+        steals: bool,
     ) -> Result<Works<S, G>, (Wave<S>, Memory)>
         requires served { IsServed script.now }
         requires rows { reader.0.rows ≡ [] }
@@ -262,7 +266,7 @@ impl<S: Source, G: Guest> Works<S, G> {
         ensures rings { IfOk result (λ works. AreNew script.now.header.recorders script.now.header.ring (greatest_period script.now) (length (turns script.now) * length script.now.header.recorders) works.rings) }
         ensures back { IfErr result (λ refused. refused.0 ≡ capture) }
     {
-        match make(alloc, script, guests, seats) {
+        match make(alloc, script, guests, seats, steals) {
             Ok(made) => over(alloc, script, reader, capture, made),
             Err(memory) => Err((capture, memory)),
         }
