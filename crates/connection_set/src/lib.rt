@@ -5,7 +5,5 @@
 #![tactic(auto)]
 
 pub mod connections;
-#[cfg(test)]
-mod tests;
 
 pub use connections::Connections;

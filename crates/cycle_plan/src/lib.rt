@@ -14,8 +14,6 @@ pub mod plan;
 mod replaying;
 mod rewiring;
 mod roomy;
-#[cfg(test)]
-mod tests;
 mod wires;
 
 pub use graph::Graph;

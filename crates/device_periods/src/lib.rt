@@ -3,8 +3,6 @@
 
 mod blocks;
 mod captures;
-#[cfg(test)]
-mod tests;
 
 pub use blocks::{lay_channel, lay_two, take_channel};
 pub use captures::{Capture, read_block};

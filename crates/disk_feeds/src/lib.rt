@@ -10,8 +10,6 @@ mod finding;
 mod getting;
 mod laws;
 mod making;
-#[cfg(test)]
-mod tests;
 
 pub use feeds::DiskFeeds;
 pub use laws::{

@@ -3,8 +3,6 @@
 
 mod laws;
 mod player;
-#[cfg(test)]
-mod tests;
 
 pub use laws::{
     a_broken_turn_has_put_blocks_of_its_file, a_player_has_put_blocks_of_its_file,

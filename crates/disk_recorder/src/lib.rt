@@ -2,8 +2,6 @@
 #![tactic(auto)]
 
 mod passing;
-#[cfg(test)]
-mod tests;
 mod writing;
 
 pub use writing::{drain, finish, serve};

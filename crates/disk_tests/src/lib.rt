@@ -4,6 +4,12 @@
 #[cfg(test)]
 mod deck;
 #[cfg(test)]
+mod feeds;
+#[cfg(test)]
 mod files;
+#[cfg(test)]
+mod players;
+#[cfg(test)]
+mod readers;
 #[cfg(test)]
 mod tests;

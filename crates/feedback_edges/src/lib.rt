@@ -4,8 +4,6 @@
 pub mod marking;
 pub mod numbers;
 pub mod searching;
-#[cfg(test)]
-mod tests;
 
 pub use marking::{leads, mark, remark};
 pub use numbers::{MOST_NODES, MOST_PORTS, node_table, number_of};

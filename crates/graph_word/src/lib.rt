@@ -6,8 +6,6 @@ mod plans;
 mod publisher;
 mod reader;
 mod steps;
-#[cfg(test)]
-mod tests;
 mod view;
 
 pub use ends::{meet, publication};

@@ -7,10 +7,6 @@ mod fail;
 mod fir;
 mod hearing;
 mod hold;
-#[cfg(test)]
-mod kinds;
-#[cfg(test)]
-mod tests;
 
 pub use any::AnyGuest;
 pub use echo::EchoGuest;

@@ -13,8 +13,6 @@ mod memory_source;
 mod memory_store;
 mod refusals;
 mod rooms;
-#[cfg(test)]
-mod tests;
 mod traits;
 mod writer_sink;
 

@@ -6,8 +6,6 @@ pub mod laws;
 mod numbers;
 mod pairs;
 mod reading;
-#[cfg(test)]
-mod tests;
 mod words;
 
 pub use numbers::rehearsal_number;

@@ -3,7 +3,5 @@
 
 mod fours;
 mod mixing;
-#[cfg(test)]
-mod tests;
 
 pub use mixing::{Mixer, see_samples};

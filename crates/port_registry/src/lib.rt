@@ -7,8 +7,6 @@ mod opening;
 mod ports;
 mod registries;
 mod tables;
-#[cfg(test)]
-mod tests;
 
 pub use births::ports_stand_in_order_of_birth;
 pub use registries::Registry;

@@ -6,8 +6,6 @@ mod consumer;
 mod ends;
 mod producer;
 mod steps;
-#[cfg(test)]
-mod tests;
 mod view;
 
 pub use block::{Block, Content, Samples};

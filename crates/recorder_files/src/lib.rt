@@ -2,7 +2,5 @@
 #![tactic(auto)]
 
 mod recorder;
-#[cfg(test)]
-mod tests;
 
 pub use recorder::Recorder;

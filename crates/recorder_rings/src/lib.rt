@@ -8,8 +8,6 @@ mod blocks;
 mod making;
 mod putting;
 mod rings;
-#[cfg(test)]
-mod tests;
 
 pub use rings::RecorderRings;
 

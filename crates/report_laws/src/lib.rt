@@ -3,8 +3,6 @@
 
 pub mod laws;
 mod places;
-#[cfg(test)]
-mod tests;
 mod walking;
 
 pub use places::{Limits, Place};

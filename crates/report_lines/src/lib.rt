@@ -8,8 +8,6 @@ mod calls;
 mod cycles;
 mod lines;
 mod recorders;
-#[cfg(test)]
-mod tests;
 mod values;
 
 pub use calls::put_calls;

@@ -1,8 +1,18 @@
-//! Tests of what reads a report and checks its calls, on reports with one fault.
+//! Tests of what writes and reads a report and checks its calls.
 #![tactic(auto)]
 
 #[cfg(test)]
+mod checks;
+#[cfg(test)]
 mod edits;
+#[cfg(test)]
+mod graphs;
+#[cfg(test)]
+mod lines;
+#[cfg(test)]
+mod places;
+#[cfg(test)]
+mod reading;
 #[cfg(test)]
 mod rows;
 #[cfg(test)]

@@ -5,8 +5,6 @@ mod bytes;
 mod hexed;
 mod lines;
 mod numbers;
-#[cfg(test)]
-mod tests;
 mod words;
 
 pub use lines::{Line, Lines};

@@ -9,8 +9,6 @@ mod kinds;
 mod reading;
 mod replaying;
 mod reports;
-#[cfg(test)]
-mod tests;
 mod texts;
 mod top;
 mod words;

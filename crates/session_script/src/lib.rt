@@ -4,7 +4,5 @@
 mod lists;
 mod reading;
 mod script;
-#[cfg(test)]
-mod tests;
 
 pub use script::{Script, Text};

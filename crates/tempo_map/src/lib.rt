@@ -2,7 +2,5 @@
 #![tactic(auto)]
 
 mod tempos;
-#[cfg(test)]
-mod tests;
 
 pub use tempos::Tempo;

@@ -3,7 +3,5 @@
 
 mod asking;
 mod stepping;
-#[cfg(test)]
-mod tests;
 
 pub use stepping::Transport;

@@ -5,8 +5,6 @@ mod chunks;
 mod formats;
 mod input;
 mod pairs;
-#[cfg(test)]
-mod tests;
 mod wave;
 
 pub use wave::Wave;

@@ -4,7 +4,5 @@
 mod finishing;
 mod header;
 mod tape;
-#[cfg(test)]
-mod tests;
 
 pub use tape::WaveOut;

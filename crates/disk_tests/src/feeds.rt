@@ -1,0 +1,16 @@
+use disk_feeds::DiskFeeds;
+use std::test::Fail;
+
+#[test]
+fn an_end_is_handed_out_once(rt: HostRuntime) -> Result<(), Fail> {
+    let Ok(mut feeds) = DiskFeeds::new(rt.alloc(), &[2, 1], 2, 4, 8) else {
+        return Err(Fail::from("no room"));
+    };
+    assert_eq!(rt; feeds.len(), 2);
+    assert_eq!(rt; feeds.channels(0), 2);
+    assert!(rt; feeds.block(0).is_none());
+    assert!(rt; feeds.block(2).is_none());
+    assert!(rt; feeds.producer(1).is_some());
+    assert!(rt; feeds.producer(1).is_none());
+    Ok(())
+}
