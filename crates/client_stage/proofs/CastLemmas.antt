@@ -28,7 +28,7 @@ use Rattle.bench_rack.specs.Racks.{Racked, bench_at}
 use Rattle.driver_laws.specs.Drivers.{Remembered}
 use Rattle.client_seats.specs.Owners.{Owned, owner_at}
 use Rattle.client_seats.specs.Moves.{LostGuest, kinds_of}
-use Rattle.owner_laws.specs.Known.{SeatsPlan}
+use Rattle.stage_laws.specs.Known.{SeatsPlan}
 use Rattle.client_seats.specs.Seatings.{AreApart, HasBench, HasNoPast, HavePeriod, IsNobodys, IsSeating, kind_at, memory_of, standing_at}
 use Rattle.client_seats.proofs.MemoryLemmas.{found_past, memory-owned, owned_or_not}
 use Rattle.client_seats.proofs.PlayLemmas.{IsSeating-played}

@@ -19,7 +19,7 @@ use Rattle.client_wiring.specs.Wirings.{Wired, wired, wired_of}
 use Rattle.bench_rack.specs.Racks.{bench_at}
 use Rattle.client_tasks.specs.Fillings.{AreJoints}
 use Rattle.client_seats.specs.Seatings.{IsSeating}
-use Rattle.owner_laws.specs.Known.{AreKnown}
+use Rattle.stage_laws.specs.Known.{AreKnown}
 use Rattle.stage_laws.specs.Stages.{Staged}
 use Rattle.stage_laws.specs.Standing.{EnoughLinks, StandsOn}
 use Rattle.client_stage.proofs.CastLemmas.{first-unfed}

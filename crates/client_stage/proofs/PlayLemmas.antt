@@ -17,7 +17,7 @@ use Rattle.bench_rack.specs.Racks.{Racked, bench_at}
 use Rattle.client_tasks.specs.Fillings.{AreJoints, with_wires}
 use Rattle.client_tasks.specs.Tasks.{HasRooms, joint_at, wire_by, wires_of}
 use Rattle.client_seats.specs.Seatings.{HavePeriod, IsRefused, IsSeating, standing_at}
-use Rattle.owner_laws.specs.Known.{AreKnown}
+use Rattle.stage_laws.specs.Known.{AreKnown}
 use Rattle.stage_laws.specs.Casts.{ArePlaces, Casts, Fills, Performs}
 use Rattle.stage_laws.specs.Stages.{Staged}
 use Rattle.stage_laws.proofs.WholeLemmas.{idle-played, periods-played, seating-played, staffed-played, unfed-played}

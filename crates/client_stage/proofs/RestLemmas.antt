@@ -15,7 +15,7 @@ use Rattle.bench_rack.specs.Racks.{Racked, bench_at}
 use Rattle.client_seats.specs.Owners.{Owned}
 use Rattle.client_seats.specs.Seatings.{IsRefused, IsSeating, OtherKind, NoBench, NoGuest, GuestPlays, kind_at, memory_of, standing_at}
 use Rattle.client_seats.proofs.PlaceLemmas.{within_open}
-use Rattle.owner_laws.specs.Known.{AreKnown}
+use Rattle.stage_laws.specs.Known.{AreKnown}
 use Rattle.stage_laws.specs.Stages.{Staged}
 use Rattle.stage_laws.specs.Standing.{EnoughLinks, StandsBy}
 use Rattle.stage_laws.proofs.GoingLemmas.{memory-same}

@@ -11,7 +11,7 @@ use Rattle.client_wiring.specs.Wirings.{Wired, wired_of}
 use Rattle.bench_rack.specs.Racks.{Racked, bench_at}
 use Rattle.client_tasks.specs.Tasks.{AreSet, HasRooms}
 use Rattle.client_seats.specs.Moves.{kinds_of}
-use Rattle.owner_laws.specs.Known.{AreKnown}
+use Rattle.stage_laws.specs.Known.{AreKnown}
 use Rattle.stage_laws.specs.Casts.{ArePlaces, Casts, Fills, Performs}
 use Rattle.stage_laws.specs.Stages.{Staged}
 use Rattle.client_stage.specs.Insides.{staged_by}

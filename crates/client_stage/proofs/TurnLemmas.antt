@@ -24,7 +24,7 @@ use Rattle.client_tasks.specs.Tasks.{turn_of, widths_at}
 use Rattle.client_tasks.proofs.PlanLemmas.{few-inputs, few-links, few-nodes, few-outputs}
 use Rattle.client_seats.specs.Owners.{Owned}
 use Rattle.client_seats.specs.Seatings.{HasBench, HavePeriod, IsIdle, IsRefused, IsSeating, standing_at}
-use Rattle.owner_laws.specs.Known.{AreKnown}
+use Rattle.stage_laws.specs.Known.{AreKnown}
 use Rattle.stage_laws.specs.Casts.{Casts, GoesOnIn}
 use Rattle.stage_laws.specs.Stages.{Staged}
 use Rattle.stage_laws.proofs.GoingLemmas.{same-nodes, same-wiring}

@@ -9,7 +9,7 @@ ghost use Rattle.client_wiring.specs.Wirings.{wired_of};
 ghost use Rattle.bench_rack.specs.Racks.{bench_at};
 ghost use Rattle.client_seats.specs.Moves.{kinds_of};
 ghost use Rattle.client_seats.specs.Seatings.{HasNoPast, HavePeriod, IsIdle, IsRefused, IsSeating, memory_of, standing_at};
-ghost use Rattle.owner_laws.specs.Known.{SeatsPlan};
+ghost use Rattle.stage_laws.specs.Known.{SeatsPlan};
 ghost use Rattle.client_stage.specs.Casting.{HasCast};
 ghost use Rattle.client_stage.specs.Resting.{Recalls};
 

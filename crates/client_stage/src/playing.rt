@@ -8,7 +8,7 @@ use cycle_plan::Plan;
 use device_periods::Capture;
 use jack_host::{Gate, Source};
 use jack_types::Moment;
-use owner_laws::owning::{kinds_alone_count, owners_stay_known};
+use stage_laws::owning::{kinds_alone_count, owners_stay_known};
 use stage_laws::stages::{a_stage_plays_its_plan, a_stage_stands_behind_its_cycle};
 use std::thread::Threads;
 
@@ -24,7 +24,7 @@ impl<G: Guest + Send> Stage<G> {
     ghost use Rattle.cycle_plan.specs.Plans.{state_of_plan};
     ghost use Rattle.client_seats.specs.Moves.{kinds_of};
     ghost use Rattle.task_laws.specs.Calls.{IsOldKind};
-    ghost use Rattle.ready_laws.specs.Quiet.{HasNoEvents};
+    ghost use Rattle.stage_laws.specs.Quiet.{HasNoEvents};
     ghost use Rattle.stage_laws.specs.Plays.{IsSettledOn, PlaysPlan};
     ghost use Rattle.stage_laws.specs.Standing.{StandsOn};
     ghost use Rattle.client_stage.specs.Resting.{Rests};

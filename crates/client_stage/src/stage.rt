@@ -16,8 +16,8 @@ use client_seats::Owners;
 use client_wiring::Wiring;
 use cycle_plan::Plan;
 use jack_types::{Kind, Memory};
-use owner_laws::owning::nobody_is_known_at_first;
 use proof_notes::Log;
+use stage_laws::owning::nobody_is_known_at_first;
 use std::alloc::Global;
 use std::marker::Model;
 

@@ -1,1 +1,3 @@
 mod PlayedLemmas
+mod EndLemmas
+pub mod RunLemmas

@@ -1,3 +1,4 @@
 pub mod Gears
 pub mod Openings
 pub mod Insides
+pub mod Runs

@@ -1,12 +1,16 @@
-//! The driver of a session's cycles.
+//! The driver of a session's cycles, one by one or many by one call.
 #![tactic(auto)]
 
 mod cycling;
 mod driver;
+mod ending;
 mod ends;
 mod faults;
 mod opening;
+mod running;
 mod writing;
 
 pub use driver::Driver;
+pub use ending::end_rings;
 pub use faults::CycleFault;
+pub use running::run_cycles;

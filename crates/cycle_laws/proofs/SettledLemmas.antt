@@ -27,7 +27,7 @@ use Rattle.driver_laws.specs.Cycling.{MayCycle, StepsOnce}
 use Rattle.driver_laws.specs.Drivers.{Driver, bench_at, content_now, graph_now, graph_of, memory_in, run, turn_of}
 use Rattle.driver_laws.specs.Playing.{capture_now, fed_now, kept_now, moment_now, settled_last, settled_now}
 use Rattle.task_laws.specs.Calls.{IsOldKind}
-use Rattle.ready_laws.specs.Quiet.{HasNoEvents}
+use Rattle.stage_laws.specs.Quiet.{HasNoEvents}
 use Rattle.stage_laws.specs.Plays.{IsSettledOn}
 use Rattle.stage_laws.specs.Stages.{bench_of}
 use Rattle.cycle_laws.specs.Gears.{Gear, IsGear, IsInStep, driver_of}

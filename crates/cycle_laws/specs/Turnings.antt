@@ -18,7 +18,7 @@ use Rattle.device_periods.specs.Captures.{Reads}
 use Rattle.driver_laws.specs.Playing.{last_number}
 use Rattle.client_seats.specs.Moves.{kinds_of}
 use Rattle.task_laws.specs.Calls.{IsOldKind}
-use Rattle.ready_laws.specs.Quiet.{HasNoEvents}
+use Rattle.stage_laws.specs.Quiet.{HasNoEvents}
 use Rattle.stage_laws.specs.Plays.{IsSettledOn, PlaysPlan}
 use Rattle.stage_laws.specs.Standing.{StandsOn}
 use Rattle.cycle_blocks.specs.Blocks.{Sends}

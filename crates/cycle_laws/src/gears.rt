@@ -15,11 +15,11 @@ ghost use Rattle.cycle_laws.specs.Turnings.{Turns};
 
 use client_wiring::laws::the_device_has_its_ports;
 use driver_laws::cycling::content_is_of_calls;
-use owner_laws::owning::a_plan_of_a_scripts_calls_is_not_refused;
 use plan_transport::calls_have_targets;
 use playback_laws::mixes::the_mix_is_played;
 use playback_laws::periods::a_period_is_what_the_capture_has;
 use script_needs::limits::{cycles_are_few, periods_are_in_range, samples_are_few};
+use stage_laws::owning::a_plan_of_a_scripts_calls_is_not_refused;
 use task_laws::scripts::old_scripts_are_plain;
 
 /// Before a cycle the blocks may be put, and the numbers of the transport have room for one cycle more.

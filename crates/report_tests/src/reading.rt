@@ -1,6 +1,8 @@
 use jack_host::MemorySource;
 use jack_types::{Refusal, TransportState};
-use report_reader::{CallLine, Count, CycleLine, Line, Lines, Loss, Next, Place, ReplyLine, line_of};
+use report_reader::{
+    CallLine, Count, CycleLine, Line, Lines, Loss, Next, Place, ReplyLine, line_of,
+};
 use std::alloc::AllocError;
 
 #[test]

@@ -3,7 +3,7 @@
 --     files-beside, stays-beside, stays-given_back      their files, and what stays
 use Rattle.std.proofs.Common.{◌≡◌, List, sym, subst}
 use Rattle.control_desk.specs.Desks.{Desk}
-use Rattle.cycle_runs.specs.Drivers.{Gear}
+use Rattle.cycle_driver.specs.Gears.{Gear}
 use Rattle.recorder_files.specs.Recorders.{Recording}
 use Rattle.session_threads.specs.Insides.{Stays, parts_with}
 use Rattle.session_threads.specs.Parts.{HasOpenFiles, Parts}

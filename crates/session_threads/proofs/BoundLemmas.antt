@@ -17,13 +17,13 @@ use Rattle.control_desk.specs.Desks.{Desk, GoesOn, IsDesk, IsDone}
 use Rattle.control_desk.specs.Laws.{DoneGoesOn}
 use Rattle.driver_laws.specs.Cycling.{CyclesMany, FailsAtRead}
 use Rattle.driver_laws.specs.Drivers.{Driver, run}
-use Rattle.cycle_runs.specs.Drivers.{Gear, driver_of}
-use Rattle.cycle_runs.specs.Runs.{BreaksAtWrite, IsGoing, RunsInto, StaysInRun, with_end}
+use Rattle.cycle_driver.specs.Gears.{Gear, driver_of}
+use Rattle.cycle_driver.specs.Runs.{BreaksAtWrite, IsGoing, RunsInto, StaysInRun, with_end}
 use Rattle.recorder_files.specs.Recorders.{Recording, held_or, stored_of}
 use Rattle.run_laws.specs.Sessions.{Session}
 use Rattle.run_laws.proofs.PlaceLemmas.{mapped_there, some_at}
 use Rattle.serial_laws.specs.Steps.{IsSound}
-use Rattle.thread_faults.specs.Faults.{AtCapture, AtPlayback, Drove, DroveAll, InRun}
+use Rattle.thread_laws.specs.Faults.{AtCapture, AtPlayback, Drove, DroveAll, InRun}
 use Rattle.thread_laws.specs.Segments.{RingsEnded, Runs, WentOn}
 use Rattle.session_threads.specs.Driving.{with_ends}
 use Rattle.session_threads.specs.Insides.{ArePaired, Stays, parts_with, seen_with}

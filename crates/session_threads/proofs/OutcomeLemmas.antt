@@ -3,8 +3,8 @@
 --     of-ok, on-ok_any, at-ok, at-err, on_err_then      of a result that is Ok, or Err
 --     by-outcome      of a fault, by whose it is
 use Rattle.std.proofs.Common.{◌≡◌, ◌⊎◌, inl, inr, Result, Ok, Err, OnOk, OnErr, IsOk, IsErrOf, true≢false, refl, sym, subst}
-use Rattle.cycle_runs.specs.Faults.{CycleFault}
-use Rattle.cycle_runs.specs.Faults.{Read as DriverRead, Write as DriverWrite}
+use Rattle.cycle_driver.specs.declared.faults.CycleFault.{CycleFault}
+use Rattle.cycle_driver.specs.declared.faults.CycleFault.TheVariants.{Read as DriverRead, Write as DriverWrite}
 use Rattle.session_threads.specs.declared.faults.SessionFault.{SessionFault}
 use Rattle.session_threads.specs.declared.faults.SessionFault.TheVariants.{Read, Write}
 

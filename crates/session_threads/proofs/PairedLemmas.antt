@@ -6,8 +6,8 @@ use Rattle.std.proofs.Common.{◌≡◌, ℕ, ◌<◌, ◌≤◌, ◌⊎◌, inl
 use Rattle.std.proofs.lemmas.Bool.{cases_lt}
 use Rattle.std.proofs.lemmas.Option.{slice_get_within}
 use Rattle.record_ring.specs.Rings.{Getting, IsPair, Renews, Sending}
-use Rattle.cycle_runs.specs.Drivers.{Gear, driver_of}
-use Rattle.cycle_runs.specs.Runs.{KeepsRings}
+use Rattle.cycle_driver.specs.Gears.{Gear, driver_of}
+use Rattle.cycle_driver.specs.Runs.{KeepsRings}
 use Rattle.recorder_files.specs.Recorders.{Recording}
 use Rattle.run_laws.proofs.PlaceLemmas.{mapped_there, some_at}
 use Rattle.serial_laws.specs.Steps.{IsSound}

@@ -16,7 +16,7 @@ use Rattle.session_model.specs.Explanations.{Given}
 use Rattle.session_model.specs.Scripts.{Phase, Script, phases, turns}
 use Rattle.control_desk.specs.Desks.{MayBegin, cycles_before}
 use Rattle.driver_laws.specs.Drivers.{Driver, run, turn_of}
-use Rattle.cycle_runs.specs.Runs.{AreNext}
+use Rattle.cycle_driver.specs.Runs.{AreNext}
 use Rattle.run_laws.specs.Runs.{AtPhase, RanPhases}
 use Rattle.run_laws.specs.Sessions.{Session}
 use Rattle.run_laws.specs.Told.{StandsSoFar}
@@ -24,10 +24,10 @@ use Rattle.script_segments.specs.declared.lines.Segment.{Segment}
 use Rattle.serial_laws.specs.Faults.{told}
 use Rattle.serial_laws.specs.Steps.{IsSound}
 use Rattle.serial_laws.proofs.MeetLemmas.{IsSound-met}
-use Rattle.thread_faults.specs.Coming.{ComeBehindFault, HasCome}
-use Rattle.thread_faults.specs.Faults.{StandsUnfinished, ThreadFault}
+use Rattle.thread_laws.specs.Coming.{ComeBehindFault, HasCome}
+use Rattle.thread_laws.specs.Faults.{StandsUnfinished, ThreadFault}
 use Rattle.thread_laws.specs.Segments.{Rests, ThreadSegment}
-use Rattle.thread_rings.proofs.PartLemmas.{IsSound-grouped, IsSound-paced}
+use Rattle.thread_laws.proofs.PartLemmas.{IsSound-grouped, IsSound-paced}
 use Rattle.session_threads.specs.Insides.{Stays, held, parts_of}
 use Rattle.session_threads.specs.Parts.{HasOpenFiles, OneRose, Parts, session_of, told_of}
 use Rattle.session_threads.specs.Phases.{Opens, SegmentFails, Segmented, Settles, Stops}

@@ -16,7 +16,7 @@ use Rattle.recorder_files.specs.Recorders.{Recording}
 use Rattle.run_laws.proofs.PlaceLemmas.{mapped_there, some_at}
 use Rattle.run_laws.specs.Sessions.{Session}
 use Rattle.thread_laws.specs.Segments.{Renewed}
-use Rattle.cycle_runs.specs.Drivers.{Gear}
+use Rattle.cycle_driver.specs.Gears.{Gear}
 use Rattle.session_threads.specs.Insides.{ArePaired}
 use Rattle.session_threads.specs.Parts.{HasOpenFiles, Parts, bytes_of, session_of}
 use Rattle.session_threads.proofs.ReelLemmas.{RecordersKeep, given_up, map-places}

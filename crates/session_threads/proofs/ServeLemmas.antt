@@ -13,7 +13,7 @@ use Rattle.wave_write.specs.Tapes.{Tape}
 use Rattle.disk_recorder.specs.Recordings.{Serves}
 use Rattle.recorder_files.specs.Recorders.{Recording, Reel, Tears}
 use Rattle.serial_laws.specs.Steps.{IsReel}
-use Rattle.thread_faults.specs.Faults.{Got, ReelEnds, ServedSome, Torn}
+use Rattle.thread_laws.specs.Faults.{Got, ReelEnds, ServedSome, Torn}
 use Rattle.thread_laws.specs.Segments.{Served, ServesReel}
 use Rattle.session_threads.specs.Giving.{reel_of}
 use Rattle.session_threads.specs.Parts.{HasOpenFiles, Parts, session_of}

@@ -12,7 +12,7 @@ use Rattle.control_desk.specs.Desks.{Desk}
 use Rattle.record_ring.specs.Rings.{Sending}
 use Rattle.wave_pcm.specs.Readings.{Reading, SameReading}
 use Rattle.wave_write.specs.Tapes.{Tape}
-use Rattle.cycle_runs.specs.Drivers.{Gear}
+use Rattle.cycle_driver.specs.Gears.{Gear}
 use Rattle.recorder_files.specs.Recorders.{Recording, Stored, held_in, held_or, stored_of}
 use Rattle.run_laws.proofs.PlaceLemmas.{some_at}
 use Rattle.serial_laws.specs.Faults.{BreakUp}

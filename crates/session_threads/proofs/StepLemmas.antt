@@ -9,7 +9,7 @@ use Rattle.std.proofs.lemmas.Option.{slice_get-get_or, slice_get_read}
 use Rattle.record_ring.specs.Rings.{IsPair, Sending}
 use Rattle.wave_write.specs.Tapes.{Tape}
 use Rattle.disk_recorder.specs.Recordings.{MayWrite}
-use Rattle.cycle_runs.specs.Drivers.{Gear}
+use Rattle.cycle_driver.specs.Gears.{Gear}
 use Rattle.recorder_rings.specs.Sending.{no_ring, ring_at}
 use Rattle.recorder_files.specs.Recorders.{Recording}
 use Rattle.run_laws.proofs.PlaceLemmas.{some_at}

@@ -18,7 +18,7 @@ use Rattle.wave_pcm.specs.Readings.{SameReading}
 use Rattle.wave_write.specs.Tapes.{SameFile, Tape}
 use Rattle.driver_laws.specs.Cycling.{CyclesOnce, FailsAtRead, FailsAtWrite, MayCycle}
 use Rattle.driver_laws.specs.Drivers.{Driver, HasPlayback, run, turn_of}
-use Rattle.cycle_runs.specs.Drivers.{Gear, driver_of}
+use Rattle.cycle_driver.specs.Gears.{Gear, driver_of}
 use Rattle.recorder_files.specs.Recorders.{Recording, held_in, held_or, stored_of}
 use Rattle.run_laws.specs.Sessions.{Session}
 use Rattle.serial_laws.specs.Faults.{AtDraining as EndsAtDraining, AtEmptying as EndsAtEmptying, AtRead as EndsAtRead, AtWrite as EndsAtWrite, BreakUp, TurnFails}

@@ -7,11 +7,11 @@ use Rattle.std.proofs.Common.{◌≡◌, ℕ, ◌+◌, ◌<◌, ◌≤◌, Bool,
 use Rattle.jack_host.specs.Causes.{Rose}
 use Rattle.session_model.specs.Scripts.{Script, turns}
 use Rattle.driver_laws.specs.Drivers.{run, turn_of}
-use Rattle.cycle_runs.specs.Drivers.{Gear, driver_of}
-use Rattle.cycle_runs.specs.Runs.{AreNext}
+use Rattle.cycle_driver.specs.Gears.{Gear, driver_of}
+use Rattle.cycle_driver.specs.Runs.{AreNext}
 use Rattle.run_laws.specs.Sessions.{Session}
 use Rattle.serial_laws.specs.Steps.{IsSound}
-use Rattle.thread_faults.specs.Faults.{AtDraining as FailsAtDraining, AtEmptying as FailsAtEmptying, AtWheelCapture, AtWheelPlayback, WheelFailed}
+use Rattle.thread_laws.specs.Faults.{AtDraining as FailsAtDraining, AtEmptying as FailsAtEmptying, AtWheelCapture, AtWheelPlayback, WheelFailed}
 use Rattle.thread_laws.specs.Segments.{WheeledOnce}
 use Rattle.session_threads.specs.Turnings.{AtDraining, AtEmptying, AtRead, AtWrite, Fails, Goes}
 use Rattle.session_threads.proofs.TurningLemmas.{EmptyBehindBlocks, IsNext, SoundBehindBlocks, SoundBehindCycle}

@@ -5,10 +5,10 @@ use Rattle.std.specs.Prelude.{◌≡◌, ℕ, map, IsErrOf, OnOk, Result, Some}
 use Rattle.jack_host.specs.Causes.{Rose}
 use Rattle.wave_pcm.specs.Readings.{SameReading}
 use Rattle.wave_write.specs.Tapes.{Tape}
-use Rattle.cycle_runs.specs.Faults.{CycleFault}
-use Rattle.cycle_runs.specs.Faults.{Read, Write}
-use Rattle.cycle_runs.specs.Drivers.{Gear, driver_of}
-use Rattle.cycle_runs.specs.Runs.{BreaksAtWrite, IsGoing, RunsInto, StaysInRun, with_end}
+use Rattle.cycle_driver.specs.declared.faults.CycleFault.{CycleFault}
+use Rattle.cycle_driver.specs.declared.faults.CycleFault.TheVariants.{Read, Write}
+use Rattle.cycle_driver.specs.Gears.{Gear, driver_of}
+use Rattle.cycle_driver.specs.Runs.{BreaksAtWrite, IsGoing, RunsInto, StaysInRun, with_end}
 use Rattle.driver_laws.specs.Cycling.{CyclesMany, FailsAtRead}
 
 abbrev pub with_ends : Gear → Gear

@@ -9,7 +9,7 @@ use Rattle.std.specs.Prelude.{◌≡◌, ℕ, ◌≤◌, All, List, [], ◌∷�
 use Rattle.jack_host.specs.Causes.{Rose}
 use Rattle.wave_write.specs.Tapes.{Tape}
 use Rattle.control_desk.specs.Desks.{Desk}
-use Rattle.cycle_runs.specs.Drivers.{Gear, driver_of}
+use Rattle.cycle_driver.specs.Gears.{Gear, driver_of}
 use Rattle.recorder_files.specs.Recorders.{Recording, Stored, held_in, held_or}
 use Rattle.run_laws.specs.Sessions.{Session}
 

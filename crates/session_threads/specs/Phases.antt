@@ -7,7 +7,7 @@ use Rattle.std.specs.Prelude.{ℕ, Bool}
 use Rattle.run_laws.specs.Sessions.{Session}
 use Rattle.serial_laws.specs.Steps.{Met, Rounded}
 use Rattle.thread_laws.specs.Segments.{Grouped, Joined, Paced, Renewed, WentOn}
-use Rattle.thread_faults.specs.Faults.{JoinFailed}
+use Rattle.thread_laws.specs.Faults.{JoinFailed}
 
 -- its `do` calls, a meeting of desk and driver, and its period
 pub record Opens (done : ℕ) (session after : Session) : Type 0 where

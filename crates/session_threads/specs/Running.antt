@@ -10,7 +10,7 @@ use Rattle.run_laws.specs.Told.{StandsSoFar}
 use Rattle.script_segments.specs.Segments.{segments as the_segments}
 use Rattle.script_segments.specs.declared.lines.Segment.{Segment}
 use Rattle.serial_laws.specs.Steps.{IsSound}
-pub use Rattle.thread_faults.specs.Coming.{HasCome}
+pub use Rattle.thread_laws.specs.Coming.{HasCome}
 use Rattle.session_threads.specs.Insides.{Stays}
 use Rattle.session_threads.specs.Parts.{HasOpenFiles, OneRose, Parts, session_of, stores_in, told_of}
 use Rattle.session_threads.specs.declared.faults.SessionFault.{SessionFault}

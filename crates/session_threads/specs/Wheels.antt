@@ -3,11 +3,11 @@
 use Rattle.std.specs.Prelude.{◌≡◌, ℕ, ◌<◌, IsErrOf, List, OnErr, OnOk, Result}
 use Rattle.jack_host.specs.Causes.{Rose}
 use Rattle.control_desk.specs.Desks.{Desk}
-use Rattle.cycle_runs.specs.Drivers.{Gear}
+use Rattle.cycle_driver.specs.Gears.{Gear}
 use Rattle.recorder_files.specs.Recorders.{Recording}
 use Rattle.run_laws.specs.Sessions.{Session}
 use Rattle.serial_laws.specs.Steps.{IsSound}
-use Rattle.thread_faults.specs.Faults.{WheelFailed}
+use Rattle.thread_laws.specs.Faults.{WheelFailed}
 use Rattle.thread_laws.specs.Segments.{WheeledMany}
 use Rattle.session_threads.specs.Insides.{ArePaired, Stays, parts_with, seen_with}
 use Rattle.session_threads.specs.Parts.{OneRose, stores_in}

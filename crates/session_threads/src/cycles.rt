@@ -8,8 +8,8 @@ ghost use Rattle.driver_laws.specs.Cycling.{CyclesOnce, FailsAtRead, FailsAtWrit
 ghost use Rattle.driver_laws.specs.Drivers.{run, turn_of};
 ghost use Rattle.wave_pcm.specs.Readings.{SameReading};
 ghost use Rattle.wave_write.specs.Tapes.{SameFile, Tape};
-ghost use Rattle.cycle_runs.specs.Drivers.{driver_of};
-ghost use Rattle.cycle_runs.specs.Runs.{KeepsRings};
+ghost use Rattle.cycle_driver.specs.Gears.{driver_of};
+ghost use Rattle.cycle_driver.specs.Runs.{KeepsRings};
 ghost use Rattle.serial_laws.specs.Faults.{BreakUp};
 ghost use Rattle.serial_laws.specs.Steps.{Emptied, GiveUp, IsSound};
 ghost use Rattle.session_threads.specs.Insides.{AreAble, ArePaired, Stays, parts_with, seen_with};
@@ -20,7 +20,7 @@ ghost use Rattle.session_threads.specs.declared.faults.SessionFault.{SessionFaul
 use crate::faults::SessionFault;
 use crate::giving::give_up;
 use client_kinds::Guest;
-use cycle_runs::{CycleFault, Driver};
+use cycle_driver::{CycleFault, Driver};
 use jack_host::{Gate, Source, Store};
 use recorder_files::Recorder;
 use serial_laws::parts::{

@@ -1,6 +1,6 @@
 //! Why a session failed.
 
-use cycle_runs::CycleFault;
+use cycle_driver::CycleFault;
 use thiserror::Error;
 
 /// Why a session failed: reading its capture, or writing one of its files.

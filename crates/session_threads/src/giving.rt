@@ -13,7 +13,7 @@ ghost use Rattle.session_threads.specs.Parts.{HasOpenFiles, OneRose, stores_in};
 ghost use Rattle.wave_write.specs.Tapes.{Tape};
 
 use client_kinds::Guest;
-use cycle_runs::Driver;
+use cycle_driver::Driver;
 use jack_host::{Source, Store, WriteFailed};
 use recorder_files::Recorder;
 

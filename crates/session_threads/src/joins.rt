@@ -1,8 +1,8 @@
 //! The threads of a segment.
 
 ghost use Rattle.std.specs.Prelude.{◌≡◌, ◌<◌, All, IsErrOf, OnErr, OnOk, false, length, true};
-ghost use Rattle.cycle_runs.specs.Drivers.{Gear, driver_of};
-ghost use Rattle.cycle_runs.specs.Runs.{AreNext, IsGoing};
+ghost use Rattle.cycle_driver.specs.Gears.{Gear, driver_of};
+ghost use Rattle.cycle_driver.specs.Runs.{AreNext, IsGoing};
 ghost use Rattle.desk_turn.specs.Lanes.{IsOpen};
 ghost use Rattle.session_threads.specs.Driving.{HasDriven, with_ends};
 ghost use Rattle.control_desk.specs.Desks.{Desk as DeskValue};
@@ -20,7 +20,7 @@ use crate::faults::SessionFault;
 use crate::serving::serve_all;
 use crate::works::Deck;
 use client_kinds::Guest;
-use cycle_runs::{CycleFault, Driver, end_rings, run_cycles};
+use cycle_driver::{CycleFault, Driver, end_rings, run_cycles};
 use desk_turn::{TurnDesk, run_lanes};
 use jack_host::{Gate, Source, Store};
 use recorder_files::Recorder;

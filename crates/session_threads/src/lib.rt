@@ -14,7 +14,7 @@ mod segments;
 mod serving;
 mod works;
 
-pub use cycle_runs::Driver;
+pub use cycle_driver::Driver;
 pub use cycles::{Limits, cycle};
 pub use faults::SessionFault;
 pub use lanes::Lanes;

@@ -9,8 +9,8 @@ ghost use Rattle.run_laws.specs.Runs.{AtPhase, RanPhases};
 ghost use Rattle.run_laws.specs.Told.{StandsSoFar};
 ghost use Rattle.script_segments.specs.Segments.{segments as the_segments};
 ghost use Rattle.serial_laws.specs.Steps.{IsSound};
-ghost use Rattle.thread_faults.specs.Coming.{HasCome};
-ghost use Rattle.thread_faults.specs.Faults.{ThreadFault};
+ghost use Rattle.thread_laws.specs.Coming.{HasCome};
+ghost use Rattle.thread_laws.specs.Faults.{ThreadFault};
 ghost use Rattle.thread_laws.specs.Segments.{ThreadSegment};
 ghost use Rattle.session_threads.specs.Insides.{ArePaired, Stays, held, parts_of, seen};
 ghost use Rattle.session_threads.specs.Parts.{HasOpenFiles, OneRose, told_of};
@@ -31,10 +31,10 @@ use script_segments::laws::segments_are_the_phases;
 use serial_laws::numbers::cycles_of_a_phase;
 use std::sync::Wait;
 use std::thread::Threads;
-use thread_faults::faults::{
+use thread_laws::faults::{
     a_phase_that_fails_leaves_fronts, a_session_comes_up_to_its_fault, unfinished_files_have_fronts,
 };
-use thread_rings::phases::a_phase_is_behind;
+use thread_laws::rests::a_phase_is_behind;
 
 /// Runs a phase: its `do` calls, and its segment. Behind the segment the rings' ends meet, and desk and driver do; where
 /// nothing failed the lanes go on before until none has a call left.

@@ -9,7 +9,7 @@ ghost use Rattle.session_threads.specs.Parts.{HasOpenFiles};
 ghost use Rattle.thread_laws.specs.Segments.{Renewed};
 
 use client_kinds::Guest;
-use cycle_runs::Driver;
+use cycle_driver::Driver;
 use jack_host::{Source, Store};
 use recorder_files::Recorder;
 

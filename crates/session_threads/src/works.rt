@@ -3,7 +3,7 @@
 use crate::lanes::Lanes;
 use client_kinds::Guest;
 use control_desk::Desk;
-use cycle_runs::Driver;
+use cycle_driver::Driver;
 use jack_host::{Source, Store};
 use recorder_files::Recorder;
 

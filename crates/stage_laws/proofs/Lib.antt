@@ -5,3 +5,8 @@ pub mod PlayLemmas
 pub mod BoundLemmas
 pub mod WholeLemmas
 pub mod GoingLemmas
+pub mod ReadyLemmas
+pub mod OpenLemmas
+pub mod BirthLemmas
+pub mod KnownLemmas
+pub mod RefusedLemmas

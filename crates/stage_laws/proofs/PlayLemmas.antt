@@ -28,9 +28,9 @@ use Rattle.client_seats.proofs.MemoryLemmas.{found_past, memory-owned, owned_or_
 use Rattle.client_seats.proofs.PlaceLemmas.{open_within, within_open}
 use Rattle.client_tasks.specs.Tasks.{AreSet, IsSet}
 use Rattle.driver_laws.specs.Drivers.{Remembered}
-use Rattle.ready_laws.specs.Quiet.{AreStill, HasNoEvents, quiet}
-use Rattle.ready_laws.specs.Sources.{HasSources}
-use Rattle.ready_laws.proofs.ReadyLemmas.{routes-still, task-ready}
+use Rattle.stage_laws.specs.Quiet.{AreStill, HasNoEvents, quiet}
+use Rattle.stage_laws.specs.Sources.{HasSources}
+use Rattle.stage_laws.proofs.ReadyLemmas.{routes-still, task-ready}
 use Rattle.task_laws.specs.Calls.{IsOldKind}
 use Rattle.task_laws.proofs.PlayingLemmas.{idle-kept}
 use Rattle.stage_laws.specs.Stages.{Staged, bench_of, bench_on}

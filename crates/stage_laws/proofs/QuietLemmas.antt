@@ -33,7 +33,7 @@ use Rattle.client_benches.specs.Seen.{HasScores, Remembered, bench_in, kept_afte
 use Rattle.client_benches.specs.declared.benches.Turn.{Turn}
 use Rattle.client_benches.specs.declared.values.Route.{Route}
 use Rattle.client_benches.proofs.ScoreLemmas.{after-scores, gives-scores}
-use Rattle.ready_laws.specs.Quiet.{AreStill, quiet, quiet_part, quiet_task, routes_along, still}
+use Rattle.stage_laws.specs.Quiet.{AreStill, quiet, quiet_part, quiet_task, routes_along, still}
 use Rattle.task_laws.specs.Calls.{IsOldKind}
 
 abbrev pub HasOldKind : Remembered → Type 0

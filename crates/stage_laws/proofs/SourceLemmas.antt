@@ -25,7 +25,7 @@ use Rattle.bench_rack.specs.Racks.{bench_at}
 use Rattle.client_seats.specs.Owners.{owner_at}
 use Rattle.client_tasks.specs.Fillings.{kept_at, known_by, last_from}
 use Rattle.client_tasks.specs.Tasks.{widths_at}
-use Rattle.ready_laws.specs.Sources.{HasSource}
+use Rattle.stage_laws.specs.Sources.{HasSource}
 use Rattle.stage_laws.specs.Stages.{IsStaffed, Staged, bench_of}
 use Rattle.stage_laws.specs.Casts.{Casts}
 use Rattle.stage_laws.specs.Plays.{IsSettledOn}

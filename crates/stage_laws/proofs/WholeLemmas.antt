@@ -31,8 +31,8 @@ use Rattle.client_seats.specs.Moves.{kinds_of}
 use Rattle.client_seats.specs.Seatings.{HasBench, HasNoPast, HavePeriod, IsSameBench, IsSeating, kind_at, standing_at}
 use Rattle.task_laws.specs.Calls.{IsOldKind}
 use Rattle.client_seats.proofs.PlayLemmas.{IsSameBench-played, IsSeating-played}
-use Rattle.ready_laws.specs.Quiet.{HasNoEvents}
-use Rattle.ready_laws.specs.Sources.{HasSources}
+use Rattle.stage_laws.specs.Quiet.{HasNoEvents}
+use Rattle.stage_laws.specs.Sources.{HasSources}
 use Rattle.task_laws.proofs.PlayingLemmas.{empty-kept, idle-kept}
 use Rattle.stage_laws.specs.Stages.{IsStaffed, Staged}
 use Rattle.stage_laws.specs.Casts.{ArePlaces, Casts, Fills, Performs}

@@ -16,7 +16,7 @@ use Rattle.client_tasks.specs.Fillings.{AreJoints}
 use Rattle.client_tasks.specs.Tasks.{AreSet, HasRooms, widths_at}
 use Rattle.client_seats.specs.Owners.{Owned}
 use Rattle.client_seats.specs.Seatings.{HasBench}
-use Rattle.ready_laws.specs.Quiet.{quiet}
+use Rattle.stage_laws.specs.Quiet.{quiet}
 
 -- the benches and who owns them; how many nodes the crew has, and the greatest period; how the clients of the last plan are wired, and at which
 -- places its kept outputs stood in the cycle before; the nodes that played last, and that cycle's period, 0 before the first; whether each of their

@@ -10,7 +10,7 @@ use Rattle.client_benches.specs.Seen.{cleared}
 use Rattle.client_wiring.specs.Wirings.{wired_of}
 use Rattle.bench_rack.specs.Racks.{bench_at}
 use Rattle.client_seats.specs.Seatings.{HavePeriod, IsRefused, IsSeating, standing_at}
-use Rattle.owner_laws.specs.Known.{AreKnown}
+use Rattle.stage_laws.specs.Known.{AreKnown}
 use Rattle.stage_laws.specs.Stages.{IsStaffed, Staged}
 
 pub record OnStage : Type 0 where

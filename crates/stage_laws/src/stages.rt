@@ -15,7 +15,7 @@ ghost use Rattle.bench_rack.specs.Racks.{Racked, bench_at};
 ghost use Rattle.client_tasks.specs.Tasks.{HasRooms};
 ghost use Rattle.client_seats.specs.Moves.{kinds_of};
 ghost use Rattle.client_seats.specs.Seatings.{HasNoPast, HavePeriod, IsSeating, standing_at};
-ghost use Rattle.ready_laws.specs.Quiet.{HasNoEvents};
+ghost use Rattle.stage_laws.specs.Quiet.{HasNoEvents};
 ghost use Rattle.stage_laws.specs.Casts.{ArePlaces, Casts, Fills, GoesOnIn, Performs};
 ghost use Rattle.stage_laws.specs.Plays.{IsSettledOn, PlaysPlan};
 ghost use Rattle.stage_laws.specs.Stages.{IsStaffed, Staged};

@@ -9,7 +9,7 @@ use Rattle.bench_rack.specs.Racks.{Racked}
 use Rattle.client_tasks.specs.Fillings.{last_place}
 use Rattle.client_seats.specs.Moves.{kinds_of}
 use Rattle.client_seats.specs.Seatings.{HavePeriod, standing_at}
-use Rattle.owner_laws.specs.Known.{AreKnown}
+use Rattle.stage_laws.specs.Known.{AreKnown}
 use Rattle.stage_laws.specs.Casts.{Casts, GoesOnIn}
 use Rattle.stage_laws.proofs.GoingLemmas.{same-nodes}
 use Rattle.client_stage.specs.Insides.{staged_by}

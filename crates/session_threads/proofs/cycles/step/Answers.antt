@@ -1,7 +1,7 @@
 use Rattle.std.proofs.Common.{Err, ap}
 use Rattle.driver_laws.specs.Drivers.{Driver}
-use Rattle.cycle_runs.specs.Drivers.{driver_of}
-use Rattle.cycle_runs.proofs.RunLemmas.{rings-none, rings-stepped}
+use Rattle.cycle_driver.specs.Gears.{driver_of}
+use Rattle.cycle_driver.proofs.RunLemmas.{rings-none, rings-stepped}
 use Rattle.session_threads.proofs.cycles.step.Goals as goal
 
 pub returns-in-Ok-clause-rings : goal.returns-in-Ok-clause-rings

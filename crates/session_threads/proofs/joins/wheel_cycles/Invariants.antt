@@ -1,6 +1,6 @@
 use Rattle.std.proofs.Common.{◌≡◌, ◌+◌, ◌≤◌}
 use Rattle.control_desk.specs.Desks.{Desk}
-use Rattle.cycle_runs.specs.Drivers.{driver_of}
+use Rattle.cycle_driver.specs.Gears.{driver_of}
 use Rattle.driver_laws.specs.Drivers.{run}
 use Rattle.serial_laws.specs.Steps.{IsSound}
 use Rattle.thread_laws.specs.Segments.{WheeledMany}

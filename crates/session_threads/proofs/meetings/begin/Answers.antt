@@ -1,6 +1,6 @@
 use Rattle.std.proofs.Common.{ap}
 use Rattle.control_desk.specs.Desks.{Desk}
-use Rattle.cycle_runs.specs.Drivers.{Gear}
+use Rattle.cycle_driver.specs.Gears.{Gear}
 use Rattle.session_threads.specs.Insides.{seen, seen_with}
 use Rattle.session_threads.proofs.meetings.begin.Goals as goal
 

@@ -1,7 +1,7 @@
 use Rattle.std.proofs.Common.{◌≡◌, refl, sym, ◌∙◌, ap, subst, arith, vec_items}
 use Rattle.control_desk.specs.Desks.{cycles_before}
 use Rattle.driver_laws.specs.Drivers.{run}
-use Rattle.cycle_runs.specs.Drivers.{Gear, driver_of}
+use Rattle.cycle_driver.specs.Gears.{Gear, driver_of}
 use Rattle.session_threads.specs.Insides.{seen}
 use Rattle.session_threads.proofs.BesideLemmas.{files-same}
 use Rattle.session_threads.proofs.PhaseLemmas.{may-begin, next-of, opens-sound, phase-fails, phase-whole, read-between, stays-over, write-between}

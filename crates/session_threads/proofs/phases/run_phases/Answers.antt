@@ -2,7 +2,7 @@ use Rattle.std.proofs.Common.{◌≡◌, ◌+◌, false, IsSome, get_or, length,
 use Rattle.session_model.specs.Scripts.{Script, phases}
 use Rattle.control_desk.specs.Desks.{cycles_before}
 use Rattle.run_laws.specs.Runs.{AtPhase, RanPhases}
-use Rattle.thread_faults.specs.Coming.{HasCome}
+use Rattle.thread_laws.specs.Coming.{HasCome}
 use Rattle.session_threads.specs.Insides.{held, parts_of, seen}
 use Rattle.session_threads.proofs.OutcomeLemmas.{at-err, at-ok}
 use Rattle.session_threads.proofs.PhaseLemmas.{come-failed, ran-at, ran-on, stands-failed}

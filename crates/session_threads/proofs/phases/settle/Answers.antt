@@ -1,5 +1,5 @@
 use Rattle.std.proofs.Common.{◌<◌, List, length, slice_get, sym, ◌∙◌, ap, subst, vec_items}
-use Rattle.cycle_runs.specs.Drivers.{Gear}
+use Rattle.cycle_driver.specs.Gears.{Gear}
 use Rattle.recorder_files.specs.Recorders.{Recording}
 use Rattle.session_threads.specs.Insides.{seen, seen_with}
 use Rattle.session_threads.proofs.StayLemmas.{stays-met, stays-trans}

@@ -1,7 +1,7 @@
 use Rattle.std.proofs.Common.{◌≡◌, ◌<◌, ◌≤◌, ◌+◌, List, length, set, sym, ◌∙◌, ap, ap₂, subst}
 use Rattle.std.proofs.lemmas.Option.{slice_get-get_or, slice_get_read}
 use Rattle.record_ring.specs.Rings.{Sending}
-use Rattle.cycle_runs.specs.Drivers.{Gear}
+use Rattle.cycle_driver.specs.Gears.{Gear}
 use Rattle.recorder_rings.specs.Sending.{no_ring, ring_at}
 use Rattle.thread_laws.specs.Segments.{Renewed}
 use Rattle.session_threads.specs.Insides.{parts_with, seen_with}

@@ -2,7 +2,7 @@ use Rattle.std.proofs.Common.{All, List, arith, ◌≡◌, ℕ, false, OnErr, On
 use Rattle.std.proofs.lemmas.Option.{slice_get-get_or}
 use Rattle.jack_host.specs.Causes.{Rose}
 use Rattle.control_desk.specs.Desks.{Desk, GoesOn}
-use Rattle.cycle_runs.specs.Drivers.{Gear}
+use Rattle.cycle_driver.specs.Gears.{Gear}
 use Rattle.recorder_files.specs.Recorders.{Recording}
 use Rattle.turn_word.specs.Turns.{AreAll, Handle, pass_of}
 use Rattle.desk_turn.specs.Lanes.{IsOpen}

@@ -3,7 +3,7 @@ use Rattle.std.proofs.lemmas.Option.{slice_get-get_or}
 use Rattle.control_desk.specs.Desks.{Desk}
 use Rattle.turn_word.specs.Turns.{AreAll, Handle, pass_of}
 use Rattle.desk_turn.specs.Lanes.{IsOpen}
-use Rattle.thread_faults.specs.Faults.{InWheel}
+use Rattle.thread_laws.specs.Faults.{InWheel}
 use Rattle.thread_laws.specs.Segments.{Wheels}
 use Rattle.session_threads.specs.Insides.{parts_with, seen_with}
 use Rattle.session_threads.specs.Wheels.{WheelBroke}

@@ -1,6 +1,6 @@
 use Rattle.std.proofs.Common.{sym, subst, arith}
-use Rattle.cycle_runs.specs.Drivers.{driver_of}
-use Rattle.cycle_runs.specs.Runs.{AreNext}
+use Rattle.cycle_driver.specs.Gears.{driver_of}
+use Rattle.cycle_driver.specs.Runs.{AreNext}
 use Rattle.session_threads.specs.Insides.{parts_of, seen}
 use Rattle.session_threads.specs.Phases.{Segmented}
 use Rattle.session_threads.proofs.PairedLemmas.{paired-sound}

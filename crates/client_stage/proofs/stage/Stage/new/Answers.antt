@@ -3,7 +3,7 @@ use Rattle.client_benches.specs.Seen.{new_bench}
 use Rattle.bench_rack.specs.Racks.{Racked}
 use Rattle.client_seats.specs.Owners.{Owned, owner_at}
 use Rattle.client_seats.specs.Seatings.{IsSeating}
-use Rattle.owner_laws.specs.Known.{AreKnown}
+use Rattle.stage_laws.specs.Known.{AreKnown}
 use Rattle.client_stage.specs.Insides.{staged_by}
 use Rattle.stage_laws.specs.Standing.{EnoughLinks, StandsOn}
 use Rattle.client_stage.proofs.InsideLemmas.{plan-noted, whole}

@@ -9,7 +9,7 @@ use Rattle.bench_rack.specs.Racks.{Racked}
 use Rattle.client_seats.specs.Moves.{kinds_of}
 use Rattle.client_seats.specs.Seatings.{HasNoPast}
 use Rattle.port_registry.specs.Registered.{open_clients}
-use Rattle.owner_laws.specs.Known.{AreKnown}
+use Rattle.stage_laws.specs.Known.{AreKnown}
 use Rattle.stage_laws.specs.Casts.{ArePlaces, Casts, Fills, Performs}
 use Rattle.stage_laws.specs.Plays.{IsSettledOn, PlaysPlan}
 use Rattle.client_stage.specs.Insides.{plan_in, staged_by}

@@ -1,3 +1,0 @@
--- The words of a driver, passed on to those that run many of its cycles.
-pub use Rattle.cycle_driver.specs.Gears.{Gear, IsServed, driver_of}
-pub use Rattle.cycle_driver.specs.Openings.{playback_format}

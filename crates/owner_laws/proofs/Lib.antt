@@ -1,4 +1,0 @@
-pub mod OpenLemmas
-pub mod BirthLemmas
-pub mod KnownLemmas
-pub mod RefusedLemmas

@@ -1,5 +1,0 @@
-use Rattle.owner_laws.proofs.KnownLemmas.{known-kinds}
-use Rattle.owner_laws.proofs.owning.kinds_alone_count.Goals as goal
-
-pub returns : goal.returns
-returns c = known-kinds

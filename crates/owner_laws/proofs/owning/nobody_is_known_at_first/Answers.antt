@@ -1,5 +1,0 @@
-use Rattle.owner_laws.proofs.KnownLemmas.{nobody-known}
-use Rattle.owner_laws.proofs.owning.nobody_is_known_at_first.Goals as goal
-
-pub returns : goal.returns
-returns c = nobody-known
