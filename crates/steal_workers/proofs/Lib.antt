@@ -3,3 +3,4 @@ pub mod Changing
 mod Seated
 mod Offered
 mod Cycled
+mod Working

@@ -1,6 +1,8 @@
 -- A place before its seat's work in a cycle, and behind it.
 --     IsReady .. place      the seat sits there as new, with its passes
---     HasPlayedOn .. old new      the seat sits there still, and has worked
+--     HasPlayedOn .. old new      the seat sits there still, and has started its share and worked
+--     IsAtWork .. place      the seat sits there with its share started
+--     GoesOn .. old new, WorksOn .. old new      the seat sits there still, and has played on
 --     MaySweep .. seat, Sweeps .. old new      a seat before it looks for all nodes, and behind that
 use Rattle.std.specs.Prelude.{◌≡◌, ◌<◌, ℕ, Bool, List, [], ◌∷◌, Some, vec_capacity}
 use Rattle.atomic_table.specs.Seated.{TableId}
@@ -38,6 +40,33 @@ module _ {B Y M : Type 0} where
     pub there : new.thief ≡ Some thief
     pub deque : KeepsDeque old.deque new.deque
     pub behind : (before : Thief B Y M) → old.thief ≡ Some before → IsBehind id links nodes seats stealers before thief
+
+  pub record IsAtWork (has_room : B → ℕ → Bool) (id : TableId) (links : List Link) (nodes seats : ℕ) (stealers : List Stealer) (place : Place B Y M) : Type 0 where
+    pub thief : Thief B Y M
+    pub there : place.thief ≡ Some thief
+    pub sits : Sits id links nodes seats thief.seat.number thief.seat.token
+    pub room : HaveRoom has_room links thief.seat.token.me.0.duty.before
+    pub none_held : thief.seat.token.me.0.duty.held ≡ []
+    pub left : AreBetween 0 nodes thief.seat.token.me.0.duty.left
+    pub passes : Paired IsPassFor stealers thief.passes.items
+    pub part : 0 < parts_of place
+
+  pub record GoesOn (id : TableId) (links : List Link) (nodes seats : ℕ) (stealers : List Stealer) (old new : Thief B Y M) : Type 0 where
+    pub number : new.seat.number ≡ old.seat.number
+    pub sits : Sits id links nodes seats new.seat.number new.seat.token
+    pub links_stay : new.seat.token.me.0.duty.links ≡ old.seat.token.me.0.duty.links
+    pub before_stays : new.seat.token.me.0.duty.before ≡ old.seat.token.me.0.duty.before
+    pub started_stay : new.seat.token.me.0.duty.started ≡ old.seat.token.me.0.duty.started
+    pub none_held : new.seat.token.me.0.duty.held ≡ []
+    pub left : AreBetween 0 nodes new.seat.token.me.0.duty.left
+    pub passes : Paired IsPassFor stealers new.passes.items
+    pub room : vec_capacity new.passes ≡ vec_capacity old.passes
+
+  pub record WorksOn (id : TableId) (links : List Link) (nodes seats : ℕ) (stealers : List Stealer) (old new : Place B Y M) : Type 0 where
+    pub thief : Thief B Y M
+    pub there : new.thief ≡ Some thief
+    pub deque : KeepsDeque old.deque new.deque
+    pub behind : (before : Thief B Y M) → old.thief ≡ Some before → GoesOn id links nodes seats stealers before thief
 
   pub record MaySweep (has_room : B → ℕ → Bool) (id : TableId) (links : List Link) (nodes seats : ℕ) (seat : Seat B Y M) : Type 0 where
     pub sits : Sits id links nodes seats seat.number seat.token

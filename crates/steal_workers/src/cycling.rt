@@ -1,15 +1,15 @@
-//! All seats in threads, and what the calling thread does behind them.
+//! All seats in threads, and what the calling thread does before and behind them.
 ghost use Rattle.std.specs.Prelude.{◌≡◌, ◌≤◌, List, length, All, vec_capacity};
 ghost use Rattle.activation.specs.Ends.{AreEnded};
 ghost use Rattle.activation.specs.Rounds.{AreSeats, HavePlayed, Know, AreFresh};
 ghost use Rattle.cycle_workers.specs.Runs.{HaveRoom};
 ghost use Rattle.steal_workers.specs.Thefts.{AreEmpty};
-ghost use Rattle.steal_workers.specs.Works.{IsReady, HasPlayedOn};
+ghost use Rattle.steal_workers.specs.Works.{IsAtWork, WorksOn};
 
 use crate::ends::Stealer;
 use crate::places::Place;
 use crate::seating::{begin, end};
-use crate::stealing::{sweep_all, work};
+use crate::stealing::{start_all, sweep_all, work};
 use crate::thieves::Thieves;
 use activation::{Crew, Seat, Work};
 use jack_host::Gate;
@@ -41,11 +41,13 @@ pub fn steal_cycle<B: Work + Send, G: Gate, T: Threads + Sync>(
 {
     let places = thieves.places.as_mut_slice();
     begin(places, seats, &mut thieves.passes);
-    let count = places.len();
     let stealers = &thieves.stealers;
+    // Before the threads begin, so that no seat looks round before there is something to take.
+    start_all(crew, places, stealers.as_slice(), gate);
+    let count = places.len();
     let step = |_index: usize, place: &mut Place<B>|
-        requires { IsReady B.has_room crew.now.board.shared.table_id crew.now.links.items crew.now.nodes crew.now.seats stealers.now.items place.old × (length stealers.now.items ≡ crew.now.seats) }
-        ensures { HasPlayedOn crew.entry.now.board.shared.table_id crew.entry.now.links.items crew.entry.now.nodes crew.entry.now.seats stealers.entry.now.items place.entry.now place.exit.now }
+        requires { IsAtWork B.has_room crew.now.board.shared.table_id crew.now.links.items crew.now.nodes crew.now.seats stealers.now.items place.old }
+        ensures { WorksOn crew.entry.now.board.shared.table_id crew.entry.now.links.items crew.entry.now.nodes crew.entry.now.seats stealers.entry.now.items place.entry.now place.exit.now }
     { work(crew, place, stealers.as_slice(), gate) };
     thread::for_each_mut(threads, places, count, &step);
     end(places, seats, &mut thieves.passes);

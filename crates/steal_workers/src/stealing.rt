@@ -9,7 +9,7 @@ ghost use Rattle.steal_workers.specs.Tallies.{with_pushed};
 ghost use Rattle.steal_workers.specs.Deques.{tally_of, IsPassFor};
 ghost use Rattle.steal_workers.specs.Places.{Paired};
 ghost use Rattle.steal_workers.specs.Steals.{KeepsDeque, IsOffered, LeavesAbove, IsPicked, HasWorked, HasSwept};
-ghost use Rattle.steal_workers.specs.Works.{IsReady, HasPlayedOn, MaySweep, Sweeps};
+ghost use Rattle.steal_workers.specs.Works.{IsReady, HasPlayedOn, IsAtWork, WorksOn, MaySweep, Sweeps};
 
 use crate::ends::{Deque, Pass, Stealer};
 use crate::places::{Place, Thief};
@@ -118,6 +118,39 @@ fn start<B: Work, G: Gate>(
     }
 }
 
+// Offers what the starts of the share of the seat at a place take.
+fn start_here<B: Work, G: Gate>(
+    crew: &Crew<B>,
+    place: &mut Place<B>,
+    stealers: &[Stealer],
+    gate: &G,
+)
+    requires ready { IsReady B.has_room crew.now.board.shared.table_id crew.now.links.items crew.now.nodes crew.now.seats stealers.now place.old }
+    requires count { length stealers.now ≡ crew.now.seats }
+    ensures { HasPlayedOn crew.now.board.shared.table_id crew.now.links.items crew.now.nodes crew.now.seats stealers.now place.old place.new }
+{
+    let Place { deque, thief } = place;
+    if let Some(thief) = thief {
+        start(crew, &mut thief.seat, deque, gate, stealers.len() as u32);
+    }
+}
+
+/// Lets each seat in turn offer what the starts of its share take.
+pub(crate) fn start_all<B: Work, G: Gate>(
+    crew: &Crew<B>,
+    places: &mut [Place<B>],
+    stealers: &[Stealer],
+    gate: &G,
+)
+    requires ready { All (λ place. IsReady B.has_room crew.now.board.shared.table_id crew.now.links.items crew.now.nodes crew.now.seats stealers.now place) places.old }
+    requires count { length stealers.now ≡ crew.now.seats }
+    ensures { Paired (HasPlayedOn crew.now.board.shared.table_id crew.now.links.items crew.now.nodes crew.now.seats stealers.now) places.old places.new }
+{
+    for place in places.iter_mut() {
+        start_here(crew, place, stealers, gate);
+    }
+}
+
 // The number that one of the other deques gives, asked once each, from the next seat's on.
 fn steal(stealers: &[Stealer], passes: &mut Vec<Pass>, own: u32) -> Option<u32>
     requires { Paired IsPassFor stealers.now passes.old.items }
@@ -148,23 +181,21 @@ fn find(deque: &mut Deque, stealers: &[Stealer], passes: &mut Vec<Pass>, own: u3
     steal(stealers, passes, own)
 }
 
-/// Starts the seat's share, and plays what its deque and the others hold, until none of them gives more.
+/// Plays what the seat's deque and the others hold, until none of them gives more.
 pub(crate) fn work<B: Work, G: Gate>(
     crew: &Crew<B>,
     place: &mut Place<B>,
     stealers: &[Stealer],
     gate: &G,
 )
-    requires ready { IsReady B.has_room crew.now.board.shared.table_id crew.now.links.items crew.now.nodes crew.now.seats stealers.now place.old }
-    requires count { length stealers.now ≡ crew.now.seats }
-    ensures { HasPlayedOn crew.now.board.shared.table_id crew.now.links.items crew.now.nodes crew.now.seats stealers.now place.old place.new }
+    requires ready { IsAtWork B.has_room crew.now.board.shared.table_id crew.now.links.items crew.now.nodes crew.now.seats stealers.now place.old }
+    ensures { WorksOn crew.now.board.shared.table_id crew.now.links.items crew.now.nodes crew.now.seats stealers.now place.old place.new }
 {
     let Place { deque, thief } = place;
     let Some(thief) = thief else {
         return;
     };
     let Thief { seat, passes } = thief;
-    start(crew, seat, deque, gate, stealers.len() as u32);
     // Each node's number is pushed once a cycle at most, so no seat finds more.
     for _ in 0..crew.nodes() {
         let Some(node) = find(deque, stealers, passes, seat.number()) else {

@@ -8,15 +8,17 @@ use Rattle.cycle_workers.proofs.Going.{long_as}
 use Rattle.std.specs.Global.{Global, Vec}
 use Rattle.crossbeam_deque.specs.Handles.{Pass}
 use Rattle.steal_workers.specs.declared.tallies.Tally.{Tally}
+use Rattle.steal_workers.specs.declared.ends.Stealer.{Stealer}
 use Rattle.steal_workers.specs.declared.places.Place.{Place}
 use Rattle.steal_workers.specs.Tallies.{HasAll, IsEven}
 use Rattle.steal_workers.specs.Deques.{tally_of, SameDeque}
 use Rattle.steal_workers.specs.Places.{Paired}
-use Rattle.steal_workers.specs.Works.{IsReady, HasPlayedOn, MaySweep, Sweeps}
+use Rattle.steal_workers.specs.Works.{IsReady, IsAtWork, WorksOn, MaySweep, Sweeps}
 use Rattle.steal_workers.specs.Thefts.{AreEmpty, IsEmpty, tallies_of}
 use Rattle.steal_workers.proofs.Changing.{all_map, written, paired_map}
 use Rattle.steal_workers.proofs.Tallied.{holds_none}
 use Rattle.steal_workers.proofs.Cycled.{Reach, reach_stays, reach_on, ready, Played, may_leave, may_sweep, HasCycled, cycled, are_seats, have_played, know_still}
+use Rattle.steal_workers.proofs.Working.{Begun, at_work, played_on}
 use Rattle.steal_workers.proofs.cycling.steal_cycle.Goals as goal
 
 pub begin-requires-clause-counts : goal.begin-requires-clause-counts
@@ -37,6 +39,35 @@ begin-requires-clause-counts g c κs within =
     let few : length first ≤ 16 = subst (λ (ps : List D). length ps ≤ 16) (sym there) c.thieves.invariant.few in
     (many, c.thieves.invariant.room.0 ∙ sym (ap length there))
 
+pub start_all-requires-clause-ready : goal.start_all-requires-clause-ready
+start_all-requires-clause-ready g c κs within i p low =
+    let crew = c.args.crew.now in
+    let id = crew.board.shared.table_id in
+    let links = crew.links.items in
+    let A : Type 0 = Seat g.row.B.Denot g.row.B-Value.Denot g.row.B-Memory.Denot in
+    let D : Type 0 = Place g.row.B.Denot g.row.B-Value.Denot g.row.B-Memory.Denot in
+    let all : List A = c.args.seats.now.items in
+    let stealers = c.thieves.inside.stealers.items in
+    let first : List D = c.as_mut_slice-places.result.now in
+    let there : first ≡ c.thieves.inside.places.items = c.as_mut_slice-places.ensures.value in
+    let deques : length c.thieves.inside.places.items ≡ crew.seats = sym (length-map c.thieves.inside.places.items (λ (p : D). tally_of p.deque)) ∙ (ap length c.thieves.view_is ∙ c.requires.deques) in
+    let many : length all ≡ length first = long_as (λ (s : A). s.number) all crew.seats c.requires.all.numbers ∙ (sym deques ∙ sym (ap length there)) in
+    let reach : Reach stealers first = subst (λ (ps : List D). Reach stealers ps) (sym there) c.thieves.invariant.reached in
+    let rest : All (λ (p : D). HasAll (tally_of p.deque) × (p.thief ≡ None)) first = subst (λ (ps : List D). All (λ (p : D). HasAll (tally_of p.deque) × (p.thief ≡ None)) ps) (sym there) c.thieves.invariant.at_rest in
+    let few : length first ≤ 16 = subst (λ (ps : List D). length ps ≤ 16) (sym there) c.thieves.invariant.few in
+    let mid : List D = c.begin.new.places in
+    let long : length mid ≡ length first = c.begin.auto.places in
+    let took = c.begin.ensures.places in
+    let fresh = c.requires.fresh in
+    subst (λ (ss : List Stealer). IsReady g.B.Work.has_room id links crew.nodes crew.seats ss (get_or mid i p)) (sym c.as_slice.ensures.value)
+    (ready id links crew.nodes crew.seats stealers g.B.Work.has_room fresh.0 all first mid c.requires.all fresh.1 fresh.2 reach rest few many long took i p low)
+
+pub start_all-requires-clause-count : goal.start_all-requires-clause-count
+start_all-requires-clause-count g c κs within =
+    let D : Type 0 = Place g.row.B.Denot g.row.B-Value.Denot g.row.B-Memory.Denot in
+    let deques : length c.thieves.inside.places.items ≡ c.args.crew.now.seats = sym (length-map c.thieves.inside.places.items (λ (p : D). tally_of p.deque)) ∙ (ap length c.thieves.view_is ∙ c.requires.deques) in
+    ap length c.as_slice.ensures.value ∙ (sym c.thieves.invariant.reached.0 ∙ deques)
+
 pub for_each_mut-requires-clause-accepts : goal.for_each_mut-requires-clause-accepts
 for_each_mut-requires-clause-accepts g c κs within i p low is =
     let crew = c.args.crew.now in
@@ -56,11 +87,15 @@ for_each_mut-requires-clause-accepts g c κs within i p low is =
     let mid : List D = c.begin.new.places in
     let long : length mid ≡ length first = c.begin.auto.places in
     let took = c.begin.ensures.places in
+    let started : List D = c.start_all.new.places in
+    let begun : Begun id links crew.nodes crew.seats stealers mid started = subst (λ (ss : List Stealer). Begun id links crew.nodes crew.seats ss mid started) c.as_slice.ensures.value c.start_all.ensures in
+    let low' : i < length mid = (let long' = begun.0 in omega (arith, low, long')) in
     let fresh = c.requires.fresh in (
-      subst (λ (x : D). IsReady g.B.Work.has_room id links crew.nodes crew.seats stealers x × (length stealers ≡ crew.seats)) (sym is) (
-        ready id links crew.nodes crew.seats stealers g.B.Work.has_room fresh.0 all first mid c.requires.all fresh.1 fresh.2 reach rest few many long took i p.now low,
-        sym c.thieves.invariant.reached.0 ∙ deques,
-      ),
+      subst (λ (x : D). IsAtWork g.B.Work.has_room id links crew.nodes crew.seats stealers x) (sym is) (
+          at_work id links crew.nodes crew.seats stealers g.B.Work.has_room (get_or mid i p.now) (get_or started i p.now)
+          (ready id links crew.nodes crew.seats stealers g.B.Work.has_room fresh.0 all first mid c.requires.all fresh.1 fresh.2 reach rest few many long took i p.now low')
+          (begun.1 i p.now p.now low')
+          ),
       (search rules, search rules, search rules),
     )
 
@@ -83,10 +118,12 @@ end-requires-clause-places g c κs within =
     let mid : List D = c.begin.new.places in
     let long : length mid ≡ length first = c.begin.auto.places in
     let took = c.begin.ensures.places in
+    let started : List D = c.start_all.new.places in
+    let begun : Begun id links crew.nodes crew.seats stealers mid started = subst (λ (ss : List Stealer). Begun id links crew.nodes crew.seats ss mid started) c.as_slice.ensures.value c.start_all.ensures in
     let new : List D = c.for_each_mut.new.s in
-    let long' : length new ≡ length mid = c.for_each_mut.auto.s in
-    let P : D → D → Type 0 = HasPlayedOn id links crew.nodes crew.seats stealers in
-    let played : Played id links crew.nodes crew.seats stealers mid new = λ k d low. let it = (c.for_each_mut.ensures k d low).1 in subst (λ (z : D × D). P z.0 z.1) (λ j. (it.argument_is j, it.left j)) it.call in
+    let long' : length new ≡ length mid = c.for_each_mut.auto.s ∙ begun.0 in
+    let W : D → D → Type 0 = WorksOn id links crew.nodes crew.seats stealers in
+    let played : Played id links crew.nodes crew.seats stealers mid new = played_on id links crew.nodes crew.seats stealers mid started new begun (λ k d low. let it = (c.for_each_mut.ensures k d low).1 in subst (λ (z : D × D). W z.0 z.1) (λ j. (it.argument_is j, it.left j)) it.call) in
     may_leave id links crew.nodes crew.seats stealers all first mid new reach rest many long long' took played
 
 pub end-requires-clause-seats : goal.end-requires-clause-seats
@@ -108,10 +145,12 @@ end-requires-clause-seats g c κs within =
     let mid : List D = c.begin.new.places in
     let long : length mid ≡ length first = c.begin.auto.places in
     let took = c.begin.ensures.places in
+    let started : List D = c.start_all.new.places in
+    let begun : Begun id links crew.nodes crew.seats stealers mid started = subst (λ (ss : List Stealer). Begun id links crew.nodes crew.seats ss mid started) c.as_slice.ensures.value c.start_all.ensures in
     let new : List D = c.for_each_mut.new.s in
-    let long' : length new ≡ length mid = c.for_each_mut.auto.s in
-    let P : D → D → Type 0 = HasPlayedOn id links crew.nodes crew.seats stealers in
-    let played : Played id links crew.nodes crew.seats stealers mid new = λ k d low. let it = (c.for_each_mut.ensures k d low).1 in subst (λ (z : D × D). P z.0 z.1) (λ j. (it.argument_is j, it.left j)) it.call in
+    let long' : length new ≡ length mid = c.for_each_mut.auto.s ∙ begun.0 in
+    let W : D → D → Type 0 = WorksOn id links crew.nodes crew.seats stealers in
+    let played : Played id links crew.nodes crew.seats stealers mid new = played_on id links crew.nodes crew.seats stealers mid started new begun (λ k d low. let it = (c.for_each_mut.ensures k d low).1 in subst (λ (z : D × D). W z.0 z.1) (λ j. (it.argument_is j, it.left j)) it.call) in
     let room : length all ≤ vec_capacity c.args.seats.now = search rules in
     let kept = c.begin.ensures.seats.1 in
     (c.begin.ensures.seats.0, omega (arith, room, kept, many, long, long'))
@@ -135,10 +174,12 @@ invariant_of-thieves g c =
     let mid : List D = c.begin.new.places in
     let long : length mid ≡ length first = c.begin.auto.places in
     let took = c.begin.ensures.places in
+    let started : List D = c.start_all.new.places in
+    let begun : Begun id links crew.nodes crew.seats stealers mid started = subst (λ (ss : List Stealer). Begun id links crew.nodes crew.seats ss mid started) c.as_slice.ensures.value c.start_all.ensures in
     let new : List D = c.for_each_mut.new.s in
-    let long' : length new ≡ length mid = c.for_each_mut.auto.s in
-    let P : D → D → Type 0 = HasPlayedOn id links crew.nodes crew.seats stealers in
-    let played : Played id links crew.nodes crew.seats stealers mid new = λ k d low. let it = (c.for_each_mut.ensures k d low).1 in subst (λ (z : D × D). P z.0 z.1) (λ j. (it.argument_is j, it.left j)) it.call in
+    let long' : length new ≡ length mid = c.for_each_mut.auto.s ∙ begun.0 in
+    let W : D → D → Type 0 = WorksOn id links crew.nodes crew.seats stealers in
+    let played : Played id links crew.nodes crew.seats stealers mid new = played_on id links crew.nodes crew.seats stealers mid started new begun (λ k d low. let it = (c.for_each_mut.ensures k d low).1 in subst (λ (z : D × D). W z.0 z.1) (λ j. (it.argument_is j, it.left j)) it.call) in
     let last : List D = c.end.new.places in
     let long'' : length last ≡ length new = c.end.auto.places in
     let back : List A = c.end.new.seats.items in
@@ -170,10 +211,12 @@ sweep_all-requires-clause-seats g c κs within =
     let mid : List D = c.begin.new.places in
     let long : length mid ≡ length first = c.begin.auto.places in
     let took = c.begin.ensures.places in
+    let started : List D = c.start_all.new.places in
+    let begun : Begun id links crew.nodes crew.seats stealers mid started = subst (λ (ss : List Stealer). Begun id links crew.nodes crew.seats ss mid started) c.as_slice.ensures.value c.start_all.ensures in
     let new : List D = c.for_each_mut.new.s in
-    let long' : length new ≡ length mid = c.for_each_mut.auto.s in
-    let P : D → D → Type 0 = HasPlayedOn id links crew.nodes crew.seats stealers in
-    let played : Played id links crew.nodes crew.seats stealers mid new = λ k d low. let it = (c.for_each_mut.ensures k d low).1 in subst (λ (z : D × D). P z.0 z.1) (λ j. (it.argument_is j, it.left j)) it.call in
+    let long' : length new ≡ length mid = c.for_each_mut.auto.s ∙ begun.0 in
+    let W : D → D → Type 0 = WorksOn id links crew.nodes crew.seats stealers in
+    let played : Played id links crew.nodes crew.seats stealers mid new = played_on id links crew.nodes crew.seats stealers mid started new begun (λ k d low. let it = (c.for_each_mut.ensures k d low).1 in subst (λ (z : D × D). W z.0 z.1) (λ j. (it.argument_is j, it.left j)) it.call) in
     let last : List D = c.end.new.places in
     let long'' : length last ≡ length new = c.end.auto.places in
     let back : List A = c.end.new.seats.items in
@@ -202,10 +245,12 @@ returns-clause-all g c =
     let mid : List D = c.begin.new.places in
     let long : length mid ≡ length first = c.begin.auto.places in
     let took = c.begin.ensures.places in
+    let started : List D = c.start_all.new.places in
+    let begun : Begun id links crew.nodes crew.seats stealers mid started = subst (λ (ss : List Stealer). Begun id links crew.nodes crew.seats ss mid started) c.as_slice.ensures.value c.start_all.ensures in
     let new : List D = c.for_each_mut.new.s in
-    let long' : length new ≡ length mid = c.for_each_mut.auto.s in
-    let P : D → D → Type 0 = HasPlayedOn id links crew.nodes crew.seats stealers in
-    let played : Played id links crew.nodes crew.seats stealers mid new = λ k d low. let it = (c.for_each_mut.ensures k d low).1 in subst (λ (z : D × D). P z.0 z.1) (λ j. (it.argument_is j, it.left j)) it.call in
+    let long' : length new ≡ length mid = c.for_each_mut.auto.s ∙ begun.0 in
+    let W : D → D → Type 0 = WorksOn id links crew.nodes crew.seats stealers in
+    let played : Played id links crew.nodes crew.seats stealers mid new = played_on id links crew.nodes crew.seats stealers mid started new begun (λ k d low. let it = (c.for_each_mut.ensures k d low).1 in subst (λ (z : D × D). W z.0 z.1) (λ j. (it.argument_is j, it.left j)) it.call) in
     let last : List D = c.end.new.places in
     let long'' : length last ≡ length new = c.end.auto.places in
     let back : List A = c.end.new.seats.items in
@@ -236,10 +281,12 @@ returns-clause-played g c =
     let mid : List D = c.begin.new.places in
     let long : length mid ≡ length first = c.begin.auto.places in
     let took = c.begin.ensures.places in
+    let started : List D = c.start_all.new.places in
+    let begun : Begun id links crew.nodes crew.seats stealers mid started = subst (λ (ss : List Stealer). Begun id links crew.nodes crew.seats ss mid started) c.as_slice.ensures.value c.start_all.ensures in
     let new : List D = c.for_each_mut.new.s in
-    let long' : length new ≡ length mid = c.for_each_mut.auto.s in
-    let P : D → D → Type 0 = HasPlayedOn id links crew.nodes crew.seats stealers in
-    let played : Played id links crew.nodes crew.seats stealers mid new = λ k d low. let it = (c.for_each_mut.ensures k d low).1 in subst (λ (z : D × D). P z.0 z.1) (λ j. (it.argument_is j, it.left j)) it.call in
+    let long' : length new ≡ length mid = c.for_each_mut.auto.s ∙ begun.0 in
+    let W : D → D → Type 0 = WorksOn id links crew.nodes crew.seats stealers in
+    let played : Played id links crew.nodes crew.seats stealers mid new = played_on id links crew.nodes crew.seats stealers mid started new begun (λ k d low. let it = (c.for_each_mut.ensures k d low).1 in subst (λ (z : D × D). W z.0 z.1) (λ j. (it.argument_is j, it.left j)) it.call) in
     let last : List D = c.end.new.places in
     let long'' : length last ≡ length new = c.end.auto.places in
     let back : List A = c.end.new.seats.items in
@@ -270,10 +317,12 @@ returns-clause-before g c before know =
     let mid : List D = c.begin.new.places in
     let long : length mid ≡ length first = c.begin.auto.places in
     let took = c.begin.ensures.places in
+    let started : List D = c.start_all.new.places in
+    let begun : Begun id links crew.nodes crew.seats stealers mid started = subst (λ (ss : List Stealer). Begun id links crew.nodes crew.seats ss mid started) c.as_slice.ensures.value c.start_all.ensures in
     let new : List D = c.for_each_mut.new.s in
-    let long' : length new ≡ length mid = c.for_each_mut.auto.s in
-    let P : D → D → Type 0 = HasPlayedOn id links crew.nodes crew.seats stealers in
-    let played : Played id links crew.nodes crew.seats stealers mid new = λ k d low. let it = (c.for_each_mut.ensures k d low).1 in subst (λ (z : D × D). P z.0 z.1) (λ j. (it.argument_is j, it.left j)) it.call in
+    let long' : length new ≡ length mid = c.for_each_mut.auto.s ∙ begun.0 in
+    let W : D → D → Type 0 = WorksOn id links crew.nodes crew.seats stealers in
+    let played : Played id links crew.nodes crew.seats stealers mid new = played_on id links crew.nodes crew.seats stealers mid started new begun (λ k d low. let it = (c.for_each_mut.ensures k d low).1 in subst (λ (z : D × D). W z.0 z.1) (λ j. (it.argument_is j, it.left j)) it.call) in
     let last : List D = c.end.new.places in
     let long'' : length last ≡ length new = c.end.auto.places in
     let back : List A = c.end.new.seats.items in
@@ -304,10 +353,12 @@ returns-clause-ended g c before know =
     let mid : List D = c.begin.new.places in
     let long : length mid ≡ length first = c.begin.auto.places in
     let took = c.begin.ensures.places in
+    let started : List D = c.start_all.new.places in
+    let begun : Begun id links crew.nodes crew.seats stealers mid started = subst (λ (ss : List Stealer). Begun id links crew.nodes crew.seats ss mid started) c.as_slice.ensures.value c.start_all.ensures in
     let new : List D = c.for_each_mut.new.s in
-    let long' : length new ≡ length mid = c.for_each_mut.auto.s in
-    let P : D → D → Type 0 = HasPlayedOn id links crew.nodes crew.seats stealers in
-    let played : Played id links crew.nodes crew.seats stealers mid new = λ k d low. let it = (c.for_each_mut.ensures k d low).1 in subst (λ (z : D × D). P z.0 z.1) (λ j. (it.argument_is j, it.left j)) it.call in
+    let long' : length new ≡ length mid = c.for_each_mut.auto.s ∙ begun.0 in
+    let W : D → D → Type 0 = WorksOn id links crew.nodes crew.seats stealers in
+    let played : Played id links crew.nodes crew.seats stealers mid new = played_on id links crew.nodes crew.seats stealers mid started new begun (λ k d low. let it = (c.for_each_mut.ensures k d low).1 in subst (λ (z : D × D). W z.0 z.1) (λ j. (it.argument_is j, it.left j)) it.call) in
     let last : List D = c.end.new.places in
     let long'' : length last ≡ length new = c.end.auto.places in
     let back : List A = c.end.new.seats.items in
@@ -342,10 +393,12 @@ returns-clause-empty g c =
     let mid : List D = c.begin.new.places in
     let long : length mid ≡ length first = c.begin.auto.places in
     let took = c.begin.ensures.places in
+    let started : List D = c.start_all.new.places in
+    let begun : Begun id links crew.nodes crew.seats stealers mid started = subst (λ (ss : List Stealer). Begun id links crew.nodes crew.seats ss mid started) c.as_slice.ensures.value c.start_all.ensures in
     let new : List D = c.for_each_mut.new.s in
-    let long' : length new ≡ length mid = c.for_each_mut.auto.s in
-    let P : D → D → Type 0 = HasPlayedOn id links crew.nodes crew.seats stealers in
-    let played : Played id links crew.nodes crew.seats stealers mid new = λ k d low. let it = (c.for_each_mut.ensures k d low).1 in subst (λ (z : D × D). P z.0 z.1) (λ j. (it.argument_is j, it.left j)) it.call in
+    let long' : length new ≡ length mid = c.for_each_mut.auto.s ∙ begun.0 in
+    let W : D → D → Type 0 = WorksOn id links crew.nodes crew.seats stealers in
+    let played : Played id links crew.nodes crew.seats stealers mid new = played_on id links crew.nodes crew.seats stealers mid started new begun (λ k d low. let it = (c.for_each_mut.ensures k d low).1 in subst (λ (z : D × D). W z.0 z.1) (λ j. (it.argument_is j, it.left j)) it.call) in
     let last : List D = c.end.new.places in
     let long'' : length last ≡ length new = c.end.auto.places in
     let back : List A = c.end.new.seats.items in

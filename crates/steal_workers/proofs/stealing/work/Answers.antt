@@ -12,7 +12,7 @@ returns-in_default-find g c =
       thief = thief_of c.loop.seat c.find.new.passes;
       there = refl;
       deque = deque_stays c.args.place.now.deque c.loop.deque c.find.new.deque i.deque c.find.ensures.deque;
-      behind = λ before is. let b = i.behind before is in record { number = b.number; sits = b.sits; worked = b.worked; passes = c.find.ensures.passes; room = c.find.ensures.room ∙ b.room };
+      behind = λ before is. let b = i.behind before is in record { number = b.number; sits = b.sits; links_stay = b.links_stay; before_stays = b.before_stays; started_stay = b.started_stay; none_held = b.none_held; left = b.left; passes = c.find.ensures.passes; room = c.find.ensures.room ∙ b.room };
     }
 
 pub returns : goal.returns
