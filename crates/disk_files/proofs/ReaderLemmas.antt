@@ -10,8 +10,8 @@ use Rattle.record_ring.specs.Rings.{Sending, Getting, IsPair}
 use Rattle.disk_player.specs.Files.{HasPut, PlaysFile}
 use Rattle.disk_player.specs.Playing.{Playing}
 use Rattle.disk_player.specs.Turning.{Breaks, HowEnds, PutsEach, PutsOn, Turns}
-use Rattle.disk_player.specs.declared.player.Turn.{Turn}
-use Rattle.disk_player.specs.declared.player.Turn.TheVariants.{Put, Full, Ended}
+use Rattle.disk_player.specs.declared.player.TurnEnd.{TurnEnd}
+use Rattle.disk_player.specs.declared.player.TurnEnd.TheVariants.{Put, Full, Ended}
 use Rattle.disk_player.proofs.FileLemmas.{broken-put, turned}
 use Rattle.disk_files.specs.Readers.{BreaksAhead, ReadsAhead, TellsAhead}
 
@@ -45,7 +45,7 @@ on-ring n before passed on = ring-on before.sending on.sent passed.sending (puts
       most = ap (λ (s : Sending). s.most) (on.ended is);
     }
 
-how-ring : (most count : ℕ) (passed after : Playing) (turn : Turn) → HowEnds most count passed after turn → IsRing passed.sending after.sending
+how-ring : (most count : ℕ) (passed after : Playing) (turn : TurnEnd) → HowEnds most count passed after turn → IsRing passed.sending after.sending
 how-ring most count passed after (Put n) how = ring-same passed.sending after.sending (ap (λ (p : Playing). p.sending) how.3)
 how-ring most count passed after Ended how = ring-same passed.sending after.sending (ap (λ (p : Playing). p.sending) how.2)
 how-ring most count passed after (Full sent taken) how = record {
@@ -57,7 +57,7 @@ how-ring most count passed after (Full sent taken) how = record {
 pair-on : (before after : Sending) (getting : Getting) → IsRing before after → IsPair before getting → IsPair after getting
 pair-on before after getting ring pair = record { one = ring.table ∙ pair.one; same_samples = ring.samples ∙ pair.same_samples; same_most = ring.most ∙ pair.same_most }
 
-pub turns-pair : (most : ℕ) (before after : Playing) (turn : Turn) (getting : Getting) → Turns most before after turn → IsPair before.sending getting → IsPair after.sending getting
+pub turns-pair : (most : ℕ) (before after : Playing) (turn : TurnEnd) (getting : Getting) → Turns most before after turn → IsPair before.sending getting → IsPair after.sending getting
 turns-pair most before after turn getting turns pair =
     pair-on before.sending after.sending getting
     (ring-on before.sending turns.passed.sending after.sending (on-ring turns.count before turns.passed turns.puts) (how-ring most turns.count turns.passed after turn turns.ends)) pair
@@ -65,7 +65,7 @@ turns-pair most before after turn getting turns pair =
 pub breaks-pair : (most : ℕ) (before after : Playing) (getting : Getting) → Breaks most before after → IsPair before.sending getting → IsPair after.sending getting
 breaks-pair most before after getting breaks pair = pair-on before.sending after.sending getting (puts-ring before.sending after.sending breaks.blocks breaks.puts) pair
 
-pub either-pair : {E : Type 0} (result : Result Turn E) (most : ℕ) (before after : Playing) (getting : Getting) → IfOk result (Turns most before after) → OnErr result (Breaks most before after) → IsPair before.sending getting → IsPair after.sending getting
+pub either-pair : {E : Type 0} (result : Result TurnEnd E) (most : ℕ) (before after : Playing) (getting : Getting) → IfOk result (Turns most before after) → OnErr result (Breaks most before after) → IsPair before.sending getting → IsPair after.sending getting
 either-pair (Ok turn) most before after getting turns breaks pair = turns-pair most before after turn getting turns pair
 either-pair (Err error) most before after getting turns breaks pair = breaks-pair most before after getting breaks pair
 
@@ -75,7 +75,7 @@ either-pair (Err error) most before after getting turns breaks pair = breaks-pai
 told : {before : Playing} {got : Getting} {after : Playing} {got_after : Getting} → TellsAhead before got after got_after → after ≡ record before { sending = record before.sending { least = length got.got } }
 told {before = before} tells = tells.same ∙ ap (λ (s : Sending). record before { sending = s }) tells.tells.sending_is
 
-pub reads-ahead : (most : ℕ) (before : Playing) (got : Getting) (turned : Playing) (turn : Turn) (after : Playing) (got_after : Getting) → Turns most before turned turn → TellsAhead turned got after got_after → ReadsAhead most before got after got_after
+pub reads-ahead : (most : ℕ) (before : Playing) (got : Getting) (turned : Playing) (turn : TurnEnd) (after : Playing) (got_after : Getting) → Turns most before turned turn → TellsAhead turned got after got_after → ReadsAhead most before got after got_after
 reads-ahead most before got behind turn after got_after turns tells = record {
   turn = turn;
   turned = behind;

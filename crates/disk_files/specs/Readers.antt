@@ -9,7 +9,7 @@ use Rattle.record_ring.specs.Rings.{Getting, Tells}
 use Rattle.disk_player.specs.Files.{HasPut, PlaysFile}
 use Rattle.disk_player.specs.Playing.{Playing}
 use Rattle.disk_player.specs.Turning.{Breaks, Turns}
-use Rattle.disk_player.specs.declared.player.Turn.{Turn}
+use Rattle.disk_player.specs.declared.player.TurnEnd.{TurnEnd}
 
 -- nothing else of the player changes
 pub record TellsAhead (before : Playing) (got : Getting) (after : Playing) (got_after : Getting) : Type 0 where
@@ -18,7 +18,7 @@ pub record TellsAhead (before : Playing) (got : Getting) (after : Playing) (got_
 
 -- where all blocks of the file are put, the end stands
 pub record ReadsAhead (most : ℕ) (before : Playing) (got : Getting) (after : Playing) (got_after : Getting) : Type 0 where
-  pub turn : Turn
+  pub turn : TurnEnd
   pub turned : Playing
   pub turns : Turns most before turned turn
   pub tells : TellsAhead turned got after got_after

@@ -19,8 +19,8 @@ use Rattle.disk_player.proofs.StepLemmas.{all-within, below-join, cut-later, les
 use Rattle.disk_player.specs.Files.{HasPut, PlaysFile, block_of_file}
 use Rattle.disk_player.specs.Playing.{AreBlocks, Playing, cut_block, in_hand}
 use Rattle.disk_player.specs.Turning.{Breaks, HowEnds, PutsEach, PutsOn, samples_of}
-use Rattle.disk_player.specs.declared.player.Turn.{Turn}
-use Rattle.disk_player.specs.declared.player.Turn.TheVariants.{Put, Full, Ended}
+use Rattle.disk_player.specs.declared.player.TurnEnd.{TurnEnd}
+use Rattle.disk_player.specs.declared.player.TurnEnd.TheVariants.{Put, Full, Ended}
 
 pub cut-file : (file : DiskFile) (period i : ℕ) → cut_block (file.channels * period) file.samples i ≡ block_of_file file period i
 cut-file file period i =
@@ -161,7 +161,7 @@ module _ (file : DiskFile) (period : ℕ) (before : Playing) (plays : PlaysFile 
             absurd (omega (arith, count, one, within, all, ap length sent-put))
 
     -- behind the last put nothing is put, and no end is made
-    pub turned : (most : ℕ) (after : Playing) (turn : Turn) → HowEnds most n passed after turn → PlaysFile file period after × (length after.sending.put ≡ blocks_of file period → after.sending.ended ≡ true)
+    pub turned : (most : ℕ) (after : Playing) (turn : TurnEnd) → HowEnds most n passed after turn → PlaysFile file period after × (length after.sending.put ≡ blocks_of file period → after.sending.ended ≡ true)
     turned most after (Put m) how = subst (λ (p : Playing). PlaysFile file period p × (length p.sending.put ≡ blocks_of file period → p.sending.ended ≡ true)) (sym how.3) (goes-with, ends-with)
     turned most after Ended how = subst (λ (p : Playing). PlaysFile file period p × (length p.sending.put ≡ blocks_of file period → p.sending.ended ≡ true)) (sym how.2) (goes-with, ends-with)
     turned most after (Full sent taken) how =

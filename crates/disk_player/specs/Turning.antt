@@ -11,8 +11,8 @@ use Rattle.std.specs.Prelude.{◌≡◌, ℕ, ◌*◌, ◌<◌, ◌≤◌, true,
 use Rattle.session_model.specs.Rings.{RingBlock}
 use Rattle.record_ring.specs.Rings.{Sending, Puts, IsFull}
 use Rattle.disk_player.specs.Playing.{AreBlocks, Playing, in_hand}
-use Rattle.disk_player.specs.declared.player.Turn.{Turn}
-use Rattle.disk_player.specs.declared.player.Turn.TheVariants.{Put, Full, Ended}
+use Rattle.disk_player.specs.declared.player.TurnEnd.{TurnEnd}
+use Rattle.disk_player.specs.declared.player.TurnEnd.TheVariants.{Put, Full, Ended}
 
 abbrev pub samples_of : List RingBlock → List (List ℤ)
 samples_of blocks = map (λ (block : RingBlock). block.samples) blocks
@@ -50,14 +50,14 @@ pub record PutsOn (count : ℕ) (before after : Playing) : Type 0 where
   pub ready : IsReady after
 
 -- a turn ends behind as many blocks as it may put, where a put finds the ring full, or where all of the file was put
-abbrev pub HowEnds : ℕ → ℕ → Playing → Playing → Turn → Type 0
+abbrev pub HowEnds : ℕ → ℕ → Playing → Playing → TurnEnd → Type 0
 HowEnds most count passed after (Put n) = (n ≡ most) × (count ≡ most) × (passed.sending.ended ≡ false) × (after ≡ passed)
 HowEnds most count passed after (Full sent taken) =
     (count < most) × (passed.sending.ended ≡ false) × (sent ≡ length passed.sending.put) × IsFull passed.sending taken after.sending
     × (after ≡ record passed { sending = after.sending })
 HowEnds most count passed after Ended = (count ≤ most) × (passed.sending.ended ≡ true) × (after ≡ passed)
 
-pub record Turns (most : ℕ) (before after : Playing) (turn : Turn) : Type 0 where
+pub record Turns (most : ℕ) (before after : Playing) (turn : TurnEnd) : Type 0 where
   pub count : ℕ
   pub passed : Playing
   pub puts : PutsOn count before passed

@@ -6,7 +6,7 @@ ghost use Rattle.session_model.specs.Disks.{blocks_of};
 ghost use Rattle.disk_player.specs.Files.{HasPut, PlaysFile};
 ghost use Rattle.disk_player.specs.Playing.{Playing};
 ghost use Rattle.disk_player.specs.Turning.{Breaks, Turns};
-ghost use Rattle.disk_player.specs.declared.player.Turn.{Turn as TurnValue};
+ghost use Rattle.disk_player.specs.declared.player.TurnEnd.{TurnEnd as TurnEndValue};
 
 /// What a player of a file put are the file's first blocks, and all of them where the end stands.
 pub fn a_player_has_put_blocks_of_its_file()
@@ -15,8 +15,8 @@ pub fn a_player_has_put_blocks_of_its_file()
 
 /// A turn goes on with the file, and its end stands where all blocks of the file are put.
 pub fn a_turn_goes_on_with_its_file()
-    ensures plays { (file : DiskFile) (period most : ℕ) (before after : Playing) (turn : TurnValue) → PlaysFile file period before → Turns most before after turn → PlaysFile file period after }
-    ensures ends { (file : DiskFile) (period most : ℕ) (before after : Playing) (turn : TurnValue) → PlaysFile file period before → Turns most before after turn → length after.sending.put ≡ blocks_of file period → after.sending.ended ≡ true }
+    ensures plays { (file : DiskFile) (period most : ℕ) (before after : Playing) (turn : TurnEndValue) → PlaysFile file period before → Turns most before after turn → PlaysFile file period after }
+    ensures ends { (file : DiskFile) (period most : ℕ) (before after : Playing) (turn : TurnEndValue) → PlaysFile file period before → Turns most before after turn → length after.sending.put ≡ blocks_of file period → after.sending.ended ≡ true }
 {}
 
 /// Behind a turn in which a read failed, too, what was put are the file's first blocks.

@@ -8,4 +8,4 @@ pub use laws::{
     a_broken_turn_has_put_blocks_of_its_file, a_player_has_put_blocks_of_its_file,
     a_turn_goes_on_with_its_file,
 };
-pub use player::{DiskPlayer, Turn};
+pub use player::{DiskPlayer, TurnEnd};

@@ -13,7 +13,7 @@ use wave_pcm::Wave;
 
 /// How a turn of the player ended.
 #[derive(Clone, Copy, PartialEq, Eq, Debug, Drop)]
-pub enum Turn {
+pub enum TurnEnd {
     /// As many blocks were put as might be, and the file has more.
     Put(u32),
     /// A put found the ring full: so many blocks were sent, and so many taken.
@@ -153,7 +153,7 @@ impl<S: Source> DiskPlayer<S> {
     /// the ring ends. A block that the full ring refused waits for a later turn.
     ///
     /// After a failure only `tell` and `into_source` may be called.
-    pub fn turn(&mut self, most: u32) -> Result<Turn, ReadFailed>
+    pub fn turn(&mut self, most: u32) -> Result<TurnEnd, ReadFailed>
         requires { self.old.failed ≡ false }
         ensures ok { IfOk result (Turns most self.old self.new) }
         ensures err { OnErr result (Breaks most self.old self.new) }
@@ -163,17 +163,17 @@ impl<S: Source> DiskPlayer<S> {
         self.look_ahead()?;
         for count in 0..most {
             if self.is_over() {
-                return Ok(Turn::Ended);
+                return Ok(TurnEnd::Ended);
             }
             if let Err(Full { sent, taken }) = self.put() {
-                return Ok(Turn::Full { sent, taken });
+                return Ok(TurnEnd::Full { sent, taken });
             }
             self.look_ahead()?;
         }
         if self.is_over() {
-            Ok(Turn::Ended)
+            Ok(TurnEnd::Ended)
         } else {
-            Ok(Turn::Put(most))
+            Ok(TurnEnd::Put(most))
         }
     }
 

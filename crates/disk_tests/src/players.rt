@@ -1,6 +1,6 @@
 ghost use Rattle.std.specs.Prelude.{◌≡◌, IfOk, IfSome, false};
 
-use disk_player::{DiskPlayer, Turn};
+use disk_player::{DiskPlayer, TurnEnd};
 use jack_host::MemorySource;
 use record_ring::{Block, Consumer, Got, ring};
 use std::alloc::Global;
@@ -65,7 +65,7 @@ impl Disk {
     }
 
     // A turn that does not fail.
-    fn turn(&mut self, most: u32) -> Result<Turn, Fail>
+    fn turn(&mut self, most: u32) -> Result<TurnEnd, Fail>
         requires going { self.old.player.failed ≡ false }
         requires room { self.old.block.samples.room ≡ self.old.consumer.samples }
         ensures going { IfOk result (λ _. self.new.player.failed ≡ false) }
@@ -110,11 +110,11 @@ const THIRD: [i32; 4] = [9 << 16, 10 << 16, 0, 0];
 #[test]
 fn a_file_ends_with_its_last_block(rt: HostRuntime) -> Result<(), Fail> {
     let mut disk = Disk::over(rt.alloc(), TEN)?;
-    assert_eq!(rt; disk.turn(1)?, Turn::Put(1));
-    assert_eq!(rt; disk.turn(1)?, Turn::Put(1));
+    assert_eq!(rt; disk.turn(1)?, TurnEnd::Put(1));
+    assert_eq!(rt; disk.turn(1)?, TurnEnd::Put(1));
     has_block(&rt, &mut disk, &[1 << 16, 2 << 16, 3 << 16, 4 << 16]);
-    assert_eq!(rt; disk.turn(1)?, Turn::Ended);
-    assert_eq!(rt; disk.turn(1)?, Turn::Ended);
+    assert_eq!(rt; disk.turn(1)?, TurnEnd::Ended);
+    assert_eq!(rt; disk.turn(1)?, TurnEnd::Ended);
     has_block(&rt, &mut disk, &[5 << 16, 6 << 16, 7 << 16, 8 << 16]);
     has_block(&rt, &mut disk, &THIRD);
     assert_eq!(rt; disk.get(), Got::Ended);
@@ -124,10 +124,10 @@ fn a_file_ends_with_its_last_block(rt: HostRuntime) -> Result<(), Fail> {
 #[test]
 fn a_full_ring_keeps_the_block(rt: HostRuntime) -> Result<(), Fail> {
     let mut disk = Disk::over(rt.alloc(), TEN)?;
-    assert_eq!(rt; disk.turn(3)?, Turn::Full { sent: 2, taken: 0 });
-    assert_eq!(rt; disk.turn(3)?, Turn::Full { sent: 2, taken: 0 });
+    assert_eq!(rt; disk.turn(3)?, TurnEnd::Full { sent: 2, taken: 0 });
+    assert_eq!(rt; disk.turn(3)?, TurnEnd::Full { sent: 2, taken: 0 });
     assert_eq!(rt; disk.get(), Got::Block);
-    assert_eq!(rt; disk.turn(3)?, Turn::Ended);
+    assert_eq!(rt; disk.turn(3)?, TurnEnd::Ended);
     assert_eq!(rt; disk.get(), Got::Block);
     has_block(&rt, &mut disk, &THIRD);
     assert_eq!(rt; disk.get(), Got::Ended);
@@ -137,9 +137,9 @@ fn a_full_ring_keeps_the_block(rt: HostRuntime) -> Result<(), Fail> {
 #[test]
 fn a_turn_of_no_block_reads_ahead(rt: HostRuntime) -> Result<(), Fail> {
     let mut disk = Disk::over(rt.alloc(), FOUR)?;
-    assert_eq!(rt; disk.turn(0)?, Turn::Put(0));
+    assert_eq!(rt; disk.turn(0)?, TurnEnd::Put(0));
     assert_eq!(rt; disk.get(), Got::Empty { sent: 0, taken: 0 });
-    assert_eq!(rt; disk.turn(1)?, Turn::Ended);
+    assert_eq!(rt; disk.turn(1)?, TurnEnd::Ended);
     assert_eq!(rt; disk.get(), Got::Block);
     assert_eq!(rt; disk.get(), Got::Ended);
     Ok(())
@@ -148,7 +148,7 @@ fn a_turn_of_no_block_reads_ahead(rt: HostRuntime) -> Result<(), Fail> {
 #[test]
 fn a_file_without_a_frame_is_ended_at_once(rt: HostRuntime) -> Result<(), Fail> {
     let mut disk = Disk::over(rt.alloc(), NONE)?;
-    assert_eq!(rt; disk.turn(0)?, Turn::Ended);
+    assert_eq!(rt; disk.turn(0)?, TurnEnd::Ended);
     assert_eq!(rt; disk.get(), Got::Ended);
     Ok(())
 }

@@ -5,7 +5,7 @@
 --     echo-played, echo-kept      one frame of the output, and of what is kept
 --     last-one, last-none      the last sample
 --     echo-all, last-all      all frames
---     IsKept, IsPlayed      what a loop over the frames keeps
+--     IsKept, HasEchoed      what a loop over the frames keeps
 use Rattle.std.proofs.Common.{◌≡◌, ℕ, zero, suc, ◌+◌, ◌-◌, ◌<◌, ◌≤◌, ◌⊎◌, inl, inr, List, [], ◌∷◌, ◌++◌, append-nil, append_assoc, add-one, length, drop, take, set, ℤ, pos, ◌+ℤ◌, ◌*ℤ◌, refl, sym, ◌∙◌, ap, ap₂, arith, length-append, length-drop}
 use Rattle.std.specs.Int.{int_shr}
 use Rattle.std.proofs.lemmas.Bool.{cases_lt}
@@ -140,7 +140,7 @@ pub record IsKept (gain : ℤ) (shift : ℕ) (first : List ℤ) (frames period :
   pub kept : last frames (line.items ++ echoed gain shift line.items (drop frame (heard period x))) ≡ last frames (first ++ echoed gain shift first (heard period x))
 
 -- and what is played of it
-pub record IsPlayed (gain : ℤ) (shift : ℕ) (first : List ℤ) (period : ℕ) (x : List ℤ) (frame : ℕ) (line : Buffer ℤ) (part : List ℤ) : Type 0 where
+pub record HasEchoed (gain : ℤ) (shift : ℕ) (first : List ℤ) (period : ℕ) (x : List ℤ) (frame : ℕ) (line : Buffer ℤ) (part : List ℤ) : Type 0 where
   pub size : length part ≡ period
   pub played : take frame part ++ echoed gain shift line.items (drop frame (heard period x)) ≡ echoed gain shift first (heard period x)
 
@@ -167,7 +167,7 @@ module _ (gain : ℤ) (shift : ℕ) (first : List ℤ) (frames period : ℕ) (x 
           ∙ h.kept;
     }
 
-    pub played-next : (part : List ℤ) (v : ℤ) → v ≡ y → IsPlayed gain shift first period x frame line part → IsPlayed gain shift first period x (frame + 1) next (set part frame v)
+    pub played-next : (part : List ℤ) (v : ℤ) → v ≡ y → HasEchoed gain shift first period x frame line part → HasEchoed gain shift first period x (frame + 1) next (set part frame v)
     played-next part v same h = record {
       size = length-set part frame v ∙ h.size;
       played = ap₂ (λ a l. take (frame + 1) (set part frame a) ++ echoed gain shift l (drop (frame + 1) (heard period x))) same items
@@ -178,6 +178,6 @@ module _ (gain : ℤ) (shift : ℕ) (first : List ℤ) (frames period : ℕ) (x 
   pub kept-all : (frame : ℕ) (line : Buffer ℤ) → period ≤ frame → IsKept gain shift first frames period x frame line → line ≡ buffer (last frames (first ++ echoed gain shift first (heard period x))) frames
   kept-all frame line past h = λ i. record { items = (sym (last-all gain shift period frame x line.items frames past h.whole.size) ∙ h.kept) i; capacity = h.whole.room i }
 
-  pub played-all_frames : (frame : ℕ) (line : Buffer ℤ) (part : List ℤ) → period ≤ frame → IsPlayed gain shift first period x frame line part → part ≡ echoed gain shift first (heard period x)
+  pub played-all_frames : (frame : ℕ) (line : Buffer ℤ) (part : List ℤ) → period ≤ frame → HasEchoed gain shift first period x frame line part → part ≡ echoed gain shift first (heard period x)
   played-all_frames frame line part past h =
       sym (take_all frame part (omega (arith, past, h.size))) ∙ sym (echo-all gain shift period frame x line.items part past) ∙ h.played

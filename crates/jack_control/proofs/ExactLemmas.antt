@@ -17,7 +17,8 @@ use Rattle.jack_control.specs.declared.status.Difference.{Difference}
 use Rattle.jack_control.specs.declared.status.Status.{Status}
 use Rattle.jack_control.specs.declared.status.Status.TheVariants.{Ok, NoMemory, Words, ReadFault, BadWave, BadScript, WriteFault, Differs, Wrong}
 use Rattle.jack_control.specs.Answers.{HasInput, HasRefusal, IfCapture, IfInput, IfScript, IsFirstDifference, LacksInput, PlayStatus}
-use Rattle.jack_control.specs.Inputs.{Files, IfBytes, IsBadScript, IsBadWave, IsCapture, IsDifferent, IsPlayed, IsScriptOf, difference_in}
+use Rattle.jack_control.specs.Inputs.{Files, IfBytes, IsBadScript, IsBadWave, IsCapture, IsDifferent, IsScriptOf, difference_in}
+use Rattle.session_run.specs.Seen.{IsServed}
 use Rattle.jack_control.specs.Plays.{IsExplained}
 use Rattle.jack_control.proofs.OpeningLemmas.{differs}
 
@@ -42,7 +43,7 @@ one_some o x y e f = cc
 good_script : (whole : List ℕ) (script : Script) (fault : ScriptFault) → IsScriptOf whole script → IsBadScript whole fault → ⊥
 good_script whole script fault is (inl found) = some_none (script_fault (take 1048577 whole)) fault found (no_fault (take 1048577 whole) script is.spelled)
 good_script whole script fault is (inr other) =
-    other.2 (subst (λ (s : Script). IsPlayed s) (one_script (take 1048577 whole) script other.0 is.spelled other.1) is.played)
+    other.2 (subst (λ (s : Script). IsServed s) (one_script (take 1048577 whole) script other.0 is.spelled other.1) is.played)
 
 -- and a script has one fault
 one_fault : (whole : List ℕ) (a b : ScriptFault) → IsBadScript whole a → IsBadScript whole b → a ≡ b

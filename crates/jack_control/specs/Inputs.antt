@@ -1,6 +1,5 @@
 -- What a play is given by its files.
 --     IfBytes files name P      what holds of a name's bytes, where the files are told
---     IsPlayed script      a script that is played yet
 --     line_at bytes place      the number of a line among those that are said
 --     unplayable bytes      the fault of a lawful script that is not played yet
 --     IsBadScript bytes fault      why a script can't be played
@@ -36,10 +35,6 @@ abbrev pub IfBytes : Option Files → List ℕ → (List ℕ → Type 0) → Typ
 IfBytes None name P = ⊤
 IfBytes (Some files) name P = (bytes : List ℕ) × (bytes_under files name ≡ Some bytes) × P bytes
 
--- a script before version 3
-pub record IsPlayed (script : Script) : Type 0 where
-  pub served : IsServed script
-
 -- the number of the line at a place among those that are said, counted from 0; 0 where there is none
 abbrev pub line_at : List ℕ → ℕ → ℕ
 line_at bytes place = slice_index_or (map (λ line. line.number) (said bytes)) place 0
@@ -50,7 +45,7 @@ unplayable bytes = record { line = line_at bytes 0; cause = Choice 3 }
 
 -- the bytes have this fault, or spell a script that is not played yet
 abbrev pub IsFaulty : List ℕ → ScriptFault → Type 0
-IsFaulty bytes fault = (script_fault bytes ≡ Some fault) ⊎ ((script : Script) × Spells bytes script × (IsPlayed script → ⊥) × (fault ≡ unplayable bytes))
+IsFaulty bytes fault = (script_fault bytes ≡ Some fault) ⊎ ((script : Script) × Spells bytes script × (IsServed script → ⊥) × (fault ≡ unplayable bytes))
 
 -- 1,048,577 bytes are read at most
 abbrev pub IsBadScript : List ℕ → ScriptFault → Type 0
@@ -59,7 +54,7 @@ IsBadScript bytes fault = IsFaulty (take 1048577 bytes) fault
 -- the bytes spell this script, and it is played
 pub record IsScriptOf (bytes : List ℕ) (script : Script) : Type 0 where
   pub spelled : Spells (take 1048577 bytes) script
-  pub played : IsPlayed script
+  pub played : IsServed script
 
 -- the first of the comparisons that need no capture: guests, recorders' files, disk files
 abbrev pub first_difference : Script → ℕ → ℕ → ℕ → Option Difference

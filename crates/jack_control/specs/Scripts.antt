@@ -7,13 +7,14 @@ use Rattle.jack_types.specs.declared.scripts.Cause.TheVariants as cause
 use Rattle.jack_types.specs.declared.scripts.ScriptFault.{ScriptFault}
 use Rattle.session_model.specs.Grammar.{Spells}
 use Rattle.session_model.specs.Scripts.{Script}
+use Rattle.session_run.specs.Seen.{IsServed}
 use Rattle.jack_control.specs.declared.status.Status.{Status}
 use Rattle.jack_control.specs.declared.status.Status.TheVariants.{Ok, NoMemory, Words, ReadFault, BadWave, BadScript, WriteFault, Differs, Wrong}
-use Rattle.jack_control.specs.Inputs.{Files, IfBytes, IsBadScript, IsPlayed}
+use Rattle.jack_control.specs.Inputs.{Files, IfBytes, IsBadScript}
 
 pub record IsRead (bytes : List ℕ) (script : Script) : Type 0 where
   pub spelled : Spells bytes script
-  pub played : IsPlayed script
+  pub played : IsServed script
 
 -- want of memory is no fault of the bytes
 abbrev pub status_of_cause : Cause → ScriptFault → Status

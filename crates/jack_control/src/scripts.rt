@@ -4,8 +4,9 @@ ghost use Rattle.std.specs.Prelude.{◌≡◌, ◌<◌, ◌≤◌, ◌⊎◌, If
 ghost use Rattle.jack_host.specs.Causes.{Rose};
 ghost use Rattle.jack_host.specs.Files.{IsThere, SameFiles};
 ghost use Rattle.jack_types.specs.declared.scripts.ScriptFault.{ScriptFault as FaultValue};
+ghost use Rattle.session_run.specs.Seen.{IsServed};
 ghost use Rattle.jack_control.specs.Answers.{HasOwnFault, IsScriptFault};
-ghost use Rattle.jack_control.specs.Inputs.{IfBytes, IsFaulty, IsPlayed, IsScriptOf, line_at, unplayable};
+ghost use Rattle.jack_control.specs.Inputs.{IfBytes, IsFaulty, IsScriptOf, line_at, unplayable};
 ghost use Rattle.jack_control.specs.Scripts.{IsRead, ScriptStatus, status_of_script};
 
 use crate::Status;
@@ -24,7 +25,7 @@ const VERSION_PLACE: usize = 0;
 
 // Whether a script is one that is played yet: before version 3.
 fn is_played(script: &Script) -> bool
-    ensures { IsTrue result ↔ IsPlayed script.now }
+    ensures { IsTrue result ↔ IsServed script.now }
 {
     script.header().version < 3
 }
@@ -94,7 +95,7 @@ pub(crate) fn read_script<H: Host>(
 ) -> Result<Script, Status>
     requires { H.lent host.old < 1000 }
     ensures script { IfOk result (λ script. IfBytes (H.files host.old) name.now (λ bytes. IsScriptOf bytes script)) }
-    ensures played { IfOk result (λ script. IsPlayed script) }
+    ensures played { IfOk result (λ script. IsServed script) }
     ensures fault { IfErr result (ScriptStatus (H.files host.old) name.now) }
     ensures own { IfErr result HasOwnFault }
     ensures read { IsErrOf result Status.ReadFault →

@@ -13,7 +13,7 @@ use Rattle.session_model.specs.Reports.{line}
 use Rattle.session_model.specs.Samples.{down, samples_of, total}
 use Rattle.session_model.specs.Serial.{serial}
 use Rattle.session_laws.proofs.WaveSamples.{length-samples_of}
-use Rattle.rehearsals.specs.Summaries.{IsPlayed, summary_of, units_behind}
+use Rattle.rehearsals.specs.Summaries.{IsRehearsal, summary_of, units_behind}
 
 shape : (r a nl c1 b sp rf c l3 p1 d sm e l5 l6 : List ℕ)
     → r ++ a ++ (nl ++ c1) ++ b ++ (sp ++ rf) ++ c ++ (nl ++ l3 ++ p1) ++ d ++ (sp ++ sm) ++ e ++ (nl ++ l5 ++ l6)
@@ -30,7 +30,7 @@ of_numbers n refused units =
     (codes "cycles 10000 frames 640000\n") (codes "playback 2560044 peak ") (decimal (greatest units)) (codes "sum ") (int_text (total units))
     (codes "record 1280044 blocks 10000 overruns 0\n") (codes "end\n")
 
-pub told_played : (n : ℕ) (history : List Entry) (playback : List ℕ) → IsPlayed n history playback
+pub told_played : (n : ℕ) (history : List Entry) (playback : List ℕ) → IsRehearsal n history playback
     → map (down 16) (samples_of 16 (drop 44 (playback_text (rehearsal n) (serial (rehearsal n).script)))) ≡ units_played n
     → summary_of n (count_by (λ (entry : Entry). is_refused entry.reply) history) (greatest (units_behind playback)) (total (units_behind playback)) ≡ summary_text n
 told_played n history playback is units =
@@ -38,7 +38,7 @@ told_played n history playback is units =
     ∙ of_numbers n (refused_in (rehearsal n)) (units_played n)
 
 -- how long the file is
-pub size_played : (n : ℕ) (history : List Entry) (playback : List ℕ) → IsPlayed n history playback → length (playback_text (rehearsal n) (serial (rehearsal n).script)) ≡ 2560044 → length playback ≡ 2560044
+pub size_played : (n : ℕ) (history : List Entry) (playback : List ℕ) → IsRehearsal n history playback → length (playback_text (rehearsal n) (serial (rehearsal n).script)) ≡ 2560044 → length playback ≡ 2560044
 size_played n history playback is size = ap (λ (bytes : List ℕ). length bytes) is.playback_is ∙ size
 
 -- the bytes behind the header

@@ -1,5 +1,5 @@
 -- What is printed of a rehearsal that was played.
---     IsPlayed n history playback      they are the history and the playback's file of serial mode. Callers cite it
+--     IsRehearsal n history playback      they are the history and the playback's file of serial mode. Callers cite it
 --     IsWithin x most      its magnitude is at most this. No public clause cites it
 --     units_behind bytes, IsTold n history units lines      what the lines are told from. No public clause cites them
 --     summary_of n refused peak sum      the six lines of these numbers. No public clause cites it
@@ -11,7 +11,7 @@ use Rattle.session_model.specs.Grammar.{int_text}
 use Rattle.session_model.specs.Samples.{down, samples_of, total}
 use Rattle.session_model.specs.Serial.{serial}
 
-pub record IsPlayed (n : ℕ) (history : List Entry) (playback : List ℕ) : Type 0 where
+pub record IsRehearsal (n : ℕ) (history : List Entry) (playback : List ℕ) : Type 0 where
   pub history_is : history ≡ (serial (rehearsal n).script).history
   pub playback_is : playback ≡ playback_text (rehearsal n) (serial (rehearsal n).script)
 

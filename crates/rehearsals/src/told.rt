@@ -3,7 +3,7 @@
 ghost use Rattle.std.specs.Prelude.{◌≡◌, ◌+◌, ◌*◌, ◌<◌, ◌≤◌, ◌^◌, ◌%◌, ◌++◌, ◌+ℤ◌, IfOk, count_by, decimal, length, map, max, nat_abs};
 ghost use Rattle.jack_types.specs.declared.replies.Entry.{Entry as EntryValue};
 ghost use Rattle.rehearsal_model.specs.Rehearsals.{greatest, is_refused, summary_text};
-ghost use Rattle.rehearsals.specs.Summaries.{IsPlayed, IsTold, IsWithin, summary_of, units_behind};
+ghost use Rattle.rehearsals.specs.Summaries.{IsRehearsal, IsTold, IsWithin, summary_of, units_behind};
 ghost use Rattle.session_model.specs.Grammar.{int_text};
 ghost use Rattle.session_model.specs.Samples.{down, samples_of, total};
 
@@ -160,7 +160,7 @@ pub fn summary(
     history: &[Entry],
     playback: &[u8],
 ) -> Result<Summary, Memory>
-    requires { IsPlayed number history.now playback.now }
+    requires { IsRehearsal number history.now playback.now }
     ensures { IfOk result (λ lines. lines.bytes ≡ summary_text number) }
 {
     rehearsal_is_played();

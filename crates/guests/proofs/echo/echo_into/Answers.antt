@@ -4,7 +4,7 @@ use Rattle.std.specs.Prelude.{FitsSigned}
 use Rattle.std.proofs.lemmas.Int.{to_z-of_z}
 use Rattle.session_model.specs.Samples.{clamp, sample}
 use mir.Val.{of_z, to_z}
-use Rattle.guests.proofs.EchoLemmas.{IsKept, IsPlayed, echo_of, kept-all, kept-first, kept-next, played-all_frames, played-next}
+use Rattle.guests.proofs.EchoLemmas.{IsKept, HasEchoed, echo_of, kept-all, kept-first, kept-next, played-all_frames, played-next}
 use Rattle.guests.proofs.echo.echo_into.Goals as goal
 
 pub loop-frame-init : goal.loop-frame-init
@@ -31,7 +31,7 @@ loop-frame-preserved c =
 pub returns-clause-played : goal.returns-clause-played
 returns-clause-played c =
     played-all_frames c.args.gain c.args.shift c.args.line.now.items c.args.line.now.capacity (length c.args.part.now) c.args.x.now c.loop-frame.frame c.loop-frame.line c.loop-frame.part (omega (arith, c.loop-frame-test.false, c.loop-frame.invariant.played.size))
-    (subst (λ (gain : ℤ). IsPlayed gain c.args.shift c.args.line.now.items (length c.args.part.now) c.args.x.now c.loop-frame.frame c.loop-frame.line c.loop-frame.part) (to_z-of_z w32 c.args.gain c.ranges.gain) c.loop-frame.invariant.played)
+    (subst (λ (gain : ℤ). HasEchoed gain c.args.shift c.args.line.now.items (length c.args.part.now) c.args.x.now c.loop-frame.frame c.loop-frame.line c.loop-frame.part) (to_z-of_z w32 c.args.gain c.ranges.gain) c.loop-frame.invariant.played)
 
 pub returns-clause-line : goal.returns-clause-line
 returns-clause-line c =

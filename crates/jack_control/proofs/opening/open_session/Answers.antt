@@ -72,7 +72,7 @@ returns-in-Ok-clause-opened g c =
       none = c.in-Ok.ensures.new.1;
       no_stores = c.in-Ok.ensures.new.2;
       recorders = c.in-Ok.ensures.recorders ∙ (all_fit script (length scores) (length play.records) (length play.disks) fits).1;
-      given = session-told files scores play script is after c.read_script.ensures.files fits c.in-Ok.session c.in_ok-script.ensures.played.served c.in-Ok.ensures.script c.in-Ok.ensures.scores opened;
+      given = session-told files scores play script is after c.read_script.ensures.files fits c.in-Ok.session c.in_ok-script.ensures.played c.in-Ok.ensures.script c.in-Ok.ensures.scores opened;
     }
 
 pub returns-in-Ok-clause-files : goal.returns-in-Ok-clause-files
