@@ -13,7 +13,7 @@ use Rattle.atomic_table.specs.Table.{Me, step, Allows, opening}
 use Rattle.jack_types.specs.declared.ports.Link.{Link}
 use Rattle.session_model.specs.Activation.{AreLinks, incoming}
 use Rattle.session_model.specs.Samples.{below}
-use Rattle.activation.specs.declared.views.Desk.{Desk}
+use Rattle.activation.specs.declared.views.Tray.{Tray}
 use Rattle.activation.specs.declared.views.View.{View}
 use Rattle.activation.specs.declared.views.Item.{Item}
 use Rattle.activation.specs.declared.views.Item.TheVariants.{Bench}
@@ -139,29 +139,29 @@ all-front P xs x h = (
 pub lays_one : {B Y : Type 0} (first old new : List B) (bench : B) (items next : List (Option (Item B Y))) (rooms rooms' : List (Vec (Option Y))) (given : Vec (Option Y)) → old ≡ new ++ bench ∷ [] → rooms ≡ rooms' ++ given ∷ []
     → next ≡ set items (length new) (Some (Bench record { bench = bench; given = given })) → length first ≤ length items → length old ≤ length first
     → ((n : ℕ) (b : B) → n < length old → get_elem? first n ≡ some b → get_elem? old n ≡ some b)
-    → ((n : ℕ) (b : B) → length old ≤ n → get_elem? first n ≡ some b → (desk : Desk B Y) × (get_elem? items n ≡ some (Some (Bench desk))) × (desk.bench ≡ b) × HasRoomFor desk)
+    → ((n : ℕ) (b : B) → length old ≤ n → get_elem? first n ≡ some b → (tray : Tray B Y) × (get_elem? items n ≡ some (Some (Bench tray))) × (tray.bench ≡ b) × HasRoomFor tray)
     → length rooms ≡ length old → AreEmpty rooms
     → (length new ≤ length first)
     × ((n : ℕ) (b : B) → n < length new → get_elem? first n ≡ some b → get_elem? new n ≡ some b)
-    × ((n : ℕ) (b : B) → length new ≤ n → get_elem? first n ≡ some b → (desk : Desk B Y) × (get_elem? next n ≡ some (Some (Bench desk))) × (desk.bench ≡ b) × HasRoomFor desk)
+    × ((n : ℕ) (b : B) → length new ≤ n → get_elem? first n ≡ some b → (tray : Tray B Y) × (get_elem? next n ≡ some (Some (Bench tray))) × (tray.bench ≡ b) × HasRoomFor tray)
     × ((slot : ℕ) → length first ≤ slot → get_elem? next slot ≡ get_elem? items slot)
     × (length rooms' ≡ length new) × AreEmpty rooms'
 lays_one {B} {Y} first old new bench items next rooms rooms' given is room_is next_is long few left laid count empty =
     let one : length old ≡ suc (length new) = ap length is ∙ longer new bench in
     let two : length rooms ≡ suc (length rooms') = ap length room_is ∙ longer rooms' given in
     let parts = all-front (λ room. (room.items ≡ []) × (most_links ≤ vec_capacity room)) rooms' given (subst AreEmpty room_is empty) in
-    let desk : Desk B Y = record { bench = bench; given = given } in (
+    let tray : Tray B Y = record { bench = bench; given = given } in (
       omega (arith, one, few),
       (λ n b low e. front-of new bench n b low (ap (λ l. get_elem? l n) (sym is) ∙ left n b (omega (arith, low, one)) e)),
       (λ n b high e. dite (ℕ_discrete n (length new))
           (λ same. (
-            desk,
-            ap (get_elem? next) same ∙ (ap (λ l. get_elem? l (length new)) next_is ∙ set_here items (length new) (Some (Bench desk)) (omega (arith, one, few, long))),
+            tray,
+            ap (get_elem? next) same ∙ (ap (λ l. get_elem? l (length new)) next_is ∙ set_here items (length new) (Some (Bench tray)) (omega (arith, one, few, long))),
             last-of new bench b (ap (λ l. get_elem? l (length new)) (sym is) ∙ left (length new) b (omega (arith, one)) (ap (get_elem? first) (sym same) ∙ e)),
             parts.1,
           ))
-          (λ ne. let it = laid n b (omega (arith, one, high, ne)) e in (it.0, ap (λ l. get_elem? l n) next_is ∙ (set_else items (length new) n (Some (Bench desk)) ne ∙ it.1), it.2, it.3))),
-      (λ slot high. ap (λ l. get_elem? l slot) next_is ∙ set_else items (length new) slot (Some (Bench desk)) (λ e. absurd (omega (arith, e, one, few, high)))),
+          (λ ne. let it = laid n b (omega (arith, one, high, ne)) e in (it.0, ap (λ l. get_elem? l n) next_is ∙ (set_else items (length new) n (Some (Bench tray)) ne ∙ it.1), it.2, it.3))),
+      (λ slot high. ap (λ l. get_elem? l slot) next_is ∙ set_else items (length new) slot (Some (Bench tray)) (λ e. absurd (omega (arith, e, one, few, high)))),
       omega (arith, one, two, count),
       parts.0,
     )

@@ -3,7 +3,7 @@ use Rattle.std.proofs.Common.{◌≡◌, ◌<◌, ℕ, Bool, true, false, List, 
 use lib.ListN.{get_elem?}
 use Rattle.jack_types.specs.declared.ports.Link.{Link}
 use Rattle.session_model.specs.Activation.{link_at, place_among}
-use Rattle.activation.specs.declared.views.Desk.{Desk}
+use Rattle.activation.specs.declared.views.Tray.{Tray}
 use Rattle.activation.specs.declared.views.Duty.{Duty}
 use Rattle.activation.specs.Diamonds.{diamond}
 use Rattle.activation.specs.Rule.{has}
@@ -28,15 +28,15 @@ module _ {B : Type 0} (before : List B) where
 
 module _ {B M Y : Type 0} (memory : B → M) (has_room : B → ℕ → Bool) (value_at : B → ℕ → Y) (after : M → List Y → M) (gives : M → List Y → ℕ → Y) where
   -- the first node waits through the other starts
-  pub first_waits : (old new : Duty B) (before : List B) (node : ℕ) (desk : Desk B Y) → old ≡ one_started before → new ≡ all_started before → IsUnplayed memory has_room value_at after gives old node desk → IsUnplayed memory has_room value_at after gives new node desk
-  first_waits old new before node desk is is' = unplayed_same memory has_room value_at after gives old new node desk
+  pub first_waits : (old new : Duty B) (before : List B) (node : ℕ) (tray : Tray B Y) → old ≡ one_started before → new ≡ all_started before → IsUnplayed memory has_room value_at after gives old node tray → IsUnplayed memory has_room value_at after gives new node tray
+  first_waits old new before node tray is is' = unplayed_same memory has_room value_at after gives old new node tray
       (ap (λ (d : Duty B). d.links) is' ∙ sym (ap (λ (d : Duty B). d.links) is)) (ap (λ (d : Duty B). d.before) is' ∙ sym (ap (λ (d : Duty B). d.before) is))
       (ap (λ (d : Duty B). d.held) is' ∙ sym (ap (λ (d : Duty B). d.held) is)) (ap (λ (d : Duty B). d.released) is' ∙ sym (ap (λ (d : Duty B). d.released) is))
 
-  pub room_of : (d : Duty B) (before : List B) (links : List Link) (node l : ℕ) (desk : Desk B Y) → links ≡ diamond → d.links ≡ diamond → d.before ≡ before → All (λ (b : B). (place : ℕ) → place < 64 → has_room b place ≡ true) before
-      → IsPlayed memory has_room value_at after gives d node desk → l < 4 → place_among diamond l < 64 → (link_at diamond l).from ≡ node → has d.released l ≡ false → has_room desk.bench (place_among links l) ≡ true
-  room_of d before links node l desk is same benches roomy p low place from off =
-      ap (λ ls. has_room desk.bench (place_among ls l)) is
-      ∙ has_room_at memory has_room value_at after gives d diamond node l desk same p
+  pub room_of : (d : Duty B) (before : List B) (links : List Link) (node l : ℕ) (tray : Tray B Y) → links ≡ diamond → d.links ≡ diamond → d.before ≡ before → All (λ (b : B). (place : ℕ) → place < 64 → has_room b place ≡ true) before
+      → IsPlayed memory has_room value_at after gives d node tray → l < 4 → place_among diamond l < 64 → (link_at diamond l).from ≡ node → has d.released l ≡ false → has_room tray.bench (place_among links l) ≡ true
+  room_of d before links node l tray is same benches roomy p low place from off =
+      ap (λ ls. has_room tray.bench (place_among ls l)) is
+      ∙ has_room_at memory has_room value_at after gives d diamond node l tray same p
       (λ bench e. one_of (λ (b : B). (q : ℕ) → q < 64 → has_room b q ≡ true) before (link_at diamond l).from bench roomy (sym (ap (λ bs. get_elem? bs (link_at diamond l).from) benches) ∙ e) (place_among diamond l) place)
       low from off

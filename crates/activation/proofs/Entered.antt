@@ -7,7 +7,7 @@ use lib.ListN.{get_elem?}
 use Rattle.atomic_table.specs.Table.{Me, step}
 use Rattle.jack_types.specs.declared.ports.Link.{Link}
 use Rattle.session_model.specs.Activation.{AreLinks, no_link, link_at, place_among, fresh}
-use Rattle.activation.specs.declared.views.Desk.{Desk}
+use Rattle.activation.specs.declared.views.Tray.{Tray}
 use Rattle.activation.specs.declared.views.Item.{Item}
 use Rattle.activation.specs.declared.views.Item.TheVariants.{Bench, Value}
 use Rattle.activation.specs.declared.views.View.{View}
@@ -17,12 +17,12 @@ use Rattle.activation.specs.Contents.{most_links, HasRoomFor, IsFull, IsDone, Is
 use Rattle.activation.specs.Seats.{IsIdle, IsSole}
 use Rattle.activation.specs.Returns.{BenchAt, AreSpent, IsBack}
 use Rattle.activation.specs.Rounds.{IsReturned}
-use Rattle.activation.proofs.Turning.{there_is, same_desk}
+use Rattle.activation.proofs.Turning.{there_is, same_tray}
 
 -- the benches of so many slots that all have one
-pub laid_from : {B Y : Type 0} (n : ℕ) (items : List (Option (Item B Y))) → ((k : ℕ) → k < n → (desk : Desk B Y) × BenchAt items k desk × HasRoomFor desk)
-    → (length (benches_in n items) ≡ n) × AreLaid (benches_in n items) items × ((k : ℕ) (desk : Desk B Y) → k < n → BenchAt items k desk → get_elem? (benches_in n items) k ≡ some desk.bench)
-laid_from zero items each = (refl, (λ k bench e. absurd (some-ne-none bench (sym e))), (λ k desk low at. absurd (omega (arith, low))))
+pub laid_from : {B Y : Type 0} (n : ℕ) (items : List (Option (Item B Y))) → ((k : ℕ) → k < n → (tray : Tray B Y) × BenchAt items k tray × HasRoomFor tray)
+    → (length (benches_in n items) ≡ n) × AreLaid (benches_in n items) items × ((k : ℕ) (tray : Tray B Y) → k < n → BenchAt items k tray → get_elem? (benches_in n items) k ≡ some tray.bench)
+laid_from zero items each = (refl, (λ k bench e. absurd (some-ne-none bench (sym e))), (λ k tray low at. absurd (omega (arith, low))))
 laid_from {B} {Y} (suc n) [] each = let it = each 0 (omega arith) in absurd (some-ne-none (Some (Bench it.0)) (sym it.1))
 laid_from {B} {Y} (suc n) (x ∷ items) each =
     let first = each 0 (omega arith) in
@@ -31,18 +31,18 @@ laid_from {B} {Y} (suc n) (x ∷ items) each =
     let whole : benches_in (suc n) (x ∷ items) ≡ first.0.bench ∷ benches_in n items = ap (λ o. benches_in (suc n) (o ∷ items)) is in (
       ap length whole ∙ ap suc more.0,
       (λ k bench e. front k bench first.0 x items n is first.2 more.1 (ap (λ l. get_elem? l k) (sym whole) ∙ e)),
-      (λ k desk low at. ap (λ l. get_elem? l k) whole ∙ taken k desk first.0 x items n is more.2 low at),
+      (λ k tray low at. ap (λ l. get_elem? l k) whole ∙ taken k tray first.0 x items n is more.2 low at),
     )
   where
-    front : (k : ℕ) (bench : B) (desk : Desk B Y) (x : Option (Item B Y)) (items : List (Option (Item B Y))) (n : ℕ) → x ≡ Some (Bench desk) → HasRoomFor desk → AreLaid (benches_in n items) items → get_elem? (desk.bench ∷ benches_in n items) k ≡ some bench
-        → (d : Desk B Y) × BenchAt (x ∷ items) k d × (d.bench ≡ bench) × HasRoomFor d
-    front zero bench desk x items n is room laid e = (desk, ap some is, some-injective desk.bench bench e, room)
-    front (suc k) bench desk x items n is room laid e = laid k bench e
+    front : (k : ℕ) (bench : B) (tray : Tray B Y) (x : Option (Item B Y)) (items : List (Option (Item B Y))) (n : ℕ) → x ≡ Some (Bench tray) → HasRoomFor tray → AreLaid (benches_in n items) items → get_elem? (tray.bench ∷ benches_in n items) k ≡ some bench
+        → (d : Tray B Y) × BenchAt (x ∷ items) k d × (d.bench ≡ bench) × HasRoomFor d
+    front zero bench tray x items n is room laid e = (tray, ap some is, some-injective tray.bench bench e, room)
+    front (suc k) bench tray x items n is room laid e = laid k bench e
 
-    taken : (k : ℕ) (d desk : Desk B Y) (x : Option (Item B Y)) (items : List (Option (Item B Y))) (n : ℕ) → x ≡ Some (Bench desk) → ((j : ℕ) (e : Desk B Y) → j < n → BenchAt items j e → get_elem? (benches_in n items) j ≡ some e.bench)
-        → k < suc n → BenchAt (x ∷ items) k d → get_elem? (desk.bench ∷ benches_in n items) k ≡ some d.bench
-    taken zero d desk x items n is old low at = ap (λ (z : Desk B Y). some z.bench) (same_desk desk d (sym is ∙ some-injective x (Some (Bench d)) at))
-    taken (suc k) d desk x items n is old low at = old k d (omega (arith, low)) at
+    taken : (k : ℕ) (d tray : Tray B Y) (x : Option (Item B Y)) (items : List (Option (Item B Y))) (n : ℕ) → x ≡ Some (Bench tray) → ((j : ℕ) (e : Tray B Y) → j < n → BenchAt items j e → get_elem? (benches_in n items) j ≡ some e.bench)
+        → k < suc n → BenchAt (x ∷ items) k d → get_elem? (tray.bench ∷ benches_in n items) k ≡ some d.bench
+    taken zero d tray x items n is old low at = ap (λ (z : Tray B Y). some z.bench) (same_tray tray d (sym is ∙ some-injective x (Some (Bench d)) at))
+    taken (suc k) d tray x items n is old low at = old k d (omega (arith, low)) at
 
 -- a place is that of some link out of the node, or of none
 pub placed : (links : List Link) (n place count : ℕ) → ((l : ℕ) × (l < count) × ((link_at links l).from ≡ n) × (place_among links l ≡ place)) ⊎ ((l : ℕ) → l < count → (link_at links l).from ≡ n → place_among links l ≢ place)
@@ -82,8 +82,8 @@ module _ {B M Y : Type 0} (memory : B → M) (has_room : B → ℕ → Bool) (af
     pub clear_is : (nodes : ℕ) → length me.0.duty.before ≡ nodes → AreClear nodes new.0.shelf.words
     clear_is nodes same = subst (λ n. AreClear n new.0.shelf.words) same (λ n low. ap (λ (m : Me (Option (Item B Y)) (View (Option (Item B Y)) B)). get_elem? m.0.shelf.words (length me.0.duty.before + 513 + n)) told.2 ∙ told.9 n low)
 
-    pub desk_unused : me.0.duty.started ≡ [] → (n : ℕ) → n < length me.0.duty.before → (desk : Desk B Y) × BenchAt new.0.shelf.items n desk × (get_elem? me.0.duty.before n ≡ some desk.bench) × HasRoomFor desk
-    desk_unused unused n low =
+    pub tray_unused : me.0.duty.started ≡ [] → (n : ℕ) → n < length me.0.duty.before → (tray : Tray B Y) × BenchAt new.0.shelf.items n tray × (get_elem? me.0.duty.before n ≡ some tray.bench) × HasRoomFor tray
+    tray_unused unused n low =
         let x = (told.5 (λ k h. ap (λ (xs : List ℕ). has xs k) unused)).0.0 n low in
         let d = x.1.0 low in
         (d.0, ap (λ l. get_elem? l n) items_are ∙ (x.2 ∙ ap some d.1), d.2, d.3)
@@ -97,8 +97,8 @@ module _ {B M Y : Type 0} (memory : B → M) (has_room : B → ℕ → Bool) (af
     above_unused unused low = (told.5 (λ k h. ap (λ (xs : List ℕ). has xs k) unused)).1 low
 
     module _ (all : (n : ℕ) → n < length me.0.duty.before → has me.0.duty.started n ≡ true) where
-      pub desk_played : (n : ℕ) → n < length me.0.duty.before → (desk : Desk B Y) × BenchAt new.0.shelf.items n desk × IsHomeBench memory has_room after gives me.0.duty.links me.0.duty.before n desk
-      desk_played n low =
+      pub tray_played : (n : ℕ) → n < length me.0.duty.before → (tray : Tray B Y) × BenchAt new.0.shelf.items n tray × IsHomeBench memory has_room after gives me.0.duty.links me.0.duty.before n tray
+      tray_played n low =
           let x = (told.4 all).0.0 n low in
           let d = x.1.0 low in
           (d.0, ap (λ l. get_elem? l n) items_are ∙ (x.2 ∙ ap some d.1), d.2)
@@ -112,30 +112,30 @@ module _ {B M Y : Type 0} (memory : B → M) (has_room : B → ℕ → Bool) (af
       pub spent_below : word < length me.0.duty.before → r ≡ 0
       spent_below low = (told.4 all).1 low
 
-      pub home_desk : (n : ℕ) (desk : Desk B Y) → n < length me.0.duty.before → BenchAt new.0.shelf.items n desk → IsHomeBench memory has_room after gives me.0.duty.links me.0.duty.before n desk
-      home_desk n desk low at =
-          let it = desk_played n low in
-          subst (IsHomeBench memory has_room after gives me.0.duty.links me.0.duty.before n) (same_desk it.0 desk (some-injective (Some (Bench it.0)) (Some (Bench desk)) (sym it.1 ∙ at))) it.2
+      pub home_tray : (n : ℕ) (tray : Tray B Y) → n < length me.0.duty.before → BenchAt new.0.shelf.items n tray → IsHomeBench memory has_room after gives me.0.duty.links me.0.duty.before n tray
+      home_tray n tray low at =
+          let it = tray_played n low in
+          subst (IsHomeBench memory has_room after gives me.0.duty.links me.0.duty.before n) (same_tray it.0 tray (some-injective (Some (Bench it.0)) (Some (Bench tray)) (sym it.1 ∙ at))) it.2
 
       pub spent_played : (links : List Link) (nodes : ℕ) → me.0.duty.links ≡ links → length me.0.duty.before ≡ nodes → AreLinks nodes links → AreSpent has_room links nodes new.0.shelf.items
       spent_played links nodes same long are = subst (λ (z : List Link × ℕ). AreLinks z.1 z.0 → AreSpent has_room z.0 z.1 new.0.shelf.items) (λ i. (same i, long i))
           (λ are'. record {
-            benches = λ n low. let it = desk_played n low in (it.0, it.1);
-            rooms = λ l desk low at.
+            benches = λ n low. let it = tray_played n low in (it.0, it.1);
+            rooms = λ l tray low at.
                 let up = are'.upward l no_link low in
                 let within = are'.within l no_link low in
                 let from : (link_at me.0.duty.links l).from < length me.0.duty.before = omega (arith, up, within) in
-                let home = home_desk (link_at me.0.duty.links l).from desk from at in
+                let home = home_tray (link_at me.0.duty.links l).from tray from at in
                 let old = there_is me.0.duty.before (link_at me.0.duty.links l).from from in
                 (home.2 old.0 old.1).places l low refl;
             values = value_played;
           }) are
 
       -- a bench that has its values back
-      pub returned : (links : List Link) (nodes : ℕ) → me.0.duty.links ≡ links → (n : ℕ) (old now : Desk B Y) → n < length me.0.duty.before → BenchAt new.0.shelf.items n old → IsBack memory has_room links n old now
+      pub returned : (links : List Link) (nodes : ℕ) → me.0.duty.links ≡ links → (n : ℕ) (old now : Tray B Y) → n < length me.0.duty.before → BenchAt new.0.shelf.items n old → IsBack memory has_room links n old now
           → IsReturned memory has_room after gives links me.0.duty.before n now.bench × HasRoomFor now
       returned links nodes same n old now low at back =
-          let home = subst (λ ls. IsHomeBench memory has_room after gives ls me.0.duty.before n old) same (home_desk n old low at) in (
+          let home = subst (λ ls. IsHomeBench memory has_room after gives ls me.0.duty.before n old) same (home_tray n old low at) in (
             (
               (λ before tells. back.memory_stays ∙ home.0 before tells),
               (λ first first_is place. ⊎_elim

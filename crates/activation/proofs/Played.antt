@@ -5,7 +5,7 @@ use Rattle.jack_types.specs.declared.ports.Link.{Link}
 use Rattle.session_model.specs.Activation.{place_among, value_of, given_to}
 use Rattle.session_model.specs.Samples.{below}
 use Rattle.session_laws.proofs.ActivationLemmas.{given_to-values, length-map_below, get_or-map_below}
-use Rattle.activation.specs.declared.views.Desk.{Desk}
+use Rattle.activation.specs.declared.views.Tray.{Tray}
 use Rattle.activation.specs.declared.views.Duty.{Duty}
 use Rattle.activation.specs.declared.views.Item.{Item}
 use Rattle.activation.specs.declared.views.Item.TheVariants.{Bench, Value}
@@ -33,7 +33,7 @@ all_some (x ∷ xs) (suc k) d h = all_some xs k d (omega (arith, h))
 
 value_or : {B Y : Type 0} → Option (Item B Y) → Y → Y
 value_or (Some (Value y)) d = y
-value_or (Some (Bench desk)) d = d
+value_or (Some (Bench tray)) d = d
 value_or None d = d
 
 pub room_is : (n : ℕ) → most_links ≤ n → 512 ≤ n
@@ -62,28 +62,28 @@ module _ {B M Y : Type 0} (memory : B → M) (has_room : B → ℕ → Bool) (va
       let back : nodes + link - length benches ≡ link = omega (arith, long) in
       subst (λ (z : List Link × ℕ × Y). IsValueOf memory has_room after gives z.0 benches z.1 z.2) (λ i. (same i, back i, one i)) it.2
 
-  pub plays : (duty : Duty B) (node : ℕ) (desk : Desk B Y) (bench : B) → memory bench ≡ after (memory desk.bench) (values_of desk.given.items)
-      → ((place : ℕ) → has_room desk.bench place ≡ true → value_at bench place ≡ gives (memory desk.bench) (values_of desk.given.items) place) → ((place : ℕ) → has_room bench place ≡ has_room desk.bench place)
-      → IsUnplayed memory has_room value_at after gives duty node desk → IsPlayed memory has_room value_at after gives duty node (record desk { bench = bench })
-  plays duty node desk bench is values room u = record {
+  pub plays : (duty : Duty B) (node : ℕ) (tray : Tray B Y) (bench : B) → memory bench ≡ after (memory tray.bench) (values_of tray.given.items)
+      → ((place : ℕ) → has_room tray.bench place ≡ true → value_at bench place ≡ gives (memory tray.bench) (values_of tray.given.items) place) → ((place : ℕ) → has_room bench place ≡ has_room tray.bench place)
+      → IsUnplayed memory has_room value_at after gives duty node tray → IsPlayed memory has_room value_at after gives duty node (record tray { bench = bench })
+  plays duty node tray bench is values room u = record {
     held = u.held;
-    old = desk.bench;
+    old = tray.bench;
     old_is = u.bench;
-    bench = λ before tells. is ∙ (λ i. after (sym (tells node desk.bench u.bench) i) (given before tells i));
+    bench = λ before tells. is ∙ (λ i. after (sym (tells node tray.bench u.bench) i) (given before tells i));
     room = u.room;
     given = (u.given.0, u.given.1, u.given.2);
     rooms = record {
-      places = λ l h e. room (place_among duty.links l) ∙ ap (λ b. cond b false (has_room desk.bench (place_among duty.links l))) (sym (u.none_released l h e));
+      places = λ l h e. room (place_among duty.links l) ∙ ap (λ b. cond b false (has_room tray.bench (place_among duty.links l))) (sym (u.none_released l h e));
       had = λ l h e on. absurd (true≢false (sym on ∙ u.none_released l h e));
       others = λ place no. room place;
     };
     shown = λ l h e off on before tells.
         values (place_among duty.links l) (sym (room (place_among duty.links l)) ∙ on)
-        ∙ ((λ i. gives (sym (tells node desk.bench u.bench) i) (given before tells i) (place_among duty.links l))
+        ∙ ((λ i. gives (sym (tells node tray.bench u.bench) i) (given before tells i) (place_among duty.links l))
         ∙ ap (λ k. gives (before k) (given_to after gives duty.links before k) (place_among duty.links l)) (sym e));
   }
     where
-      given : (before : ℕ → M) → Tells memory has_room after gives duty.before before → values_of desk.given.items ≡ given_to after gives duty.links before node
+      given : (before : ℕ → M) → Tells memory has_room after gives duty.before before → values_of tray.given.items ≡ given_to after gives duty.links before node
       given before tells =
           ap values_of u.given.1 ∙ (values_of-some u.given.0 ∙ (u.given.3 before tells ∙ sym (given_to-values after gives duty.links before (length duty.before) u.are node)))
 

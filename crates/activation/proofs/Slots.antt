@@ -7,7 +7,7 @@ use lib.ListN.{get_elem?}
 use Rattle.jack_types.specs.declared.ports.Link.{Link}
 use Rattle.session_model.specs.Activation.{link_at, outgoing, place_among, value_of}
 use Rattle.session_laws.proofs.SequentialLemmas.{outgoing_at}
-use Rattle.activation.specs.declared.views.Desk.{Desk}
+use Rattle.activation.specs.declared.views.Tray.{Tray}
 use Rattle.activation.specs.declared.views.Duty.{Duty}
 use Rattle.activation.specs.declared.views.View.{View}
 use Rattle.activation.specs.declared.views.Item.TheVariants.{Bench, Value}
@@ -43,8 +43,8 @@ module _ {B M Y : Type 0} (memory : B → M) (has_room : B → ℕ → Bool) (va
       back : l ≡ length benches + l - length benches
       back = omega arith
 
-  pub full_bench : (links : List Link) (benches : List B) (n : ℕ) (desk : Desk B Y) → n < length benches → get_elem? benches n ≡ some desk.bench → HasRoomFor desk → IsFull memory has_room after gives links benches n (Some (Bench desk))
-  full_bench links benches n desk low at room = ((λ _. (desk, refl, at, room)), (λ high. absurd (omega (arith, low, high))))
+  pub full_bench : (links : List Link) (benches : List B) (n : ℕ) (tray : Tray B Y) → n < length benches → get_elem? benches n ≡ some tray.bench → HasRoomFor tray → IsFull memory has_room after gives links benches n (Some (Bench tray))
+  full_bench links benches n tray low at room = ((λ _. (tray, refl, at, room)), (λ high. absurd (omega (arith, low, high))))
 
   -- one of the values that a node was given
   pub given_value : (links : List Link) (benches : List B) (which : List ℕ) (given : List (Option Y)) (i : ℕ) (value : Y) → AreValuesOf memory has_room after gives links benches which given → i < length which → get_or given i None ≡ Some value
@@ -61,9 +61,9 @@ module _ {B M Y : Type 0} (memory : B → M) (has_room : B → ℕ → Bool) (va
   done_value links benches nodes l value long = ((λ low. absurd (omega (arith, low, long))), (λ _. (value, refl)))
 
   -- a played bench whose links were all released is one that is home
-  pub done_bench : (duty : Duty B) (links : List Link) (nodes node : ℕ) (desk home : Desk B Y) → duty.links ≡ links → length duty.before ≡ nodes → node < nodes → IsPlayed memory has_room value_at after gives duty node desk
-      → ((l : ℕ) → l < length links → (link_at links l).from ≡ node → has duty.released l ≡ true) → home.bench ≡ desk.bench → HasRoomFor home → IsDone memory has_room after gives duty.links duty.before node (Some (Bench home))
-  done_bench duty links nodes node desk home same long low played released is room = (
+  pub done_bench : (duty : Duty B) (links : List Link) (nodes node : ℕ) (tray home : Tray B Y) → duty.links ≡ links → length duty.before ≡ nodes → node < nodes → IsPlayed memory has_room value_at after gives duty node tray
+      → ((l : ℕ) → l < length links → (link_at links l).from ≡ node → has duty.released l ≡ true) → home.bench ≡ tray.bench → HasRoomFor home → IsDone memory has_room after gives duty.links duty.before node (Some (Bench home))
+  done_bench duty links nodes node tray home same long low played released is room = (
     (λ _. (
       home,
       refl,
@@ -91,19 +91,19 @@ module _ {B M Y : Type 0} (memory : B → M) (has_room : B → ℕ → Bool) (va
           some_same a b e = some-injective a b e
 
   -- the value that a bench hands for a link
-  pub handed_value : (duty : Duty B) (node : ℕ) (desk : Desk B Y) (links : List Link) (l place : ℕ) (value : Y) → duty.links ≡ links → IsPlayed memory has_room value_at after gives duty node desk → l < length links
-      → (link_at links l).from ≡ node → has duty.released l ≡ false → has_room desk.bench (place_among links l) ≡ true → place ≡ place_among links l → value ≡ value_at desk.bench place → IsValueOf memory has_room after gives links duty.before l value
-  handed_value duty node desk links l place value same played low from off on at is =
-      subst (λ (ls : List Link). l < length ls → (link_at ls l).from ≡ node → has_room desk.bench (place_among ls l) ≡ true → place ≡ place_among ls l → IsValueOf memory has_room after gives ls duty.before l value) same
-      (λ low' from' on' at' before tells. is ∙ (ap (value_at desk.bench) at' ∙ played.shown l low' from' off on' before tells)) low from on at
+  pub handed_value : (duty : Duty B) (node : ℕ) (tray : Tray B Y) (links : List Link) (l place : ℕ) (value : Y) → duty.links ≡ links → IsPlayed memory has_room value_at after gives duty node tray → l < length links
+      → (link_at links l).from ≡ node → has duty.released l ≡ false → has_room tray.bench (place_among links l) ≡ true → place ≡ place_among links l → value ≡ value_at tray.bench place → IsValueOf memory has_room after gives links duty.before l value
+  handed_value duty node tray links l place value same played low from off on at is =
+      subst (λ (ls : List Link). l < length ls → (link_at ls l).from ≡ node → has_room tray.bench (place_among ls l) ≡ true → place ≡ place_among ls l → IsValueOf memory has_room after gives ls duty.before l value) same
+      (λ low' from' on' at' before tells. is ∙ (ap (value_at tray.bench) at' ∙ played.shown l low' from' off on' before tells)) low from on at
 
   -- a played bench that handed the value of a link
-  pub handed : (duty next : Duty B) (node : ℕ) (desk : Desk B Y) (links : List Link) (l place : ℕ) (bench : B) → next.links ≡ duty.links → next.before ≡ duty.before → next.released ≡ l ∷ duty.released
-      → ((n : ℕ) → has duty.held n ≡ true → has next.held n ≡ true) → duty.links ≡ links → IsPlayed memory has_room value_at after gives duty node desk → l < length links → (link_at links l).from ≡ node → has duty.released l ≡ false → has_room desk.bench (place_among links l) ≡ true → place ≡ place_among links l
-      → memory bench ≡ memory desk.bench → has_room bench place ≡ false → ((other : ℕ) → other ≢ place → (has_room bench other ≡ has_room desk.bench other) × (value_at bench other ≡ value_at desk.bench other))
-      → IsPlayed memory has_room value_at after gives next node (record desk { bench = bench })
-  handed duty next node desk links l place bench same_links same_before same_released held same played low from unreleased on_at at kept gone others =
-      subst (λ (x : List Link × List B × List ℕ). IsPlayed memory has_room value_at after gives (record next { links = x.0; before = x.1; released = x.2 }) node (record desk { bench = bench })) (λ i. (sym same_links i, sym same_before i, sym same_released i))
+  pub handed : (duty next : Duty B) (node : ℕ) (tray : Tray B Y) (links : List Link) (l place : ℕ) (bench : B) → next.links ≡ duty.links → next.before ≡ duty.before → next.released ≡ l ∷ duty.released
+      → ((n : ℕ) → has duty.held n ≡ true → has next.held n ≡ true) → duty.links ≡ links → IsPlayed memory has_room value_at after gives duty node tray → l < length links → (link_at links l).from ≡ node → has duty.released l ≡ false → has_room tray.bench (place_among links l) ≡ true → place ≡ place_among links l
+      → memory bench ≡ memory tray.bench → has_room bench place ≡ false → ((other : ℕ) → other ≢ place → (has_room bench other ≡ has_room tray.bench other) × (value_at bench other ≡ value_at tray.bench other))
+      → IsPlayed memory has_room value_at after gives next node (record tray { bench = bench })
+  handed duty next node tray links l place bench same_links same_before same_released held same played low from unreleased on_at at kept gone others =
+      subst (λ (x : List Link × List B × List ℕ). IsPlayed memory has_room value_at after gives (record next { links = x.0; before = x.1; released = x.2 }) node (record tray { bench = bench })) (λ i. (sym same_links i, sym same_before i, sym same_released i))
       record {
         held = held node played.held;
         old = played.old;
@@ -118,7 +118,7 @@ module _ {B M Y : Type 0} (memory : B → M) (has_room : B → ℕ → Bool) (va
               (λ ne. (others (place_among duty.links k) (other k h e ne)).0 ∙ (played.rooms.places k h e ∙ ap (λ b. cond b false (has_room played.old (place_among duty.links k))) (sym (has_skip l duty.released k ne))));
           had = λ k h e on. dite (ℕ_discrete l k)
               (λ is. subst (λ j. has_room played.old (place_among duty.links j) ≡ true) is (
-              sym (played.rooms.places l low' from' ∙ ap (λ b. cond b false (has_room played.old (place_among duty.links l))) unreleased) ∙ (ap (λ ls. has_room desk.bench (place_among ls l)) same ∙ on_at)))
+              sym (played.rooms.places l low' from' ∙ ap (λ b. cond b false (has_room played.old (place_among duty.links l))) unreleased) ∙ (ap (λ ls. has_room tray.bench (place_among ls l)) same ∙ on_at)))
               (λ ne. played.rooms.had k h e (sym (has_skip l duty.released k ne) ∙ on));
           others = λ p no. (others p (λ e. no l low' from' (sym at' ∙ sym e))).0 ∙ played.rooms.others p no;
         };

@@ -8,7 +8,7 @@ use Rattle.atomic_table.proofs.Lists.{set_here, set_else, at_longer, at_last}
 use Rattle.table_lemmas.proofs.Readings.{inside}
 use Rattle.jack_types.specs.declared.ports.Link.{Link}
 use Rattle.session_model.specs.Activation.{link_at, place_among}
-use Rattle.activation.specs.declared.views.Desk.{Desk}
+use Rattle.activation.specs.declared.views.Tray.{Tray}
 use Rattle.activation.specs.declared.views.Item.{Item}
 use Rattle.activation.specs.declared.views.Item.TheVariants.{Bench, Value}
 use Rattle.activation.specs.Returns.{BenchAt, AreSpent, AreBack}
@@ -27,52 +27,52 @@ there_is (x ∷ xs) zero low = (x, refl)
 there_is (x ∷ xs) (suc n) low = there_is xs n (omega (arith, low))
 
 module _ {B Y : Type 0} where
-  abbrev some_bench : Desk B Y → Option (Item B Y)
-  some_bench desk = Some (Bench desk)
+  abbrev some_bench : Tray B Y → Option (Item B Y)
+  some_bench tray = Some (Bench tray)
 
-  desk_or : Option (Item B Y) → Desk B Y → Desk B Y
-  desk_or (Some (Bench desk)) d = desk
-  desk_or (Some (Value y)) d = d
-  desk_or None d = d
+  tray_or : Option (Item B Y) → Tray B Y → Tray B Y
+  tray_or (Some (Bench tray)) d = tray
+  tray_or (Some (Value y)) d = d
+  tray_or None d = d
 
-  pub same_desk : (a b : Desk B Y) → Some (Bench a) ≡ Some (Bench b) → a ≡ b
-  unfolding desk_or
-  same_desk a b e = ap (λ o. desk_or o a) e
+  pub same_tray : (a b : Tray B Y) → Some (Bench a) ≡ Some (Bench b) → a ≡ b
+  unfolding tray_or
+  same_tray a b e = ap (λ o. tray_or o a) e
 
   -- what a slot was found to hold is what lies there
-  pub found_desk : (items : List (Option (Item B Y))) (n : ℕ) (a b : Desk B Y) (x : Option (Item B Y)) → get_elem? items n ≡ some x → x ≡ Some (Bench a) → BenchAt items n b → b ≡ a
-  found_desk items n a b x found is at = same_desk b a (some-injective (Some (Bench b)) (Some (Bench a)) (sym at ∙ (found ∙ ap some is)))
+  pub found_tray : (items : List (Option (Item B Y))) (n : ℕ) (a b : Tray B Y) (x : Option (Item B Y)) → get_elem? items n ≡ some x → x ≡ Some (Bench a) → BenchAt items n b → b ≡ a
+  found_tray items n a b x found is at = same_tray b a (some-injective (Some (Bench b)) (Some (Bench a)) (sym at ∙ (found ∙ ap some is)))
 
-  pub only_bench : (items : List (Option (Item B Y))) (n : ℕ) (desk : Desk B Y) (x : Option (Item B Y)) → get_elem? items n ≡ some x → BenchAt items n desk → x ≡ Some (Bench desk)
-  only_bench items n desk x found at = some-injective x (Some (Bench desk)) (sym found ∙ at)
+  pub only_bench : (items : List (Option (Item B Y))) (n : ℕ) (tray : Tray B Y) (x : Option (Item B Y)) → get_elem? items n ≡ some x → BenchAt items n tray → x ≡ Some (Bench tray)
+  only_bench items n tray x found at = some-injective x (Some (Bench tray)) (sym found ∙ at)
 
   pub only_value : (items : List (Option (Item B Y))) (n : ℕ) (y : Y) (x : Option (Item B Y)) → get_elem? items n ≡ some x → get_elem? items n ≡ some (Some (Value y)) → x ≡ Some (Value y)
   only_value items n y x found at = some-injective x (Some (Value y)) (sym found ∙ at)
 
   -- a bench more is taken
-  pub one_taken : (first items next : List (Option (Item B Y))) (taken more : List B) (node : ℕ) (x : Option (Item B Y)) (desk : Desk B Y) → next ≡ set items node None → get_elem? items node ≡ some x → x ≡ Some (Bench desk)
-      → length taken ≡ node → more ≡ taken ++ desk.bench ∷ [] → ((k : ℕ) → node ≤ k → get_elem? items k ≡ get_elem? first k) → ((n : ℕ) (d : Desk B Y) → n < node → BenchAt first n d → get_elem? taken n ≡ some d.bench)
-      → ((k : ℕ) → node + 1 ≤ k → get_elem? next k ≡ get_elem? first k) × ((n : ℕ) (d : Desk B Y) → n < node + 1 → BenchAt first n d → get_elem? more n ≡ some d.bench)
-  one_taken first items next taken more node x desk next_is found is long more_is rest old = (
+  pub one_taken : (first items next : List (Option (Item B Y))) (taken more : List B) (node : ℕ) (x : Option (Item B Y)) (tray : Tray B Y) → next ≡ set items node None → get_elem? items node ≡ some x → x ≡ Some (Bench tray)
+      → length taken ≡ node → more ≡ taken ++ tray.bench ∷ [] → ((k : ℕ) → node ≤ k → get_elem? items k ≡ get_elem? first k) → ((n : ℕ) (d : Tray B Y) → n < node → BenchAt first n d → get_elem? taken n ≡ some d.bench)
+      → ((k : ℕ) → node + 1 ≤ k → get_elem? next k ≡ get_elem? first k) × ((n : ℕ) (d : Tray B Y) → n < node + 1 → BenchAt first n d → get_elem? more n ≡ some d.bench)
+  one_taken first items next taken more node x tray next_is found is long more_is rest old = (
     (λ k h. let ne : k ≢ node = λ e. absurd (omega (arith, h, e)) in ap (λ l. get_elem? l k) next_is ∙ (set_else items node k None ne ∙ rest k (omega (arith, h)))),
     (λ n d low at. ap (λ l. get_elem? l n) more_is ∙ dite (ℕ_discrete n node)
-        (λ e. ap (get_elem? (taken ++ desk.bench ∷ [])) e
-        ∙ (at_last taken desk.bench node long
-        ∙ ap (λ (z : Desk B Y). some z.bench) (sym (found_desk items node desk d x found is (rest node (omega arith) ∙ (ap (get_elem? first) (sym e) ∙ at))))))
-        (λ ne. at_longer taken (desk.bench ∷ []) n d.bench (old n d (omega (arith, low, ne)) at))),
+        (λ e. ap (get_elem? (taken ++ tray.bench ∷ [])) e
+        ∙ (at_last taken tray.bench node long
+        ∙ ap (λ (z : Tray B Y). some z.bench) (sym (found_tray items node tray d x found is (rest node (omega arith) ∙ (ap (get_elem? first) (sym e) ∙ at))))))
+        (λ ne. at_longer taken (tray.bench ∷ []) n d.bench (old n d (omega (arith, low, ne)) at))),
   )
 
   -- a bench more is exchanged
-  pub one_swapped : (first items next : List (Option (Item B Y))) (benches now after : List B) (node : ℕ) (x : Option (Item B Y)) (desk new : Desk B Y) (P : Desk B Y → Type 0) → next ≡ set (set items node None) node (Some (Bench new))
-      → after ≡ set now node desk.bench → get_elem? items node ≡ some x → x ≡ Some (Bench desk) → node < length items → node < length now → get_elem? now node ≡ some new.bench → P new
+  pub one_swapped : (first items next : List (Option (Item B Y))) (benches now after : List B) (node : ℕ) (x : Option (Item B Y)) (tray new : Tray B Y) (P : Tray B Y → Type 0) → next ≡ set (set items node None) node (Some (Bench new))
+      → after ≡ set now node tray.bench → get_elem? items node ≡ some x → x ≡ Some (Bench tray) → node < length items → node < length now → get_elem? now node ≡ some new.bench → P new
       → ((k : ℕ) → node ≤ k → get_elem? items k ≡ get_elem? first k) → ((k : ℕ) → node ≤ k → get_elem? now k ≡ get_elem? benches k)
-      → ((n : ℕ) (bench : B) → n < node → get_elem? benches n ≡ some bench → (d : Desk B Y) × BenchAt items n d × (d.bench ≡ bench) × P d) → ((n : ℕ) (d : Desk B Y) → n < node → BenchAt first n d → get_elem? now n ≡ some d.bench)
+      → ((n : ℕ) (bench : B) → n < node → get_elem? benches n ≡ some bench → (d : Tray B Y) × BenchAt items n d × (d.bench ≡ bench) × P d) → ((n : ℕ) (d : Tray B Y) → n < node → BenchAt first n d → get_elem? now n ≡ some d.bench)
       → ((k : ℕ) → node + 1 ≤ k → get_elem? next k ≡ get_elem? first k) × ((k : ℕ) → node + 1 ≤ k → get_elem? after k ≡ get_elem? benches k)
-      × ((n : ℕ) (bench : B) → n < node + 1 → get_elem? benches n ≡ some bench → (d : Desk B Y) × BenchAt next n d × (d.bench ≡ bench) × P d)
-      × ((n : ℕ) (d : Desk B Y) → n < node + 1 → BenchAt first n d → get_elem? after n ≡ some d.bench)
-  one_swapped first items next benches now after node x desk new P next_is after_is found is low low' mine good rest rest' laid old = (
+      × ((n : ℕ) (bench : B) → n < node + 1 → get_elem? benches n ≡ some bench → (d : Tray B Y) × BenchAt next n d × (d.bench ≡ bench) × P d)
+      × ((n : ℕ) (d : Tray B Y) → n < node + 1 → BenchAt first n d → get_elem? after n ≡ some d.bench)
+  one_swapped first items next benches now after node x tray new P next_is after_is found is low low' mine good rest rest' laid old = (
     (λ k h. let ne : k ≢ node = λ e. absurd (omega (arith, h, e)) in there k ne ∙ rest k (omega (arith, h))),
-    (λ k h. let ne : k ≢ node = λ e. absurd (omega (arith, h, e)) in ap (λ l. get_elem? l k) after_is ∙ (set_else now node k desk.bench ne ∙ rest' k (omega (arith, h)))),
+    (λ k h. let ne : k ≢ node = λ e. absurd (omega (arith, h, e)) in ap (λ l. get_elem? l k) after_is ∙ (set_else now node k tray.bench ne ∙ rest' k (omega (arith, h)))),
     (λ n bench h at. dite (ℕ_discrete n node)
         (λ e. (
           new,
@@ -82,15 +82,15 @@ module _ {B Y : Type 0} where
         ))
         (λ ne. let it = laid n bench (omega (arith, h, ne)) at in (it.0, there n ne ∙ it.1, it.2, it.3))),
     (λ n d h at. ap (λ l. get_elem? l n) after_is ∙ dite (ℕ_discrete n node)
-        (λ e. ap (get_elem? (set now node desk.bench)) e ∙ (set_here now node desk.bench low' ∙ ap (λ (z : Desk B Y). some z.bench) (sym (found_desk items node desk d x found is (rest node (omega arith) ∙ (ap (get_elem? first) (sym e) ∙ at))))))
-        (λ ne. set_else now node n desk.bench ne ∙ old n d (omega (arith, h, ne)) at)),
+        (λ e. ap (get_elem? (set now node tray.bench)) e ∙ (set_here now node tray.bench low' ∙ ap (λ (z : Tray B Y). some z.bench) (sym (found_tray items node tray d x found is (rest node (omega arith) ∙ (ap (get_elem? first) (sym e) ∙ at))))))
+        (λ ne. set_else now node n tray.bench ne ∙ old n d (omega (arith, h, ne)) at)),
   )
     where
       there : (k : ℕ) → k ≢ node → get_elem? next k ≡ get_elem? items k
       there k ne = ap (λ l. get_elem? l k) next_is ∙ (set_else (set items node None) node k (Some (Bench new)) ne ∙ set_else items node k None ne)
 
   -- the values of the first k links are back
-  pub record PartBack {M : Type 0} (memory : B → M) (has_room : B → ℕ → Bool) (links : List Link) (k n : ℕ) (old new : Desk B Y) : Type 0 where
+  pub record PartBack {M : Type 0} (memory : B → M) (has_room : B → ℕ → Bool) (links : List Link) (k n : ℕ) (old new : Tray B Y) : Type 0 where
     pub given : new.given ≡ old.given
     pub memory_stays : memory new.bench ≡ memory old.bench
     pub places : (l : ℕ) → l < k → l < length links → (link_at links l).from ≡ n → has_room new.bench (place_among links l) ≡ true
@@ -99,7 +99,7 @@ module _ {B Y : Type 0} where
 
   abbrev pub ArePartBack : {M : Type 0} → (B → M) → (B → ℕ → Bool) → List Link → ℕ → ℕ → List (Option (Item B Y)) → List (Option (Item B Y)) → Type 0
   ArePartBack memory has_room links nodes k old new =
-      ((n : ℕ) (before : Desk B Y) → n < nodes → BenchAt old n before → (desk : Desk B Y) × BenchAt new n desk × PartBack memory has_room links k n before desk)
+      ((n : ℕ) (before : Tray B Y) → n < nodes → BenchAt old n before → (tray : Tray B Y) × BenchAt new n tray × PartBack memory has_room links k n before tray)
       × ((l : ℕ) → k ≤ l → l < length links → (value : Y) × (get_elem? new (nodes + l) ≡ some (Some (Value value))))
 
   module _ {M : Type 0} (memory : B → M) (has_room : B → ℕ → Bool) (links : List Link) (nodes : ℕ) where
@@ -124,15 +124,15 @@ module _ {B Y : Type 0} where
         let it = are.0 n before low at in
         (it.0, it.1, record { given = it.2.given; memory_stays = it.2.memory_stays; places = λ l h from. it.2.places l (omega (arith, h, end)) h from; others = it.2.others })
 
-    pub one_back : (first items next : List (Option (Item B Y))) (k : ℕ) → k < length links → (link_at links k).from < nodes → (desk : Desk B Y) (bench : B) → BenchAt items (link_at links k).from desk → BenchAt next (link_at links k).from record { bench = bench; given = desk.given }
-        → memory bench ≡ memory desk.bench → has_room bench (place_among links k) ≡ true → ((other : ℕ) → other ≢ place_among links k → has_room bench other ≡ has_room desk.bench other)
+    pub one_back : (first items next : List (Option (Item B Y))) (k : ℕ) → k < length links → (link_at links k).from < nodes → (tray : Tray B Y) (bench : B) → BenchAt items (link_at links k).from tray → BenchAt next (link_at links k).from record { bench = bench; given = tray.given }
+        → memory bench ≡ memory tray.bench → has_room bench (place_among links k) ≡ true → ((other : ℕ) → other ≢ place_among links k → has_room bench other ≡ has_room tray.bench other)
         → ((other : ℕ) → other ≢ (link_at links k).from → other ≢ nodes + k → get_elem? next other ≡ get_elem? items other) → ArePartBack memory has_room links nodes k first items → ArePartBack memory has_room links nodes (k + 1) first next
-    one_back first items next k low inside' desk bench at now kept here others stays are = (
+    one_back first items next k low inside' tray bench at now kept here others stays are = (
       (λ n before low' old. let it = are.0 n before low' old in dite (ℕ_discrete n (link_at links k).from)
           (λ e.
-          let same : it.0 ≡ desk = same_desk it.0 desk (some-injective (Some (Bench it.0)) (Some (Bench desk)) (sym it.1 ∙ (ap (get_elem? items) e ∙ at))) in
+          let same : it.0 ≡ tray = same_tray it.0 tray (some-injective (Some (Bench it.0)) (Some (Bench tray)) (sym it.1 ∙ (ap (get_elem? items) e ∙ at))) in
           let part = subst (PartBack memory has_room links k n before) same it.2 in (
-            record { bench = bench; given = desk.given },
+            record { bench = bench; given = tray.given },
             ap (get_elem? next) e ∙ now,
             record {
               given = part.given;

@@ -8,7 +8,7 @@ use mathlib.Core.Option.{some}
 use lib.ListN.{get_elem?}
 use Rattle.jack_types.specs.declared.ports.Link.{Link}
 use Rattle.session_model.specs.Activation.{link_at, place_among, value_of, sequential}
-use Rattle.activation.specs.declared.views.Desk.{Desk}
+use Rattle.activation.specs.declared.views.Tray.{Tray}
 use Rattle.activation.specs.declared.views.Item.{Item}
 use Rattle.activation.specs.declared.views.Item.TheVariants.{Bench, Value}
 use Rattle.activation.specs.declared.views.View.{View}
@@ -18,8 +18,8 @@ unfoldable pub most_links : ℕ
 most_links = 512
 
 -- a bench without values, and with room for all that it can be given
-abbrev pub HasRoomFor : {B Y : Type 0} → Desk B Y → Type 0
-HasRoomFor desk = (desk.given.items ≡ []) × (most_links ≤ vec_capacity desk.given)
+abbrev pub HasRoomFor : {B Y : Type 0} → Tray B Y → Type 0
+HasRoomFor tray = (tray.given.items ≡ []) × (most_links ≤ vec_capacity tray.given)
 
 -- the bench of node n has room as before, but at the places of the links that were freed, where it had room
 pub record Roomed {B : Type 0} (has_room : B → ℕ → Bool) (links : List Link) (n : ℕ) (old new : B) (freed : ℕ → Bool) : Type 0 where
@@ -40,18 +40,18 @@ module _ {B M Y : Type 0} (memory : B → M) (has_room : B → ℕ → Bool) (af
 
   abbrev pub IsFull : List Link → List B → ℕ → Option (Item B Y) → Type 0
   IsFull links benches q x =
-      (q < length benches → (desk : Desk B Y) × (x ≡ Some (Bench desk)) × (get_elem? benches q ≡ some desk.bench) × HasRoomFor desk)
+      (q < length benches → (tray : Tray B Y) × (x ≡ Some (Bench tray)) × (get_elem? benches q ≡ some tray.bench) × HasRoomFor tray)
       × (length benches ≤ q → (y : Y) × (x ≡ Some (Value y)) × IsValueOf links benches (q - length benches) y)
 
   -- a bench that is home is sequential, and handed the values of all its links
-  abbrev pub IsHomeBench : List Link → List B → ℕ → Desk B Y → Type 0
-  IsHomeBench links benches n desk =
-      IsPlayedAt links benches n (memory desk.bench) × HasRoomFor desk
-      × ((old : B) → get_elem? benches n ≡ some old → Roomed has_room links n old desk.bench (λ _. true))
+  abbrev pub IsHomeBench : List Link → List B → ℕ → Tray B Y → Type 0
+  IsHomeBench links benches n tray =
+      IsPlayedAt links benches n (memory tray.bench) × HasRoomFor tray
+      × ((old : B) → get_elem? benches n ≡ some old → Roomed has_room links n old tray.bench (λ _. true))
 
   abbrev pub IsDone : List Link → List B → ℕ → Option (Item B Y) → Type 0
   IsDone links benches q x =
-      (q < length benches → (desk : Desk B Y) × (x ≡ Some (Bench desk)) × IsHomeBench links benches q desk)
+      (q < length benches → (tray : Tray B Y) × (x ≡ Some (Bench tray)) × IsHomeBench links benches q tray)
       × (length benches ≤ q → (y : Y) × (x ≡ Some (Value y)))
 
   -- the values of these links
@@ -78,7 +78,7 @@ first_view links slots seats = record {
 abbrev pub benches_in : {B Y : Type 0} → ℕ → List (Option (Item B Y)) → List B
 benches_in zero items = []
 benches_in (suc n) [] = []
-benches_in (suc n) (Some (Bench desk) ∷ items) = desk.bench ∷ benches_in n items
+benches_in (suc n) (Some (Bench tray) ∷ items) = tray.bench ∷ benches_in n items
 benches_in (suc n) (Some (Value y) ∷ items) = []
 benches_in (suc n) (None ∷ items) = []
 
@@ -88,7 +88,7 @@ benches_of slots items = benches_in (slots - 512) items
 
 -- each of these benches lies in its slot, with the room for what it is given
 abbrev pub AreLaid : {B Y : Type 0} → List B → List (Option (Item B Y)) → Type 0
-AreLaid {B} {Y} benches items = (n : ℕ) (bench : B) → get_elem? benches n ≡ some bench → (desk : Desk B Y) × (get_elem? items n ≡ some (Some (Bench desk))) × (desk.bench ≡ bench) × HasRoomFor desk
+AreLaid {B} {Y} benches items = (n : ℕ) (bench : B) → get_elem? benches n ≡ some bench → (tray : Tray B Y) × (get_elem? items n ≡ some (Some (Bench tray))) × (tray.bench ≡ bench) × HasRoomFor tray
 
 -- room for all that a bench can be given, by node
 abbrev pub AreEmpty : {Y : Type 0} → List (Vec (Option Y)) → Type 0

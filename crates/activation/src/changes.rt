@@ -4,7 +4,7 @@ ghost use mathlib.Core.Option.{some};
 ghost use lib.ListN.{get_elem?};
 ghost use Rattle.session_model.specs.Activation.{AreLinks, outgoing};
 ghost use Rattle.session_model.specs.Samples.{below};
-ghost use Rattle.activation.specs.declared.views.Desk.{Desk};
+ghost use Rattle.activation.specs.declared.views.Tray.{Tray};
 ghost use Rattle.activation.specs.Contents.{HasRoomFor, benches_in, from_to};
 ghost use Rattle.activation.specs.Plays.{AreClear};
 ghost use Rattle.activation.specs.Seats.{IsIdle, IsSole, new_duty};
@@ -76,9 +76,9 @@ impl<B: Work> Crew<B> {
         ensures token { (result.table_id ≡ self.now.board.shared.table_id) × IsSole result.me × (result.me.0.duty.seats ≡ self.now.seats) × (result.me.0.duty.shares ≡ from_to 0 self.now.seats) }
         ensures sizes { (length result.me.0.shelf.items ≡ self.now.board.shared.table_id.slots) × (self.now.nodes ≤ length result.me.0.shelf.words) }
         ensures clear { AreClear self.now.nodes result.me.0.shelf.words }
-        ensures benches { (n : ℕ) → n < self.now.nodes → (desk : Desk B B.Value) × BenchAt result.me.0.shelf.items n desk × HasRoomFor desk }
-        ensures played { (before : List B) → Know before seats.old → HavePlayed self.now.nodes self.now.seats seats.old → (n : ℕ) (desk : Desk B B.Value) → n < self.now.nodes → BenchAt result.me.0.shelf.items n desk → IsReturned B.memory B.has_room B.after B.gives self.now.links.items before n desk.bench }
-        ensures unused { (before : List B) → Know before seats.old → AreUnused seats.old → (n : ℕ) (desk : Desk B B.Value) → n < self.now.nodes → BenchAt result.me.0.shelf.items n desk → get_elem? before n ≡ some desk.bench }
+        ensures benches { (n : ℕ) → n < self.now.nodes → (tray : Tray B B.Value) × BenchAt result.me.0.shelf.items n tray × HasRoomFor tray }
+        ensures played { (before : List B) → Know before seats.old → HavePlayed self.now.nodes self.now.seats seats.old → (n : ℕ) (tray : Tray B B.Value) → n < self.now.nodes → BenchAt result.me.0.shelf.items n tray → IsReturned B.memory B.has_room B.after B.gives self.now.links.items before n tray.bench }
+        ensures unused { (before : List B) → Know before seats.old → AreUnused seats.old → (n : ℕ) (tray : Tray B B.Value) → n < self.now.nodes → BenchAt result.me.0.shelf.items n tray → get_elem? before n ≡ some tray.bench }
     {
         let mut token = self.gather(seats);
         let counter = self.board.shared.load::<Enter<B>>(&mut token, 0);
@@ -103,7 +103,7 @@ impl<B: Work> Crew<B> {
         requires token { (token.old.table_id ≡ self.now.board.shared.table_id) × IsSole token.old.me × (token.old.me.0.duty.seats ≡ self.now.seats) × (token.old.me.0.duty.shares ≡ from_to 0 self.now.seats) }
         requires sizes { (length token.old.me.0.shelf.items ≡ self.now.board.shared.table_id.slots) × (self.now.nodes ≤ length token.old.me.0.shelf.words) }
         requires clear { AreClear self.now.nodes token.old.me.0.shelf.words }
-        requires benches { (n : ℕ) → n < self.now.nodes → (desk : Desk B B.Value) × BenchAt token.old.me.0.shelf.items n desk × HasRoomFor desk }
+        requires benches { (n : ℕ) → n < self.now.nodes → (tray : Tray B B.Value) × BenchAt token.old.me.0.shelf.items n tray × HasRoomFor tray }
         ensures token { (token.new.table_id ≡ token.old.table_id) × IsIdle token.new.me }
         ensures duty { token.new.me.0.duty ≡ new_duty self.now.links.items (benches_in self.now.nodes token.old.me.0.shelf.items) self.now.seats (from_to 0 self.now.seats) }
     {

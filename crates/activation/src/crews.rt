@@ -15,7 +15,7 @@ ghost use Rattle.activation.specs.Rounds.{IsRoomy};
 use crate::making::{Parts, begin, prepare, share};
 use crate::rules::{ComeHome, CrewRule, Fill, Open, Release, Start, Take};
 use crate::takens::{Seat, Taken};
-use crate::views::{Desk, Item, Size, View};
+use crate::views::{Tray, Item, Size, View};
 use crate::work::Work;
 use atomic_table::{Seat as Token, Table};
 use jack_types::Link;
@@ -171,14 +171,14 @@ impl<B: Work> Crew<B> {
         &self,
         seat: &mut Token<Option<Item<B, B::Value>>, View<Option<Item<B, B::Value>>, B>>,
         node: u32,
-    ) -> Desk<B, B::Value>
+    ) -> Tray<B, B::Value>
         requires seat { IsAt self.now.board.shared.table_id self.now.links.items self.now.nodes seat.old }
         requires node { (has seat.old.me.0.duty.held node ≡ true) × (seat.old.me.0.hand.node ≡ node) × (seat.old.me.0.hand.floor ≤ node) × (node < self.now.nodes) }
         ensures seat { IsAt self.now.board.shared.table_id self.now.links.items self.now.nodes seat.new × (seat.new.me.0 ≡ open_after seat.old.me.0 node) }
         ensures bench { (get_elem? seat.old.me.0.duty.before node ≡ some result.bench) × HasRoomFor result }
     {
         match self.lift(seat, node as usize) {
-            Some(Item::Bench(desk)) => desk,
+            Some(Item::Bench(tray)) => tray,
             _ => unreachable!(),
         }
     }
@@ -230,11 +230,11 @@ impl<B: Work> Crew<B> {
         requires node { (has seat.old.me.0.duty.held node ≡ true) × (seat.old.me.0.hand.node ≡ node) × (seat.old.me.0.hand.floor ≡ 0) × (node < self.now.nodes) }
         requires unreleased { (l : ℕ) → l < length self.now.links.items → (link_at self.now.links.items l).from ≡ node → has seat.old.me.0.duty.released l ≡ false }
         ensures seat { IsAt self.now.board.shared.table_id self.now.links.items self.now.nodes seat.new × (seat.new.me.0.duty ≡ seat.old.me.0.duty) }
-        ensures taken { (result.node ≡ node) × IsUnplayed B.memory B.has_room B.value_at B.after B.gives seat.old.me.0.duty node result.desk }
+        ensures taken { (result.node ≡ node) × IsUnplayed B.memory B.has_room B.value_at B.after B.gives seat.old.me.0.duty node result.tray }
     {
-        let mut desk = self.lift_bench(seat, node);
-        self.lift_values(seat, node, &mut desk.given);
-        Taken { node, desk }
+        let mut tray = self.lift_bench(seat, node);
+        self.lift_values(seat, node, &mut tray.given);
+        Taken { node, tray }
     }
 
     /// Lowers the node's counter for its start.
@@ -245,7 +245,7 @@ impl<B: Work> Crew<B> {
         requires node { (node < self.now.nodes) × (node % self.now.seats ≡ seat.old.number) × (has seat.old.token.me.0.duty.started node ≡ false) }
         ensures seat { (seat.new.number ≡ seat.old.number) × Sits self.now.board.shared.table_id self.now.links.items self.now.nodes self.now.seats seat.new.number seat.new.token }
         ensures none { IsNone result → seat.new.token.me.0.duty ≡ with_started seat.old.token.me.0.duty node }
-        ensures some { IfSome result (λ taken. (taken.node ≡ node) × (has seat.old.token.me.0.duty.held node ≡ false) × (seat.new.token.me.0.duty ≡ with_held (with_started seat.old.token.me.0.duty node) node) × IsUnplayed B.memory B.has_room B.value_at B.after B.gives seat.new.token.me.0.duty node taken.desk) }
+        ensures some { IfSome result (λ taken. (taken.node ≡ node) × (has seat.old.token.me.0.duty.held node ≡ false) × (seat.new.token.me.0.duty ≡ with_held (with_started seat.old.token.me.0.duty node) node) × IsUnplayed B.memory B.has_room B.value_at B.after B.gives seat.new.token.me.0.duty node taken.tray) }
     {
         let found = self
             .board
@@ -283,7 +283,7 @@ impl<B: Work> Crew<B> {
         ensures seat { (seat.new.number ≡ seat.old.number) × Sits self.now.board.shared.table_id self.now.links.items self.now.nodes self.now.seats seat.new.number seat.new.token }
         ensures duty { (seat.new.token.me.0.duty.links ≡ seat.old.token.me.0.duty.links) × (seat.new.token.me.0.duty.before ≡ seat.old.token.me.0.duty.before) × (seat.new.token.me.0.duty.released ≡ link ∷ seat.old.token.me.0.duty.released) × ((n : ℕ) → has seat.old.token.me.0.duty.held n ≡ true → has seat.new.token.me.0.duty.held n ≡ true) }
         ensures none { IsNone result → seat.new.token.me.0.duty ≡ with_released seat.old.token.me.0.duty link }
-        ensures some { IfSome result (λ taken. (taken.node ≡ to) × (has seat.old.token.me.0.duty.held to ≡ false) × (seat.new.token.me.0.duty ≡ with_held (with_released seat.old.token.me.0.duty link) to) × IsUnplayed B.memory B.has_room B.value_at B.after B.gives seat.new.token.me.0.duty to taken.desk) }
+        ensures some { IfSome result (λ taken. (taken.node ≡ to) × (has seat.old.token.me.0.duty.held to ≡ false) × (seat.new.token.me.0.duty ≡ with_held (with_released seat.old.token.me.0.duty link) to) × IsUnplayed B.memory B.has_room B.value_at B.after B.gives seat.new.token.me.0.duty to taken.tray) }
     {
         self.offer(&mut seat.token, link, value);
         let counter = self
@@ -303,15 +303,15 @@ impl<B: Work> Crew<B> {
     /// The answer is the link's target, where this left its counter at zero. One decrement of one word.
     pub fn release(&self, seat: &mut Seat<B>, taken: &mut Taken<B>, link: u32) -> Option<Taken<B>>
         requires seat { Sits self.now.board.shared.table_id self.now.links.items self.now.nodes self.now.seats seat.old.number seat.old.token }
-        requires taken { IsPlayed B.memory B.has_room B.value_at B.after B.gives seat.old.token.me.0.duty taken.old.node taken.old.desk }
+        requires taken { IsPlayed B.memory B.has_room B.value_at B.after B.gives seat.old.token.me.0.duty taken.old.node taken.old.tray }
         requires link { (link < length self.now.links.items) × ((link_at self.now.links.items link).from ≡ taken.old.node) × (has seat.old.token.me.0.duty.released link ≡ false) }
-        requires room { B.has_room taken.old.desk.bench (place_among self.now.links.items link) ≡ true }
+        requires room { B.has_room taken.old.tray.bench (place_among self.now.links.items link) ≡ true }
         ensures seat { (seat.new.number ≡ seat.old.number) × Sits self.now.board.shared.table_id self.now.links.items self.now.nodes self.now.seats seat.new.number seat.new.token }
-        ensures taken { (taken.new.node ≡ taken.old.node) × IsPlayed B.memory B.has_room B.value_at B.after B.gives seat.new.token.me.0.duty taken.new.node taken.new.desk }
+        ensures taken { (taken.new.node ≡ taken.old.node) × IsPlayed B.memory B.has_room B.value_at B.after B.gives seat.new.token.me.0.duty taken.new.node taken.new.tray }
         ensures none { IsNone result → seat.new.token.me.0.duty ≡ with_released seat.old.token.me.0.duty link }
-        ensures some { IfSome result (λ next. (next.node ≡ (link_at self.now.links.items link).to) × (has seat.old.token.me.0.duty.held next.node ≡ false) × (seat.new.token.me.0.duty ≡ with_held (with_released seat.old.token.me.0.duty link) next.node) × IsUnplayed B.memory B.has_room B.value_at B.after B.gives seat.new.token.me.0.duty next.node next.desk) }
+        ensures some { IfSome result (λ next. (next.node ≡ (link_at self.now.links.items link).to) × (has seat.old.token.me.0.duty.held next.node ≡ false) × (seat.new.token.me.0.duty ≡ with_held (with_released seat.old.token.me.0.duty link) next.node) × IsUnplayed B.memory B.has_room B.value_at B.after B.gives seat.new.token.me.0.duty next.node next.tray) }
     {
-        let value = taken.desk.bench.hand(self.place(link as usize));
+        let value = taken.tray.bench.hand(self.place(link as usize));
         let to = self.links[link as usize].to;
         self.pass_on(seat, link as usize, to, value)
     }
@@ -343,19 +343,19 @@ impl<B: Work> Crew<B> {
     /// One decrement of one word.
     pub fn home(&self, seat: &mut Seat<B>, taken: Taken<B>)
         requires seat { Sits self.now.board.shared.table_id self.now.links.items self.now.nodes self.now.seats seat.old.number seat.old.token }
-        requires taken { IsPlayed B.memory B.has_room B.value_at B.after B.gives seat.old.token.me.0.duty taken.node taken.desk }
+        requires taken { IsPlayed B.memory B.has_room B.value_at B.after B.gives seat.old.token.me.0.duty taken.node taken.tray }
         requires released { (l : ℕ) → l < length self.now.links.items → (link_at self.now.links.items l).from ≡ taken.node → has seat.old.token.me.0.duty.released l ≡ true }
         ensures seat { (seat.new.number ≡ seat.old.number) × Sits self.now.board.shared.table_id self.now.links.items self.now.nodes self.now.seats seat.new.number seat.new.token }
         ensures home { seat.new.token.me.0.duty ≡ with_home seat.old.token.me.0.duty taken.node }
     {
-        let Taken { node, desk } = taken;
-        let Desk { bench, mut given } = desk;
+        let Taken { node, tray } = taken;
+        let Tray { bench, mut given } = tray;
         self.lay_values(&mut seat.token, node, &mut given);
         given.clear();
         self.lay(
             &mut seat.token,
             node as usize,
-            Item::Bench(Desk { bench, given }),
+            Item::Bench(Tray { bench, given }),
         );
         self.board
             .shared

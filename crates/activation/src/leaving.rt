@@ -10,7 +10,7 @@ ghost use Rattle.activation.specs.Takens.{IsUnplayed, with_held, with_left, with
 use crate::crews::Crew;
 use crate::rules::{Leave, Pick, Refill, Take};
 use crate::takens::{Seat, Taken};
-use crate::views::{Desk, Item, View};
+use crate::views::{Tray, Item, View};
 use crate::work::Work;
 use atomic_table::Seat as Token;
 
@@ -69,18 +69,18 @@ impl<B: Work> Crew<B> {
     /// One store of one word.
     pub fn leave(&self, seat: &mut Seat<B>, taken: Taken<B>)
         requires seat { Sits self.now.board.shared.table_id self.now.links.items self.now.nodes self.now.seats seat.old.number seat.old.token }
-        requires taken { IsUnplayed B.memory B.has_room B.value_at B.after B.gives seat.old.token.me.0.duty taken.node taken.desk }
+        requires taken { IsUnplayed B.memory B.has_room B.value_at B.after B.gives seat.old.token.me.0.duty taken.node taken.tray }
         ensures seat { (seat.new.number ≡ seat.old.number) × Sits self.now.board.shared.table_id self.now.links.items self.now.nodes self.now.seats seat.new.number seat.new.token }
         ensures left { seat.new.token.me.0.duty ≡ with_left seat.old.token.me.0.duty taken.node }
     {
-        let Taken { node, desk } = taken;
-        let Desk { bench, mut given } = desk;
+        let Taken { node, tray } = taken;
+        let Tray { bench, mut given } = tray;
         self.put_back_values(&mut seat.token, node, &mut given);
         given.clear();
         self.put_back(
             &mut seat.token,
             node as usize,
-            Item::Bench(Desk { bench, given }),
+            Item::Bench(Tray { bench, given }),
         );
         let word = self.left_word(node);
         self.board.shared.store::<Leave>(&mut seat.token, word, 1);
@@ -94,7 +94,7 @@ impl<B: Work> Crew<B> {
         requires node { node < self.now.nodes }
         ensures seat { (seat.new.number ≡ seat.old.number) × Sits self.now.board.shared.table_id self.now.links.items self.now.nodes self.now.seats seat.new.number seat.new.token }
         ensures none { IsNone result → seat.new.token.me.0.duty ≡ with_looked seat.old.token.me.0.duty node }
-        ensures some { IfSome result (λ taken. (taken.node ≡ node) × (has seat.old.token.me.0.duty.held node ≡ false) × (seat.new.token.me.0.duty ≡ with_held (with_looked seat.old.token.me.0.duty node) node) × IsUnplayed B.memory B.has_room B.value_at B.after B.gives seat.new.token.me.0.duty node taken.desk) }
+        ensures some { IfSome result (λ taken. (taken.node ≡ node) × (has seat.old.token.me.0.duty.held node ≡ false) × (seat.new.token.me.0.duty ≡ with_held (with_looked seat.old.token.me.0.duty node) node) × IsUnplayed B.memory B.has_room B.value_at B.after B.gives seat.new.token.me.0.duty node taken.tray) }
     {
         let word = self.left_word(node);
         let found = self.board.shared.swap::<Pick>(&mut seat.token, word, 0);

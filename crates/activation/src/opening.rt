@@ -9,7 +9,7 @@ ghost use Rattle.activation.specs.Plays.{with_items, with_words};
 ghost use Rattle.activation.specs.Seats.{IsSole};
 
 use crate::rules::{CrewRule, LayDown, Lift, Set};
-use crate::views::{Desk, Item, Size, View};
+use crate::views::{Tray, Item, Size, View};
 use crate::work::Work;
 use atomic_table::{Seat as Token, Table};
 use std::alloc::Global;
@@ -88,7 +88,7 @@ pub(crate) fn lay_benches<B: Work>(
             board,
             seat,
             benches.len(),
-            Some(Item::Bench(Desk { bench, given })),
+            Some(Item::Bench(Tray { bench, given })),
         );
     }
 }

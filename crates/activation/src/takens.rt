@@ -3,7 +3,7 @@ ghost use Rattle.std.specs.Prelude.{◌≡◌, List, map, Some};
 ghost use Rattle.activation.specs.declared.views.Duty.{Duty};
 ghost use Rattle.activation.specs.Takens.{IsUnplayed, IsPlayed};
 
-use crate::views::{Desk, Item, View};
+use crate::views::{Tray, Item, View};
 use crate::work::Work;
 use atomic_table::Seat as Token;
 
@@ -27,7 +27,7 @@ impl<B: Work> Seat<B> {
 #[derive(Drop)]
 pub struct Taken<B: Work> {
     pub(crate) node: u32,
-    pub(crate) desk: Desk<B, B::Value>,
+    pub(crate) tray: Tray<B, B::Value>,
 }
 
 impl<B: Work> Taken<B> {
@@ -40,10 +40,10 @@ impl<B: Work> Taken<B> {
 
     /// Plays the bench on the values of its incoming links. It is played once.
     pub fn play(&mut self)
-        requires given { (values : List B.Value) × (self.old.desk.given.items ≡ map Some values) }
+        requires given { (values : List B.Value) × (self.old.tray.given.items ≡ map Some values) }
         ensures node { self.new.node ≡ self.old.node }
-        ensures played { (duty : Duty B) → IsUnplayed B.memory B.has_room B.value_at B.after B.gives duty self.old.node self.old.desk → IsPlayed B.memory B.has_room B.value_at B.after B.gives duty self.new.node self.new.desk }
+        ensures played { (duty : Duty B) → IsUnplayed B.memory B.has_room B.value_at B.after B.gives duty self.old.node self.old.tray → IsPlayed B.memory B.has_room B.value_at B.after B.gives duty self.new.node self.new.tray }
     {
-        self.desk.bench.play(self.desk.given.as_slice());
+        self.tray.bench.play(self.tray.given.as_slice());
     }
 }

@@ -130,8 +130,8 @@ fn leaves_and_picks(crew: &Crew<Counter>, seat: &mut Seat<Counter>) -> bool
         return false;
     };
     let is_as_it_was = second.node() == 2
-        && second.desk.bench.plays == 12
-        && second.desk.given.as_slice() == [Some(1)].as_slice();
+        && second.tray.bench.plays == 12
+        && second.tray.given.as_slice() == [Some(1)].as_slice();
     second.play();
     if crew.release(seat, &mut second, 3).is_some() {
         return false;
@@ -142,7 +142,7 @@ fn leaves_and_picks(crew: &Crew<Counter>, seat: &mut Seat<Counter>) -> bool
     if crew.pick(seat, 3).is_some() {
         return false;
     }
-    is_as_it_was && second.desk.bench.plays == 13
+    is_as_it_was && second.tray.bench.plays == 13
 }
 
 // One seat leaves a node of a diamond, and another one picks it: whether each call gave what it is to give.
@@ -161,7 +161,7 @@ fn hands_over(crew: &Crew<Counter>, giver: &mut Seat<Counter>, taker: &mut Seat<
     if crew.pick(giver, 0).is_some() {
         return false;
     }
-    picked.node() == 0 && picked.desk.bench.plays == 10
+    picked.node() == 0 && picked.tray.bench.plays == 10
 }
 
 // Benches of four nodes, with all their room, of which the one of node n begins with n + 10.

@@ -4,7 +4,7 @@ ghost use mathlib.Core.Option.{some};
 ghost use lib.ListN.{get_elem?};
 ghost use Rattle.session_model.specs.Activation.{AreLinks, place_among};
 ghost use Rattle.session_model.specs.Samples.{below};
-ghost use Rattle.activation.specs.declared.views.Desk.{Desk};
+ghost use Rattle.activation.specs.declared.views.Tray.{Tray};
 ghost use Rattle.activation.specs.declared.views.Item.TheVariants.{Value};
 ghost use Rattle.activation.specs.Contents.{AreLaid, HasRoomFor, benches_of, from_to};
 ghost use Rattle.activation.specs.Plays.{with_items, with_words, with_links};
@@ -14,7 +14,7 @@ ghost use Rattle.activation.specs.Returns.{AreSpent, AreBack, BenchAt};
 
 use crate::opening::{put, write};
 use crate::rules::{AddLink, Begin, CrewRule, Unlink};
-use crate::views::{Desk, Item, Size, View};
+use crate::views::{Tray, Item, Size, View};
 use crate::work::Work;
 use atomic_table::{Seat as Token, Table};
 use jack_types::Link;
@@ -22,7 +22,7 @@ use std::alloc::Global;
 use std::mem;
 
 // Takes the bench of a node, with the room for what it is given.
-fn take_desk<B: Work>(
+fn take_tray<B: Work>(
     board: &Table<
         Option<Item<B, B::Value>>,
         View<Option<Item<B, B::Value>>, B>,
@@ -32,14 +32,14 @@ fn take_desk<B: Work>(
     >,
     seat: &mut Token<Option<Item<B, B::Value>>, View<Option<Item<B, B::Value>>, B>>,
     node: usize,
-) -> Desk<B, B::Value>
+) -> Tray<B, B::Value>
     requires seat { (seat.old.table_id ≡ board.now.shared.table_id) × IsSole seat.old.me × (node < board.now.shared.table_id.words) }
-    requires bench { (desk : Desk B B.Value) × BenchAt seat.old.me.0.shelf.items node desk }
+    requires bench { (tray : Tray B B.Value) × BenchAt seat.old.me.0.shelf.items node tray }
     ensures seat { (seat.new.table_id ≡ seat.old.table_id) × (seat.new.me ≡ (with_items seat.old.me.0 (slice_set seat.old.me.0.shelf.items node None), [])) }
-    ensures desk { BenchAt seat.old.me.0.shelf.items node result }
+    ensures tray { BenchAt seat.old.me.0.shelf.items node result }
 {
     match put(board, seat, node, None) {
-        Some(Item::Bench(desk)) => desk,
+        Some(Item::Bench(tray)) => tray,
         _ => unreachable!(),
     }
 }
@@ -80,13 +80,13 @@ pub(crate) fn take_benches<B: Work>(
     benches: &mut Vec<B>,
 )
     requires seat { (seat.old.table_id ≡ board.now.shared.table_id) × IsSole seat.old.me × (nodes ≤ board.now.shared.table_id.words) }
-    requires benches { (n : ℕ) → n < nodes → (desk : Desk B B.Value) × BenchAt seat.old.me.0.shelf.items n desk }
+    requires benches { (n : ℕ) → n < nodes → (tray : Tray B B.Value) × BenchAt seat.old.me.0.shelf.items n tray }
     requires room { (benches.old.items ≡ []) × (nodes ≤ vec_capacity benches.old) }
     ensures count { length benches.new.items ≡ nodes }
-    ensures taken { (n : ℕ) (desk : Desk B B.Value) → n < nodes → BenchAt seat.old.me.0.shelf.items n desk → get_elem? benches.new.items n ≡ some desk.bench }
+    ensures taken { (n : ℕ) (tray : Tray B B.Value) → n < nodes → BenchAt seat.old.me.0.shelf.items n tray → get_elem? benches.new.items n ≡ some tray.bench }
 {
     for node in 0..nodes {
-        let Desk { bench, given: _ } = take_desk(board, seat, node);
+        let Tray { bench, given: _ } = take_tray(board, seat, node);
         benches.push_reserved(bench);
     }
 }
@@ -104,16 +104,16 @@ pub(crate) fn swap_benches<B: Work>(
     benches: &mut [B],
 )
     requires seat { (seat.old.table_id ≡ board.now.shared.table_id) × IsSole seat.old.me × (length benches.old ≤ board.now.shared.table_id.words) }
-    requires laid { (n : ℕ) → n < length benches.old → (desk : Desk B B.Value) × BenchAt seat.old.me.0.shelf.items n desk × HasRoomFor desk }
+    requires laid { (n : ℕ) → n < length benches.old → (tray : Tray B B.Value) × BenchAt seat.old.me.0.shelf.items n tray × HasRoomFor tray }
     ensures seat { (seat.new.table_id ≡ seat.old.table_id) × (seat.new.me ≡ (with_items seat.old.me.0 seat.new.me.0.shelf.items, [])) }
     ensures laid { AreLaid benches.old seat.new.me.0.shelf.items × (length seat.new.me.0.shelf.items ≡ length seat.old.me.0.shelf.items) }
     ensures count { length benches.new ≡ length benches.old }
-    ensures taken { (n : ℕ) (desk : Desk B B.Value) → n < length benches.old → BenchAt seat.old.me.0.shelf.items n desk → get_elem? benches.new n ≡ some desk.bench }
+    ensures taken { (n : ℕ) (tray : Tray B B.Value) → n < length benches.old → BenchAt seat.old.me.0.shelf.items n tray → get_elem? benches.new n ≡ some tray.bench }
 {
     for node in 0..benches.len() {
-        let mut desk = take_desk(board, seat, node);
-        mem::swap(&mut desk.bench, &mut benches[node]);
-        put(board, seat, node, Some(Item::Bench(desk)));
+        let mut tray = take_tray(board, seat, node);
+        mem::swap(&mut tray.bench, &mut benches[node]);
+        put(board, seat, node, Some(Item::Bench(tray)));
     }
 }
 
@@ -133,17 +133,17 @@ fn return_value<B: Work>(
 )
     requires seat { (seat.old.table_id ≡ board.now.shared.table_id) × IsSole seat.old.me × (slot < board.now.shared.table_id.words) × (node < slot) × (place < 64) }
     requires value { (value : B.Value) × (get_elem? seat.old.me.0.shelf.items slot ≡ some (Some (Value value))) }
-    requires bench { (desk : Desk B B.Value) × BenchAt seat.old.me.0.shelf.items node desk × (B.has_room desk.bench place ≡ false) }
+    requires bench { (tray : Tray B B.Value) × BenchAt seat.old.me.0.shelf.items node tray × (B.has_room tray.bench place ≡ false) }
     ensures seat { (seat.new.table_id ≡ seat.old.table_id) × (seat.new.me ≡ (with_items seat.old.me.0 seat.new.me.0.shelf.items, [])) }
-    ensures bench { (desk : Desk B B.Value) → BenchAt seat.old.me.0.shelf.items node desk → (bench : B) × BenchAt seat.new.me.0.shelf.items node record { bench = bench; given = desk.given }
-        × (B.memory bench ≡ B.memory desk.bench) × (B.has_room bench place ≡ true) × ((other : ℕ) → other ≢ place → B.has_room bench other ≡ B.has_room desk.bench other) }
+    ensures bench { (tray : Tray B B.Value) → BenchAt seat.old.me.0.shelf.items node tray → (bench : B) × BenchAt seat.new.me.0.shelf.items node record { bench = bench; given = tray.given }
+        × (B.memory bench ≡ B.memory tray.bench) × (B.has_room bench place ≡ true) × ((other : ℕ) → other ≢ place → B.has_room bench other ≡ B.has_room tray.bench other) }
     ensures others { (other : ℕ) → other ≢ node → other ≢ slot → get_elem? seat.new.me.0.shelf.items other ≡ get_elem? seat.old.me.0.shelf.items other }
     ensures size { length seat.new.me.0.shelf.items ≡ length seat.old.me.0.shelf.items }
 {
     let value = take_value(board, seat, slot);
-    let mut desk = take_desk(board, seat, node);
-    desk.bench.back(place, value);
-    put(board, seat, node, Some(Item::Bench(desk)));
+    let mut tray = take_tray(board, seat, node);
+    tray.bench.back(place, value);
+    put(board, seat, node, Some(Item::Bench(tray)));
 }
 
 /// Gives the value of each link back to the bench that handed it.

@@ -8,7 +8,7 @@ use std::collections::LinkedList;
 
 /// A bench with the room for the values that it is given.
 #[derive(Drop)]
-pub struct Desk<B, Y> {
+pub struct Tray<B, Y> {
     pub bench: B,
     pub given: Vec<Option<Y>>,
 }
@@ -17,7 +17,7 @@ pub struct Desk<B, Y> {
 #[derive(Drop)]
 pub enum Item<B, Y> {
     /// A bench that no seat holds.
-    Bench(Desk<B, Y>),
+    Bench(Tray<B, Y>),
     /// The value of a link.
     Value(Y),
 }

@@ -10,7 +10,7 @@ use Rattle.jack_types.specs.declared.moments.Moment.{Moment}
 use Rattle.client_benches.specs.Seen.{Seen, moved_to, new_bench, room_count}
 use Rattle.client_benches.specs.Wires.{kept_count, with_samples}
 use Rattle.client_kinds.specs.Buffers.{channels_of}
-use Rattle.client_benches.specs.declared.benches.Turn.{Turn}
+use Rattle.client_benches.specs.declared.benches.Stint.{Stint}
 use Rattle.client_benches.specs.declared.wires.Source.TheVariants.{Carried, Kept, Like}
 
 pub record Racked : Type 0 where
@@ -31,7 +31,7 @@ wire_total rack = sum_by (λ (bench : Seen). kept_count bench.kept.wires) rack.b
 abbrev pub link_total : Racked → ℕ
 link_total rack = sum_by room_count rack.benches
 
-abbrev pub begun : Turn → Seen → Seen
+abbrev pub begun : Stint → Seen → Seen
 begun turn bench = record bench { kept = record bench.kept { turn = Some turn } }
 
 -- a connection into an input that brings nothing yet

@@ -1,7 +1,7 @@
 //! How the benches of a rack are set.
 
 use crate::racks::Rack;
-use client_benches::Turn;
+use client_benches::Stint;
 use client_kinds::{Guest, Shape};
 use jack_types::Moment;
 
@@ -12,7 +12,7 @@ impl<G: Guest> Rack<G> {
     ghost use Rattle.session_model.specs.Kinds.{first};
     ghost use Rattle.client_kinds.specs.Standings.{HasScore, IsDisk, IsGuest};
     ghost use Rattle.client_benches.specs.Seen.{MayPlay, cleared, moved_to, rested};
-    ghost use Rattle.client_benches.specs.declared.benches.Turn.{Turn as TurnValue};
+    ghost use Rattle.client_benches.specs.declared.benches.Stint.{Stint as StintValue};
     ghost use Rattle.bench_rack.specs.Racks.{begun, bench_at, fed_with, moved, with_bench};
 
     /// Exchanges the benches at two places.
@@ -41,7 +41,7 @@ impl<G: Guest> Rack<G> {
     }
 
     /// Sets what a client does in the next cycle. There are as many links out of its node.
-    pub fn begin(&mut self, place: usize, turn: &Turn)
+    pub fn begin(&mut self, place: usize, turn: &Stint)
         requires place { place < length self.old.benches }
         requires routes { (bench_at self.old place).kept.routes ≡ [] }
         requires turn { MayPlay (bench_at self.old place).kept.standing turn.now }
@@ -67,7 +67,7 @@ impl<G: Guest> Rack<G> {
         requires least { 1 ≤ channels }
         requires most { channels ≤ 8 }
         requires samples { length samples.now ≡ channels * (bench_at self.old place).kept.standing.period }
-        requires turn { (turn : TurnValue) → (bench_at self.old place).kept.turn ≡ Some turn → turn.ports.period ≡ (bench_at self.old place).kept.standing.period }
+        requires turn { (turn : StintValue) → (bench_at self.old place).kept.turn ≡ Some turn → turn.ports.period ≡ (bench_at self.old place).kept.standing.period }
         ensures { self.new ≡ with_bench self.old place (fed_with channels samples.now (bench_at self.old place)) }
     {
         self.benches[place].feed(samples, channels);

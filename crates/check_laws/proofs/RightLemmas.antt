@@ -13,7 +13,7 @@ use Rattle.session_model.specs.Histories.{Legal, LegalSoFar, Cycles, IsWithinPha
 use Rattle.session_model.specs.Recorders.{Lost}
 use Rattle.session_model.specs.Reports.{Report, PrintedCycle, PrintedRecorder, PrintedDisk, report_of, report_lines, printed_call, printed_cycle, printed_recorder, printed_disk, call_line, cycle_line, meter_line, event_line, recorder_lines, disk_lines, line}
 use Rattle.session_model.specs.Samples.{below}
-use Rattle.session_model.specs.Scripts.{Script, Turn, turns, planned}
+use Rattle.session_model.specs.Scripts.{Script, ScriptCycle, turns, planned}
 use Rattle.session_laws.proofs.ActivationLemmas.{length-map_below, length-below}
 use Rattle.session_laws.proofs.HistoryLemmas.{LegalSoFar-none}
 use Rattle.session_laws.proofs.ListLemmas.{Each, slice_get-map}
@@ -105,11 +105,11 @@ module _ (given : Given) (written : Written) (report : Report) (form : IsForm gi
       let r : number course (suc (suc k) - 1) ≤ number course (suc (suc k)) = (right WrongCycle (suc (suc k)) (omega arith) (omega (arith, low, numbers-length))).rises in
       omega (arith, r, ap (number course) e, get-of printed.numbers k x 0 p, get-of printed.numbers (suc k) y 0 q))
 
-  bounds : (k n : ℕ) (t : Turn) → slice_get printed.numbers k ≡ Some n → slice_get (turns script) k ≡ Some t → IsWithinPhase script printed.history t n
+  bounds : (k n : ℕ) (t : ScriptCycle) → slice_get printed.numbers k ≡ Some n → slice_get (turns script) k ≡ Some t → IsWithinPhase script printed.history t n
   bounds k n t p q =
       let low : k < length (turns script) = slice-inside (turns script) k t q in
       let w : IsWithinPhase script printed.history (turn course (suc k)) (number course (suc k)) = (right WrongCycle (suc k) (omega arith) (omega (arith, low))).within in
-      subst (λ (m : ℕ). IsWithinPhase script printed.history t m) (get-of printed.numbers k n 0 p) (subst (λ (u : Turn). IsWithinPhase script printed.history u (number course (suc k))) (get-of (turns script) k t no_turn q) w)
+      subst (λ (m : ℕ). IsWithinPhase script printed.history t m) (get-of printed.numbers k n 0 p) (subst (λ (u : ScriptCycle). IsWithinPhase script printed.history u (number course (suc k))) (get-of (turns script) k t no_turn q) w)
 
   asked : KeepsAsked script printed.history printed.numbers
   asked i entry plan p q one = go (nat_lt (length (turns script)) plan.asked) refl

@@ -12,7 +12,7 @@ use Rattle.jack_types.specs.declared.scripts.Body.TheVariants.{Do, Run, Freewhee
 use Rattle.jack_types.specs.declared.scripts.Header.{Header}
 use Rattle.session_model.specs.Courses.{Course, no_turn, number, adopted, period, graph, first_state}
 use Rattle.session_model.specs.Grammar.{IsScript, IsCommand, IsTempo, IsPeriod, periods}
-use Rattle.session_model.specs.Scripts.{Script, Phase, Turn, phases, phases_of, with_do, turns, turns_from}
+use Rattle.session_model.specs.Scripts.{Script, Phase, ScriptCycle, phases, phases_of, with_do, turns, turns_from}
 use Rattle.session_model.specs.State.{Master, is_active_in}
 use Rattle.session_model.specs.Tempo.{bbt, ticks_at}
 use Rattle.session_model.specs.Transport.{Row, row, next_frame, asked_frame, moment, active_master}
@@ -41,12 +41,12 @@ phases-low header (Freewheel cycles ∷ lines) earlier period low h = (low, phas
 phases-low header (Lane lane begun command ∷ lines) earlier period low h = phases-low header lines (earlier ++ Lane lane begun command ∷ []) period low (AreBodies-rest header earlier (Lane lane begun command) lines h)
 phases-low header (Period next ∷ lines) earlier period low h = phases-low header lines (earlier ++ Period next ∷ []) next (period-low next (h 0 (Period next) refl).2) (AreBodies-rest header earlier (Period next) lines h)
 
-turns-low : (index : ℕ) (phs : List Phase) → Each IsLow phs → Each (λ (t : Turn). t.period ≤ 4096) (turns_from index phs)
+turns-low : (index : ℕ) (phs : List Phase) → Each IsLow phs → Each (λ (t : ScriptCycle). t.period ≤ 4096) (turns_from index phs)
 turns-low index [] h = tt
 turns-low index (phase ∷ phs) h =
-    Each-append (λ (t : Turn). t.period ≤ 4096) (replicate phase.cycles (record { period = phase.period; is_freewheel = phase.is_freewheel; phase = index })) (turns_from (index + 1) phs) (run phase.cycles) (turns-low (index + 1) phs h.1)
+    Each-append (λ (t : ScriptCycle). t.period ≤ 4096) (replicate phase.cycles (record { period = phase.period; is_freewheel = phase.is_freewheel; phase = index })) (turns_from (index + 1) phs) (run phase.cycles) (turns-low (index + 1) phs h.1)
   where
-    run : (n : ℕ) → Each (λ (t : Turn). t.period ≤ 4096) (replicate n (record { period = phase.period; is_freewheel = phase.is_freewheel; phase = index }))
+    run : (n : ℕ) → Each (λ (t : ScriptCycle). t.period ≤ 4096) (replicate n (record { period = phase.period; is_freewheel = phase.is_freewheel; phase = index }))
     run zero = tt
     run (suc n) = (h.0, run n)
 
@@ -98,7 +98,7 @@ next_frame-fits k r h = go r.target r.state h.target
 module _ (course : Course) (script_is : IsScript course.script) (commands : AreCommands course.script course.changes) where
   pub period-fits : (k : ℕ) → period course k ≤ 4096
   period-fits k =
-      Each-get (λ (t : Turn). t.period ≤ 4096) (no_turn ∷ turns course.script) k no_turn
+      Each-get (λ (t : ScriptCycle). t.period ≤ 4096) (no_turn ∷ turns course.script) k no_turn
       (omega arith, turns-low 0 (phases course.script) (phases-low course.script.header course.script.lines [] course.script.header.period (period-low course.script.header.period script_is.header.period) script_is.lines))
       (omega arith)
 

@@ -22,7 +22,6 @@ use Rattle.session_model.specs.Reports.{Report, PrintedCall, PrintedCycle, Print
 use Rattle.session_model.specs.Samples.{below}
 use Rattle.session_model.specs.Scripts.{Script, Planned, planned}
 use Rattle.session_model.specs.Serial.{serial_printed}
-use Rattle.session_model.specs.Served.{serves, serves_version}
 use Rattle.session_laws.proofs.CycleLemmas.{find-contains}
 use Rattle.session_laws.proofs.ExplainedLemmas.{Explained-serial}
 use Rattle.session_laws.proofs.GrammarLaws.{spelled}
@@ -68,7 +67,6 @@ recording = record {
 }
 
 recording_is : IsScript recording
-unfolding serves serves_version
 recording_is =
     (spelled
     (lf (codes "jackd 1") ++ lf (codes "rate 8000") ++ lf (codes "period 4") ++ lf (codes "capture 1") ++ lf (codes "playback 1 16") ++ lf (codes "mode serial")

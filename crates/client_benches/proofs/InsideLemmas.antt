@@ -14,7 +14,7 @@ use Rattle.port_mixer.specs.Sums.{Mix}
 use Rattle.session_model.specs.Benches.{Signal}
 use Rattle.session_model.specs.Kinds.{Memory, first, play}
 use Rattle.client_kinds.specs.Standings.{Standing, HasGuest, HasScore, IsGuest}
-use Rattle.client_benches.specs.declared.benches.Turn.{Turn}
+use Rattle.client_benches.specs.declared.benches.Stint.{Stint}
 use Rattle.client_benches.specs.declared.values.Route.{Route}
 use Rattle.client_benches.specs.declared.wires.Wire.{Wire}
 use Rattle.client_benches.specs.Insides.{HasAllRoom, IsPlayedShape, IsReached, IsSound}
@@ -39,7 +39,7 @@ not-lent (Disk disk) score is e there = is
 not-lent (Guest guest) None is e there = true≢false (sym there)
 not-lent (Guest guest) (Some score) is e there = true≢false (ap (λ o. is_some o) e)
 
-pub sound-lent : (standing new : Standing) (turn : Option Turn) (routes : List Route) → IsGuest standing.kind → standing.score ≡ None
+pub sound-lent : (standing new : Standing) (turn : Option Stint) (routes : List Route) → IsGuest standing.kind → standing.score ≡ None
     → ((scores : List Score) → HasScore new scores → new.memory ≡ first scores new.kind) → IsSound standing turn routes → IsSound new turn routes
 sound-lent standing new turn routes kind none fresh s = record {
   task = λ now e. absurd (not-lent standing.kind standing.score kind none (s.task now e).guest);
@@ -47,11 +47,11 @@ sound-lent standing new turn routes kind none fresh s = record {
   log = ap (λ memory. memory.log) (fresh (own_scores new) (HasScore-own new)) ∙ first-log (own_scores new) new.kind;
 }
 
-below-carried : (turn : Option Turn) (output : Option ℕ) → IfSome output (λ output. ForSome turn (λ now. output < now.ports.outputs)) → (now : Turn) → turn ≡ Some now → IsBelow now.ports.outputs output
+below-carried : (turn : Option Stint) (output : Option ℕ) → IfSome output (λ output. ForSome turn (λ now. output < now.ports.outputs)) → (now : Stint) → turn ≡ Some now → IsBelow now.ports.outputs output
 below-carried turn None there now e = tt
 below-carried turn (Some output) there now e = there now e
 
-pub sound-carried : (standing : Standing) (turn : Option Turn) (routes : List Route) (route : Route) → IfSome route.output (λ output. ForSome turn (λ now. output < now.ports.outputs)) → IsSound standing turn routes → IsSound standing turn (routes ++ route ∷ [])
+pub sound-carried : (standing : Standing) (turn : Option Stint) (routes : List Route) (route : Route) → IfSome route.output (λ output. ForSome turn (λ now. output < now.ports.outputs)) → IsSound standing turn routes → IsSound standing turn (routes ++ route ∷ [])
 sound-carried standing turn routes route there s = record {
   task = s.task;
   outputs = λ now e. All-more (HasOutput now.ports.outputs) routes route (s.outputs now e) (below-carried turn route.output there now e);
@@ -76,10 +76,10 @@ room-stays standing new memory mixer mixer_now padded padded_now input input_now
     same : new.period ≡ standing.period
     same = ap (λ (s : Standing). s.period) is
 
-pub shape-played : (standing new : Standing) (memory : Memory) (turn : Turn) → new ≡ record standing { memory = memory } → MayPlay standing turn → IsPlayedShape new.period turn.ports
+pub shape-played : (standing new : Standing) (memory : Memory) (turn : Stint) → new ≡ record standing { memory = memory } → MayPlay standing turn → IsPlayedShape new.period turn.ports
 shape-played standing new memory turn is may = record { inputs = may.inputs; outputs = may.outputs; within = omega (arith, may.period, ap (λ (s : Standing). s.period) is) }
 
-pub sound-played : (standing new : Standing) (turn : Option Turn) (now : Turn) (routes : List Route) (inputs : List (List ℤ)) → turn ≡ Some now
+pub sound-played : (standing new : Standing) (turn : Option Stint) (now : Stint) (routes : List Route) (inputs : List (List ℤ)) → turn ≡ Some now
     → new ≡ record standing { memory = (play (own_scores standing) standing.kind standing.memory now.ports.outputs now.moment now.ports.period inputs).memory }
     → IsSound standing turn routes → IsSound new turn routes
 sound-played standing new turn now routes inputs busy is s = subst (λ (z : Standing). IsSound z turn routes) (sym is) (record {

@@ -21,7 +21,7 @@ use Rattle.session_model.specs.Samples.{below, mix}
 use Rattle.session_laws.proofs.ActivationLemmas.{length-map_below, get_or-map_below}
 use Rattle.session_laws.proofs.PlaceLemmas.{map-after}
 use Rattle.client_kinds.specs.Standings.{Standing, HasScore}
-use Rattle.client_benches.specs.declared.benches.Turn.{Turn}
+use Rattle.client_benches.specs.declared.benches.Stint.{Stint}
 use Rattle.client_benches.specs.declared.values.Route.{Route}
 use Rattle.client_benches.specs.Routes.{carried_by, route_of, routes_on}
 use Rattle.client_benches.specs.Seen.{Remembered, kept_after, kept_gives, own_bench, own_scores, task_in}
@@ -92,15 +92,15 @@ first_fed scores _ = refl
 
 -- what a bench with this task gets, plays and gives
 module _ (kept : Remembered) (given : List (List Signal)) where
-  abbrev bench_by : Option Turn → Bench
+  abbrev bench_by : Option Stint → Bench
   bench_by turn = record (own_bench kept) { task = option_map (task_in (own_scores kept.standing) kept) turn }
 
-  abbrev after_by : Option Turn → Remembered
+  abbrev after_by : Option Stint → Remembered
   after_by turn =
       let after = option_map_or (bench_played (bench_by turn) given) (bench_by turn).task (bench_by turn) in
       record kept { standing = record kept.standing { memory = after.memory }; sounds = after.sounds; audio = after.audio }
 
-  abbrev gives_by : ℕ → Option Turn → List Signal
+  abbrev gives_by : ℕ → Option Stint → List Signal
   gives_by place turn = option_map_or (handed (bench_by turn) given place) (bench_by turn).task []
 
   pub kept-idle : kept.turn ≡ None → kept ≡ kept_after kept given
@@ -109,7 +109,7 @@ module _ (kept : Remembered) (given : List (List Signal)) where
   pub gives-idle : (place : ℕ) → kept.turn ≡ None → [] ≡ kept_gives kept given place
   gives-idle place idle = ap (gives_by place) (sym idle)
 
-  module _ (turn : Turn) where
+  module _ (turn : Stint) where
     abbrev the_task : Task
     the_task = task_in (own_scores kept.standing) kept turn
 

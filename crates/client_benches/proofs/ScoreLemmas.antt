@@ -15,7 +15,7 @@ use Rattle.session_model.specs.Cycles.{ClientPlayed}
 use Rattle.session_model.specs.Kinds.{Memory, Played, play, midi_play, guest_turn, guest_played, silent, input_at}
 use Rattle.session_laws.proofs.PlaceLemmas.{map-same}
 use Rattle.client_kinds.specs.Standings.{Standing, HasScore}
-use Rattle.client_benches.specs.declared.benches.Turn.{Turn}
+use Rattle.client_benches.specs.declared.benches.Stint.{Stint}
 use Rattle.client_benches.specs.Seen.{Remembered, HasScores, bench_in, kept_after, kept_gives, own_scores, task_in}
 use Rattle.client_benches.proofs.KeptLemmas.{HasScore-own}
 
@@ -36,30 +36,30 @@ midi-silent _ memory moment period = refl
 
 module _ (scores : List Score) where
   module _ (kept : Remembered) (given : List (List Signal)) where
-    abbrev with_turn : Option Turn → Remembered
+    abbrev with_turn : Option Stint → Remembered
     with_turn turn = record kept { turn = turn }
 
-    abbrev played_by : List Score → Turn → Played
+    abbrev played_by : List Score → Stint → Played
     played_by s turn = play s kept.standing.kind kept.standing.memory turn.ports.outputs turn.moment turn.ports.period (mixed (task_in s kept turn) given)
 
-    abbrev client_by : Turn → Played → ClientPlayed
+    abbrev client_by : Stint → Played → ClientPlayed
     client_by turn sound =
         let midi = midi_play [] kept.standing.kind sound.memory 0 turn.moment turn.ports.period [] in
         record { audio = sound.outputs; midi = midi.outputs; memory = midi.memory }
 
-    same-played : (turn : Turn) → HasScore kept.standing scores → played_by (own_scores kept.standing) turn ≡ played_by scores turn
+    same-played : (turn : Stint) → HasScore kept.standing scores → played_by (own_scores kept.standing) turn ≡ played_by scores turn
     same-played turn fits = play-scores kept.standing (own_scores kept.standing) scores kept.standing.memory turn.ports.outputs turn.moment turn.ports.period (mixed (task_in scores kept turn) given) (HasScore-own kept.standing) fits
 
     pub after-scores : HasScores scores kept → bench_in scores (kept_after kept given) ≡ bench_after (bench_in scores kept) given
     after-scores fits = go kept.turn fits
       where
-        behind : Turn → ClientPlayed → List (List ℤ) → Bench
+        behind : Stint → ClientPlayed → List (List ℤ) → Bench
         behind turn played sounds = record { task = Some (task_in scores kept turn); memory = played.memory; sounds = sounds; notes = []; audio = played.audio; midi = played.midi }
 
-        silent_behind : Turn → ClientPlayed → Bench
+        silent_behind : Stint → ClientPlayed → Bench
         silent_behind turn played = record (behind turn played (mixed (task_in scores kept turn) given)) { midi = [] }
 
-        go : (o : Option Turn) → ((turn : Turn) → o ≡ Some turn → HasScore kept.standing scores) → bench_in scores (kept_after (with_turn o) given) ≡ bench_after (bench_in scores (with_turn o)) given
+        go : (o : Option Stint) → ((turn : Stint) → o ≡ Some turn → HasScore kept.standing scores) → bench_in scores (kept_after (with_turn o) given) ≡ bench_after (bench_in scores (with_turn o)) given
         go None h = refl
         go (Some turn) h =
             ap (λ (sound : Played). silent_behind turn (client_by turn sound)) (same-played turn (h turn refl))
@@ -68,7 +68,7 @@ module _ (scores : List Score) where
     pub gives-scores : (place : ℕ) → HasScores scores kept → kept_gives kept given place ≡ bench_gives (bench_in scores kept) given place
     gives-scores place fits = go kept.turn fits
       where
-        go : (o : Option Turn) → ((turn : Turn) → o ≡ Some turn → HasScore kept.standing scores) → kept_gives (with_turn o) given place ≡ bench_gives (bench_in scores (with_turn o)) given place
+        go : (o : Option Stint) → ((turn : Stint) → o ≡ Some turn → HasScore kept.standing scores) → kept_gives (with_turn o) given place ≡ bench_gives (bench_in scores (with_turn o)) given place
         go None h = refl
         go (Some turn) h =
             ap (λ (sound : Played). map (routed turn.ports.period (client_by turn sound)) (slice_index_or (task_in scores kept turn).routes place [])) (same-played turn (h turn refl))

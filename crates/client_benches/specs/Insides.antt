@@ -6,13 +6,13 @@ use Rattle.client_kinds.specs.Buffers.{buffers_of}
 use Rattle.client_kinds.specs.Standings.{Standing}
 use Rattle.client_kinds.specs.declared.guests.Shape.{Shape}
 use Rattle.port_mixer.specs.Sums.{Mix}
-use Rattle.client_benches.specs.declared.benches.Turn.{Turn}
+use Rattle.client_benches.specs.declared.benches.Stint.{Stint}
 use Rattle.client_benches.specs.declared.values.Route.{Route}
 use Rattle.client_benches.specs.declared.wires.Wire.{Wire}
 use Rattle.client_benches.specs.Routes.{HasOutput}
 use Rattle.client_benches.specs.Seen.{Seen, MayPlay}
 
-abbrev pub seen_of : Standing → Option Turn → List Wire → List Route → Shape → List ℤ → List ℤ → List (Option (List Signal)) → Seen
+abbrev pub seen_of : Standing → Option Stint → List Wire → List Route → Shape → List ℤ → List ℤ → List (Option (List Signal)) → Seen
 seen_of standing turn wires routes played input output rooms = record {
   kept = record {
     standing = standing;
@@ -48,7 +48,7 @@ pub record IsReached (reached : ℕ) (rooms : List (Option (List Signal))) : Typ
   pub beyond : (place : ℕ) → reached ≤ place → slice_index_or rooms place None ≡ None
 
 -- a task can be played, its routes name its outputs, and nothing is logged
-pub record IsSound (standing : Standing) (turn : Option Turn) (routes : List Route) : Type 0 where
-  pub task : (now : Turn) → turn ≡ Some now → MayPlay standing now
-  pub outputs : (now : Turn) → turn ≡ Some now → All (HasOutput now.ports.outputs) routes
+pub record IsSound (standing : Standing) (turn : Option Stint) (routes : List Route) : Type 0 where
+  pub task : (now : Stint) → turn ≡ Some now → MayPlay standing now
+  pub outputs : (now : Stint) → turn ≡ Some now → All (HasOutput now.ports.outputs) routes
   pub log : standing.memory.log ≡ []

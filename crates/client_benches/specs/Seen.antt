@@ -18,7 +18,7 @@ use Rattle.session_model.specs.Benches.{Task, Bench, Signal, bench_after, bench_
 use Rattle.session_model.specs.Kinds.{first}
 use Rattle.session_model.specs.Samples.{below}
 use Rattle.client_kinds.specs.Standings.{Standing, HasGuest, HasScore}
-use Rattle.client_benches.specs.declared.benches.Turn.{Turn}
+use Rattle.client_benches.specs.declared.benches.Stint.{Stint}
 use Rattle.client_benches.specs.declared.values.Route.{Route}
 use Rattle.client_benches.specs.declared.wires.Wire.{Wire}
 use Rattle.client_benches.specs.Routes.{routes_on}
@@ -27,7 +27,7 @@ use Rattle.client_benches.specs.Wires.{parts_into}
 -- the client's kind and memory, its work in a cycle unless it is idle, the connections into it and out of it in the order of making, and what it got and gave when it was last played
 pub record Remembered : Type 0 where
   pub standing : Standing
-  pub turn : Option Turn
+  pub turn : Option Stint
   pub wires : List Wire
   pub routes : List Route
   pub sounds : List (List ℤ)
@@ -56,7 +56,7 @@ own_scores standing = scores_by standing.kind
     scores_by _ = []
 
 -- there is no MIDI
-abbrev pub task_in : List Score → Remembered → Turn → Task
+abbrev pub task_in : List Score → Remembered → Stint → Task
 task_in scores kept turn = record {
   scores = scores;
   list = [];
@@ -94,7 +94,7 @@ kept_gives kept given place = bench_gives (own_bench kept) given place
 
 -- of a bench that has a task, the scores of the program's guests have its guest's at its place
 abbrev pub HasScores : List Score → Remembered → Type 0
-HasScores scores kept = (turn : Turn) → kept.turn ≡ Some turn → HasScore kept.standing scores
+HasScores scores kept = (turn : Stint) → kept.turn ≡ Some turn → HasScore kept.standing scores
 
 abbrev pub new_standing : Kind → ℕ → Standing
 new_standing kind period = record { kind = kind; period = period; score = None; memory = first [] kind }
@@ -107,7 +107,7 @@ new_bench kind period = record {
 }
 
 -- the task of a later cycle
-abbrev pub moved_to : Moment → ℕ → Turn → Turn
+abbrev pub moved_to : Moment → ℕ → Stint → Stint
 moved_to moment period turn = record turn { moment = moment; ports = record turn.ports { period = period } }
 
 -- idle, with no wire, no route and no room; what it played last stays
@@ -131,7 +131,7 @@ abbrev pub nobody : Remembered
 nobody = (new_bench Pass 0).kept
 
 -- a guest's bench has its guest, a block that was fed is of the greatest period, and moments, periods and ports are in range
-pub record MayPlay (standing : Standing) (turn : Turn) : Type 0 where
+pub record MayPlay (standing : Standing) (turn : Stint) : Type 0 where
   pub guest : HasGuest standing.kind standing.score
   pub rate : 8000 ≤ turn.moment.rate
   pub frames : turn.moment.frame + turn.ports.period < 2 ^ 32

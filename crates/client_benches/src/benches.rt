@@ -32,7 +32,7 @@ impl Model for BenchMemory {
 /// A client's work in a cycle: when it plays, with how many ports and frames, and how many links go
 /// out from its node.
 #[derive(Clone, Copy, PartialEq, Eq, Debug, Drop)]
-pub struct Turn {
+pub struct Stint {
     pub moment: Moment,
     pub ports: Shape,
     pub links: u32,
@@ -56,7 +56,7 @@ pub(crate) struct Parts<G: Guest> {
     pub(crate) input: Vec<i32>,
     pub(crate) output: Vec<i32>,
     pub(crate) played: Shape,
-    pub(crate) turn: Option<Turn>,
+    pub(crate) turn: Option<Stint>,
     pub(crate) wires: Vec<Wire>,
     pub(crate) routes: Vec<Route>,
     pub(crate) rooms: Vec<Option<Rooms>>,

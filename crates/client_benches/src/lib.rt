@@ -20,7 +20,7 @@ mod tests;
 mod values;
 mod wires;
 
-pub use benches::{BenchMemory, ClientBench, Turn};
+pub use benches::{BenchMemory, ClientBench, Stint};
 pub use gathering::Few;
 pub use known::Room;
 pub use laws::{crew_plays_by_all_scores, plays_by_all_scores};

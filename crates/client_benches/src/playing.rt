@@ -8,7 +8,7 @@ ghost use Rattle.client_benches.specs.Insides.{IsReached};
 ghost use Rattle.client_benches.specs.Routes.{HasOutput, carried_by};
 ghost use Rattle.client_benches.specs.Seen.{AreFilled, own_scores};
 
-use crate::benches::{BenchMemory, ClientBench, Turn};
+use crate::benches::{BenchMemory, ClientBench, Stint};
 use crate::mixing::mix_inputs;
 use crate::values::{Rooms, Route};
 use activation::Work;
@@ -91,7 +91,7 @@ impl<G: Guest> ClientBench<G> {
     ghost use Rattle.client_benches.specs.Seen.{kept_after, kept_gives, room_at};
 
     /// Mixes the inputs, plays on them, and fills the rooms of the outgoing links.
-    fn play_turn(&mut self, turn: Turn, given: &[Option<Rooms>])
+    fn play_turn(&mut self, turn: Stint, given: &[Option<Rooms>])
         requires turn { self.old.kept.turn ≡ Some turn }
         requires given { All (λ value. IsSome value) given.now }
         ensures kept { self.new.kept ≡ kept_after self.old.kept (values_of given.now) }

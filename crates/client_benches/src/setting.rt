@@ -3,7 +3,7 @@
 ghost use Rattle.std.specs.Prelude.{◌≡◌, ◌+◌, ◌≤◌, [], None, count_by, is_some, length, replicate, vec_capacity};
 ghost use Rattle.client_benches.specs.Wires.{kept_count};
 
-use crate::benches::{ClientBench, Turn, nothing};
+use crate::benches::{ClientBench, Stint, nothing};
 use crate::known::Room;
 use crate::reading::buffer;
 use crate::values::{Rooms, Route};
@@ -46,7 +46,7 @@ impl<G: Guest> ClientBench<G> {
     ghost use Rattle.client_kinds.specs.Standings.{HasScore, IsDisk, IsGuest};
     ghost use Rattle.client_benches.specs.Seen.{MayPlay, cleared, moved_to, rested, room_count};
     ghost use Rattle.client_benches.specs.Wires.{kept_count, with_samples};
-    ghost use Rattle.client_benches.specs.declared.benches.Turn.{Turn as TurnValue};
+    ghost use Rattle.client_benches.specs.declared.benches.Stint.{Stint as StintValue};
     ghost use Rattle.client_benches.specs.declared.wires.Source.TheVariants.{Kept, Carried, Like};
 
     /// Lends a guest, which is reset.
@@ -80,7 +80,7 @@ impl<G: Guest> ClientBench<G> {
         requires least { 1 ≤ channels }
         requires most { channels ≤ 8 }
         requires samples { length samples.now ≡ channels * self.old.kept.standing.period }
-        requires turn { (turn : TurnValue) → self.old.kept.turn ≡ Some turn → turn.ports.period ≡ self.old.kept.standing.period }
+        requires turn { (turn : StintValue) → self.old.kept.turn ≡ Some turn → turn.ports.period ≡ self.old.kept.standing.period }
         ensures { self.new ≡ record self.old { kept = record self.old.kept { standing = record self.old.kept.standing { memory = record self.old.kept.standing.memory { fed = channels_of channels self.old.kept.standing.period samples.now } } } } }
     {
         self.parts.bench.feed(samples, channels);
@@ -121,7 +121,7 @@ impl<G: Guest> ClientBench<G> {
         requires turn { MayPlay self.old.kept.standing (record { moment = moment.now; ports = ports; links = links }) }
         ensures { self.new ≡ record self.old { kept = record self.old.kept { turn = Some (record { moment = moment.now; ports = ports; links = links }) } } }
     {
-        self.parts.turn = Some(Turn {
+        self.parts.turn = Some(Stint {
             moment: *moment,
             ports,
             links,

@@ -13,7 +13,7 @@ ghost use Rattle.client_kinds.specs.Standings.{HasGuest, HasScore};
 
 use crate::buffers::buffer_at;
 use crate::guests::{Guest, Shape};
-use crate::seats::Seat;
+use crate::seats::GuestSeat;
 use crate::voices::Voice;
 use jack_types::{Kind, Memory, Moment};
 use port_mixer::Mixer;
@@ -34,7 +34,7 @@ pub enum Health {
 pub struct Bench<G: Guest> {
     voice: Voice,
     mixer: Mixer,
-    seat: Seat<G>,
+    seat: GuestSeat<G>,
 }
 
 impl<G: Guest> Model for Bench<G> {
@@ -122,7 +122,7 @@ fn play_voice(
 fn play_parts<G: Guest>(
     voice: &mut Voice,
     mixer: &mut Mixer,
-    seat: &mut Seat<G>,
+    seat: &mut GuestSeat<G>,
     moment: &Moment,
     ports: Shape,
     input: &[i32],
@@ -181,7 +181,7 @@ impl<G: Guest> Bench<G> {
             Ok(voice) => Ok(Bench {
                 voice,
                 mixer,
-                seat: Seat::new(),
+                seat: GuestSeat::new(),
             }),
             Err(_) => Err(Memory),
         }

@@ -13,12 +13,12 @@ use std::marker::Model;
 
 /// A guest, or none.
 #[derive(Drop)]
-pub(crate) struct Seat<G: Guest> {
+pub(crate) struct GuestSeat<G: Guest> {
     guest: Option<G>,
     is_dead: bool,
 }
 
-impl<G: Guest> Model for Seat<G> {
+impl<G: Guest> Model for GuestSeat<G> {
     ghost use Rattle.std.specs.Prelude.{None, option_map};
     ghost use Rattle.std.specs.Option.{option_map_or};
     ghost use Rattle.client_kinds.specs.Seats.{Asked};
@@ -31,12 +31,12 @@ impl<G: Guest> Model for Seat<G> {
     } };
 }
 
-impl<G: Guest> Seat<G> {
+impl<G: Guest> GuestSeat<G> {
     /// A seat with no guest.
-    pub(crate) fn new() -> Seat<G>
+    pub(crate) fn new() -> GuestSeat<G>
         ensures { result ≡ record { seated = record { playing = None; is_dead = false }; told = None } }
     {
-        Seat {
+        GuestSeat {
             guest: None,
             is_dead: false,
         }

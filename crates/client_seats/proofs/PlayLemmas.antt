@@ -9,7 +9,7 @@ use Rattle.jack_types.specs.declared.kinds.Score.{Score}
 use Rattle.session_model.specs.Benches.{Signal, mixed}
 use Rattle.session_model.specs.Kinds.{GuestTurn, Memory, guest_played, guest_turn, input_at, silent}
 use Rattle.client_kinds.specs.Standings.{HasGuest, HasScore, Standing}
-use Rattle.client_benches.specs.declared.benches.Turn.{Turn}
+use Rattle.client_benches.specs.declared.benches.Stint.{Stint}
 use Rattle.client_benches.specs.Seen.{Remembered, kept_after, new_standing, own_scores, task_in}
 use Rattle.bench_rack.specs.Racks.{Racked}
 use Rattle.client_seats.specs.Owners.{Owned, owner_at, pooled}
@@ -20,7 +20,7 @@ guest-bare : (dead : Bool) (guest period outputs : ℕ) (memory : Memory) (turn 
 guest-bare true guest period outputs memory turn bare = bare
 guest-bare false guest period outputs memory turn bare = ap (λ (m : Memory). record m { numbers = turn.numbers; is_dead = (guest_played period outputs memory turn).memory.is_dead }) bare
 
-played-bare : (kept : Remembered) (given : List (List Signal)) (kind : Kind) (turn : Option Turn) → IsBare kind kept.standing.memory
+played-bare : (kept : Remembered) (given : List (List Signal)) (kind : Kind) (turn : Option Stint) → IsBare kind kept.standing.memory
     → IsBare kind (kept_after (record kept { standing = record kept.standing { kind = kind }; turn = turn }) given).standing.memory
 played-bare kept given (Guest guest) None bare = bare
 played-bare kept given (Guest guest) (Some turn) bare = guest-bare kept.standing.memory.is_dead guest turn.ports.period turn.ports.outputs kept.standing.memory

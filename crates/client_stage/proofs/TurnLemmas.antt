@@ -16,7 +16,7 @@ use Rattle.graph_word.specs.Publications.{IsFront}
 use Rattle.port_registry.specs.Registered.{open_client, open_clients}
 use Rattle.cycle_plan.specs.Plans.{IsPlanned, Planned}
 use Rattle.client_benches.specs.Seen.{MayPlay, Seen, cleared, moved_to}
-use Rattle.client_benches.specs.declared.benches.Turn.{Turn}
+use Rattle.client_benches.specs.declared.benches.Stint.{Stint}
 use Rattle.client_wiring.specs.Keeping.{GoesOn}
 use Rattle.client_wiring.specs.Wirings.{Wired, wired_of}
 use Rattle.bench_rack.specs.Racks.{Racked, bench_at, moved}
@@ -152,18 +152,18 @@ nodes-staffed staged plan on is_staffed = nodes-within plan staged.racked staged
 
 -- a client that played may go on
 pub may-go-on : (staged : Staged) (last plan : Planned) → GoesOn last plan → plan.changes ≡ last.changes → length plan.network.set.edges ≤ 512 → (on : StandsOn staged last) → staged.is_staffed ≡ true → (moment : Moment) (period : ℕ) → 8000 ≤ moment.rate
-    → moment.frame + period < 2 ^ 32 → period ≤ staged.room → (n : ℕ) → n < length last.nodes → (turn : Turn) → (bench_at staged.racked n).kept.turn ≡ Some turn → MayPlay (standing_at staged.racked n) (moved_to moment period turn)
+    → moment.frame + period < 2 ^ 32 → period ≤ staged.room → (n : ℕ) → n < length last.nodes → (turn : Stint) → (bench_at staged.racked n).kept.turn ≡ Some turn → MayPlay (standing_at staged.racked n) (moved_to moment period turn)
 may-go-on staged last plan goes changes few_edges on is_staffed moment period rate frames within n low turn e = record {
   guest = ((on.staffed is_staffed).has n low).guest;
   rate = rate;
   frames = frames;
   period = subst (λ k. period ≤ k) (sym (on.stands.periods n (omega (arith, low, nodes-staffed staged last on is_staffed)))) within;
   fed = λ some. absurd (some_none some (on.stands.unfed n));
-  inputs = subst (λ (t : Turn). t.ports.inputs ≤ 16) turn_is (subst (λ (w : Wired). (widths_at w n).inputs ≤ 16) wired_is (few-inputs plan goes.planned few_edges n low_now));
-  outputs = subst (λ (t : Turn). t.ports.outputs ≤ 16) turn_is (subst (λ (w : Wired). (widths_at w n).outputs ≤ 16) wired_is (few-outputs plan goes.planned few_edges n low_now));
+  inputs = subst (λ (t : Stint). t.ports.inputs ≤ 16) turn_is (subst (λ (w : Wired). (widths_at w n).inputs ≤ 16) wired_is (few-inputs plan goes.planned few_edges n low_now));
+  outputs = subst (λ (t : Stint). t.ports.outputs ≤ 16) turn_is (subst (λ (w : Wired). (widths_at w n).outputs ≤ 16) wired_is (few-outputs plan goes.planned few_edges n low_now));
 }
   where
-    some_is : {a b : Turn} → Some a ≡ Some b → a ≡ b
+    some_is : {a b : Stint} → Some a ≡ Some b → a ≡ b
     some_is p = cc
 
     some_none : {xs : List (List ℤ)} → 0 < length xs → xs ≡ [] → ⊥

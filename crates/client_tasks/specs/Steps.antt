@@ -15,7 +15,7 @@ use Rattle.jack_types.specs.declared.ports.Link.{Link}
 use Rattle.session_model.specs.Activation.{link_at}
 use Rattle.session_model.specs.Samples.{below}
 use Rattle.client_benches.specs.Seen.{Seen}
-use Rattle.client_benches.specs.declared.benches.Turn.{Turn}
+use Rattle.client_benches.specs.declared.benches.Stint.{Stint}
 use Rattle.client_benches.specs.declared.values.Route.{Route}
 use Rattle.client_benches.specs.declared.wires.Wire.{Wire}
 use Rattle.client_wiring.specs.declared.joints.Carried.{Carried}
@@ -67,8 +67,8 @@ IsAmong count (Audio output) = (output < 2 ^ 16) × (output < count)
 IsAmong count (Midi output) = ⊤
 
 -- an audio output is one of the client's
-abbrev pub IsOneOf : Option Turn → Output → Type 0
-IsOneOf turn (Audio output) = (output < 2 ^ 16) × ForSome turn (λ (now : Turn). output < now.ports.outputs)
+abbrev pub IsOneOf : Option Stint → Output → Type 0
+IsOneOf turn (Audio output) = (output < 2 ^ 16) × ForSome turn (λ (now : Stint). output < now.ports.outputs)
 IsOneOf turn (Midi output) = ⊤
 
 abbrev pub IsOutput : Racked → Carried → Type 0

@@ -12,7 +12,7 @@ use Rattle.jack_types.specs.declared.ports.Link.{Link}
 use Rattle.session_model.specs.Activation.{link_at, outgoing, place_among}
 use Rattle.session_model.specs.Samples.{below}
 use Rattle.client_benches.specs.Seen.{Seen, cleared, has_room_at}
-use Rattle.client_benches.specs.declared.benches.Turn.{Turn}
+use Rattle.client_benches.specs.declared.benches.Stint.{Stint}
 use Rattle.client_benches.specs.declared.values.Route.{Route}
 use Rattle.client_benches.specs.declared.wires.Source.{Source}
 use Rattle.client_benches.specs.declared.wires.Source.TheVariants.{Carried as CarriedSource, Kept as KeptSource, Like}
@@ -70,7 +70,7 @@ routes_of carried n = map route_to (filter (λ (one : Carried). one.node == n) c
 abbrev pub widths_at : Wired → ℕ → Widths
 widths_at wiring n = slice_index_or wiring.widths n (record { inputs = 0; outputs = 0 })
 
-abbrev pub turn_of : Wired → List Link → Moment → ℕ → ℕ → Turn
+abbrev pub turn_of : Wired → List Link → Moment → ℕ → ℕ → Stint
 turn_of wiring links moment period n = record {
   moment = moment;
   ports = record { inputs = (widths_at wiring n).inputs; outputs = (widths_at wiring n).outputs; period = period };

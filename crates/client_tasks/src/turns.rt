@@ -11,7 +11,7 @@ ghost use Rattle.client_tasks.specs.Steps.{count_out};
 ghost use Rattle.client_tasks.specs.Tasks.{AreSet, turn_of as the_turn, widths_at};
 
 use bench_rack::Rack;
-use client_benches::Turn;
+use client_benches::Stint;
 use client_kinds::{Guest, Shape};
 use client_wiring::Wiring;
 use jack_types::{Link, Moment};
@@ -56,7 +56,7 @@ pub(crate) fn count_from(links: &[Link], node: usize, first: usize) -> usize
 }
 
 /// When the client of a node plays, with how many ports, and how many links go out from the node.
-fn turn_of(wiring: &Wiring, links: &[Link], node: usize, moment: &Moment, period: u32) -> Turn
+fn turn_of(wiring: &Wiring, links: &[Link], node: usize, moment: &Moment, period: u32) -> Stint
     requires node { node < length wiring.now.widths }
     requires inputs { (widths_at wiring.now node).inputs ≤ 16 }
     requires outputs { (widths_at wiring.now node).outputs ≤ 16 }
@@ -69,7 +69,7 @@ fn turn_of(wiring: &Wiring, links: &[Link], node: usize, moment: &Moment, period
         outputs: widths.outputs as u16,
         period,
     };
-    Turn {
+    Stint {
         moment: *moment,
         ports,
         links: count_from(links, node, links.len()) as u32,

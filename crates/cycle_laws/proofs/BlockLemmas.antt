@@ -5,7 +5,7 @@ use Rattle.std.proofs.Common.{◌≡◌, ℕ, ◌*◌, cond, true, false, List, 
 use Rattle.std.specs.Option.{option_map_or}
 use Rattle.session_model.specs.Kinds.{input_at}
 use Rattle.session_model.specs.Samples.{below, interleaved}
-use Rattle.session_model.specs.Scripts.{Turn}
+use Rattle.session_model.specs.Scripts.{ScriptCycle}
 use Rattle.driver_laws.specs.Drivers.{frames_read}
 use Rattle.device_periods.specs.Captures.{Reads}
 
@@ -36,8 +36,8 @@ left-rest left before after count frames none same told = same ∙ told ∙ ap (
     back = let start : 0 ≡ 0 * count = omega arith in start ∙ ap (λ n. n * count) (sym none)
 
 -- a `run` cycle reads its period, a freewheel cycle nothing
-pub frames-of_run : (turn : Turn) → turn.is_freewheel ≡ false → frames_read turn ≡ turn.period
+pub frames-of_run : (turn : ScriptCycle) → turn.is_freewheel ≡ false → frames_read turn ≡ turn.period
 frames-of_run turn e = ap (λ b. cond b 0 turn.period) e
 
-pub frames-of_freewheel : (turn : Turn) → turn.is_freewheel ≡ true → frames_read turn ≡ 0
+pub frames-of_freewheel : (turn : ScriptCycle) → turn.is_freewheel ≡ true → frames_read turn ≡ 0
 frames-of_freewheel turn e = ap (λ b. cond b 0 turn.period) e

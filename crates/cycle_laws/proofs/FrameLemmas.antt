@@ -5,18 +5,18 @@
 use Rattle.std.proofs.Common.{◌≡◌, ℕ, suc, ◌+◌, ◌*◌, ◌<◌, ◌≤◌, [], ◌∷◌, ◌++◌, length, sum_by, take, ◌∙◌, ap, arith, add-mul}
 use Rattle.std.proofs.lemmas.List.{length_push}
 use Rattle.session_model.specs.Courses.{no_turn}
-use Rattle.session_model.specs.Scripts.{Script, Turn, turns}
+use Rattle.session_model.specs.Scripts.{Script, ScriptCycle, turns}
 use Rattle.driver_laws.specs.Drivers.{Driver, frames_run, run, turn_of}
 use Rattle.cycle_laws.proofs.ListLemmas.{sum-next}
 
 abbrev frames_of : Script → ℕ → ℕ
-frames_of script n = sum_by (λ (turn : Turn). turn.period) (take n (turns script))
+frames_of script n = sum_by (λ (turn : ScriptCycle). turn.period) (take n (turns script))
 
 -- the frames of one cycle more
 frames-next : (script : Script) (n : ℕ) → n < length (turns script) → frames_of script (suc n) ≡ frames_of script n + (turn_of script (n + 1)).period
 frames-next script n low =
     let next : suc n ≡ n + 1 = omega arith in
-    sum-next (λ (turn : Turn). turn.period) (turns script) n no_turn low
+    sum-next (λ (turn : ScriptCycle). turn.period) (turns script) n no_turn low
     ∙ ap (λ k. frames_of script n + (turn_of script k).period) next
 
 module _ (driver : Driver) (left : run driver < length (turns driver.script)) (period : (turn_of driver.script (run driver + 1)).period ≡ driver.set) where

@@ -17,7 +17,7 @@ use std::thread::Threads;
 /// is played.
 pub fn run<B: Work, G: Gate>(crew: &Crew<B>, seat: &mut Seat<B>, gate: &G, mut taken: Taken<B>)
     requires seat { Sits crew.now.board.shared.table_id crew.now.links.items crew.now.nodes crew.now.seats seat.old.number seat.old.token }
-    requires taken { IsUnplayed B.memory B.has_room B.value_at B.after B.gives seat.old.token.me.0.duty taken.node taken.desk }
+    requires taken { IsUnplayed B.memory B.has_room B.value_at B.after B.gives seat.old.token.me.0.duty taken.node taken.tray }
     requires room { HaveRoom B.has_room crew.now.links.items seat.old.token.me.0.duty.before }
     ensures seat { (seat.new.number ≡ seat.old.number) × Sits crew.now.board.shared.table_id crew.now.links.items crew.now.nodes crew.now.seats seat.new.number seat.new.token }
     ensures run { IsRun crew.now.links.items taken.node seat.old.token.me.0.duty seat.new.token.me.0.duty }

@@ -19,7 +19,7 @@ use Rattle.jack_types.specs.declared.files.Format.{Format}
 use Rattle.jack_types.specs.declared.kinds.Kind.{Kind}
 use Rattle.jack_types.specs.declared.kinds.Score.{Score}
 use Rattle.session_model.specs.Commands.{replay}
-use Rattle.session_model.specs.Scripts.{Script, Turn, turns}
+use Rattle.session_model.specs.Scripts.{Script, ScriptCycle, turns}
 use Rattle.port_registry.specs.Registered.{open_clients}
 use Rattle.graph_word.specs.Publications.{Reading}
 use Rattle.cycle_plan.specs.Plans.{Planned, nodes_of, opening_of}
@@ -128,7 +128,7 @@ module _ (gear : Gear) (scores : List Score) (served : IsServed gear.script) (st
     disks = disks;
     in_step = λ sound. record {
       cycles = ap (λ (t : Standing). t.cycles) transport ∙ sym (ap length numbers);
-      frames = ap (λ (t : Standing). t.frames) transport ∙ sym (ap (λ (xs : List ℕ). sum_by (λ (turn : Turn). turn.period) (take (length xs) (turns gear.script))) numbers);
+      frames = ap (λ (t : Standing). t.frames) transport ∙ sym (ap (λ (xs : List ℕ). sum_by (λ (turn : ScriptCycle). turn.period) (take (length xs) (turns gear.script))) numbers);
       period = stage.period ∙ sym (ap (λ (xs : List ℕ). (turn_of gear.script (length xs)).period) numbers);
       moments = ap length moments ∙ sym (ap length numbers);
       capture = capture.sound;

@@ -5,11 +5,11 @@ use Rattle.std.proofs.Math.Nat.{add-mul}
 use Rattle.std.proofs.lemmas.List.{get_or-drop}
 use Rattle.session_model.specs.Courses.{Course, turn, period, captured, frames_before}
 use Rattle.session_model.specs.Samples.{below, sample, silence}
-use Rattle.session_model.specs.Scripts.{Turn}
+use Rattle.session_model.specs.Scripts.{ScriptCycle}
 use Rattle.session_laws.proofs.PlaceLemmas.{map-same}
 
 -- a channel of the next frames; silence in a freewheel cycle
-abbrev pub channel_of : Turn → ℕ → ℕ → List ℤ → ℕ → List ℤ
+abbrev pub channel_of : ScriptCycle → ℕ → ℕ → List ℤ → ℕ → List ℤ
 channel_of turn frames channels left channel = if turn.is_freewheel then silence frames else map (λ i. sample left (i * channels + channel)) (below frames)
 
 pub captured-left : (course : Course) (k channel : ℕ)

@@ -4,13 +4,13 @@ use Rattle.std.proofs.Common.{◌≡◌, ℕ, suc, ◌<◌, ◌==◌, List, leng
 use Rattle.std.proofs.lemmas.List.{get_or_default}
 use Rattle.jack_types.specs.declared.ports.Link.{Link}
 use Rattle.session_model.specs.Activation.{sequential}
-use Rattle.session_model.specs.Benches.{Bench, bench_after, bench_gives, node_at, IsPlan, IsReady, IsPlayed}
+use Rattle.session_model.specs.Benches.{Bench, bench_after, bench_gives, node_at, IsPlan, IsReady, HaveCycle}
 use Rattle.session_model.specs.Courses.{Course, graph, players}
 use Rattle.session_model.specs.Cycles.{cycle, settled_after, player_born}
 use Rattle.session_model.specs.Driving.{settled_from, IsDriven}
 use Rattle.session_model.specs.Kinds.{Memory}
 use Rattle.session_model.specs.State.{OpenClient, system_client}
-use Rattle.session_laws.proofs.BenchLemmas.{IsPlayed-of_sequential}
+use Rattle.session_laws.proofs.BenchLemmas.{HaveCycle-of_sequential}
 use Rattle.session_laws.proofs.CycleLemmas.{find-passes, find-contains}
 use Rattle.session_laws.proofs.DrivingLemmas.{settled_from-is_settled}
 use Rattle.session_laws.proofs.PlayedLemmas.{memory-kept}
@@ -28,8 +28,8 @@ module _ (course : Course) (k : ℕ) (old_nodes : List OpenClient) (old_benches 
     memories = λ birth. go birth (player_born (graph course (suc k)) birth) refl;
   }
     where
-      played : IsPlayed (cycle course (suc k)) nodes benches
-      played = IsPlayed-of_sequential course (settled_after course (suc k) (cycle course k)) nodes links before plan
+      played : HaveCycle (cycle course (suc k)) nodes benches
+      played = HaveCycle-of_sequential course (settled_after course (suc k) (cycle course k)) nodes links before plan
           (subst (λ at. IsReady course at nodes links before) (settled_from-is_settled course k old_nodes old_benches held driven) ready) (cycle course k) benches sequential_now
 
       -- the memory of a player's birth

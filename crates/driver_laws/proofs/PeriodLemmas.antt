@@ -6,7 +6,7 @@ use Rattle.jack_types.specs.declared.scripts.Body.TheVariants.{Do, Run, Freewhee
 use Rattle.jack_types.specs.declared.commands.Command.{Command}
 use Rattle.session_model.specs.Courses.{no_turn}
 use Rattle.session_model.specs.Grammar.{IsBody, IsScript, is_period_line}
-use Rattle.session_model.specs.Scripts.{Script, Phase, Turn, with_do, phases, phases_of, turns, turns_from}
+use Rattle.session_model.specs.Scripts.{Script, Phase, ScriptCycle, with_do, phases, phases_of, turns, turns_from}
 use Rattle.session_laws.proofs.ListLemmas.{Each, Each-append}
 use Rattle.driver_laws.specs.Drivers.{turn_of}
 
@@ -27,13 +27,13 @@ phases-first period (Freewheel cycles ∷ lines) h = (refl, phases-first period 
 phases-first period (Lane lane begun command ∷ lines) h = phases-first period lines h.1
 phases-first period (Period next ∷ lines) h = absurd (true≢false h.0)
 
-turns-first : (period index : ℕ) (phs : List Phase) → HavePeriod period phs → Each (λ (turn : Turn). turn.period ≡ period) (turns_from index phs)
+turns-first : (period index : ℕ) (phs : List Phase) → HavePeriod period phs → Each (λ (turn : ScriptCycle). turn.period ≡ period) (turns_from index phs)
 turns-first period index [] h = tt
 turns-first period index (phase ∷ phs) h =
-    Each-append (λ (turn : Turn). turn.period ≡ period) (replicate phase.cycles (record { period = phase.period; is_freewheel = phase.is_freewheel; phase = index })) (turns_from (index + 1) phs)
+    Each-append (λ (turn : ScriptCycle). turn.period ≡ period) (replicate phase.cycles (record { period = phase.period; is_freewheel = phase.is_freewheel; phase = index })) (turns_from (index + 1) phs)
     (each phase.cycles) (turns-first period (index + 1) phs h.1)
   where
-    each : (n : ℕ) → Each (λ (turn : Turn). turn.period ≡ period) (replicate n (record { period = phase.period; is_freewheel = phase.is_freewheel; phase = index }))
+    each : (n : ℕ) → Each (λ (turn : ScriptCycle). turn.period ≡ period) (replicate n (record { period = phase.period; is_freewheel = phase.is_freewheel; phase = index }))
     each zero = tt
     each (suc n) = (h.0, each n)
 
@@ -69,7 +69,7 @@ period-first script is some k low =
     ap (λ m. (turn_of script m).period) next
     ∙ at (turns script) (turns-first script.header.period 0 (phases script) (phases-first script.header.period script.lines (no_period script is some [] script.lines refl))) k low
   where
-    at : (ts : List Turn) → Each (λ (turn : Turn). turn.period ≡ script.header.period) ts → (i : ℕ) → i < length ts → (get_or ts i no_turn).period ≡ script.header.period
+    at : (ts : List ScriptCycle) → Each (λ (turn : ScriptCycle). turn.period ≡ script.header.period) ts → (i : ℕ) → i < length ts → (get_or ts i no_turn).period ≡ script.header.period
     at [] h i q = absurd (omega (arith, q))
     at (t ∷ ts) h zero q = h.0
     at (t ∷ ts) h (suc i) q = at ts h.1 i (omega (arith, q))

@@ -21,7 +21,7 @@ use Rattle.session_model.specs.Courses.{no_turn, players, is_disk}
 use Rattle.session_model.specs.Kinds.{Memory, input_at}
 use Rattle.session_model.specs.Recorders.{is_tape}
 use Rattle.session_model.specs.Samples.{below, interleaved}
-use Rattle.session_model.specs.Scripts.{Phase, Script, Turn, phases, turns}
+use Rattle.session_model.specs.Scripts.{Phase, Script, ScriptCycle, phases, turns}
 use Rattle.session_model.specs.State.{State, OpenClient, opening}
 use Rattle.session_model.specs.Transport.{Row}
 use Rattle.graph_word.specs.declared.view.TakenRow.{TakenRow}
@@ -65,11 +65,11 @@ abbrev pub run : Driver → ℕ
 run driver = length driver.numbers
 
 -- cycle k of a script, counted from 1
-abbrev pub turn_of : Script → ℕ → Turn
+abbrev pub turn_of : Script → ℕ → ScriptCycle
 turn_of script k = slice_index_or (no_turn ∷ turns script) k no_turn
 
 -- how many frames of the capture a cycle reads: none in a freewheel cycle
-abbrev pub frames_read : Turn → ℕ
+abbrev pub frames_read : ScriptCycle → ℕ
 frames_read turn = if turn.is_freewheel then 0 else turn.period
 
 -- the graph that these changes make of a script's opening
@@ -144,7 +144,7 @@ abbrev pub greatest_period : Script → ℕ
 greatest_period script = fold max script.header.period (map (λ (phase : Phase). phase.period) (phases script))
 
 abbrev pub frames_run : Driver → ℕ
-frames_run driver = sum_by (λ (turn : Turn). turn.period) (take (run driver) (turns driver.script))
+frames_run driver = sum_by (λ (turn : ScriptCycle). turn.period) (take (run driver) (turns driver.script))
 
 abbrev pub channels_on : Script → ℕ → ℕ
 channels_on script recorder = (slice_index_or script.header.recorders recorder no_format).channels

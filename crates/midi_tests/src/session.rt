@@ -15,7 +15,7 @@ use std::process::Abort;
 
 /// A cycle, counted from 1: its transport's state and frame, and its period.
 #[derive(Clone, Copy)]
-pub struct Turn {
+pub struct Round {
     pub cycle: u32,
     pub state: TransportState,
     pub frame: u16,
@@ -43,7 +43,7 @@ impl Model for Session {
     ghost invariant = { λ s. IsSession s.desk s.reader.0 s.stage };
 }
 
-fn moment_of(turn: &Turn) -> Moment
+fn moment_of(turn: &Round) -> Moment
     ensures { result.frame ≡ turn.now.frame }
 {
     Moment {
@@ -111,7 +111,7 @@ impl Session {
     }
 
     /// Plays a cycle of the newest plan, whose MIDI clients all have their benches.
-    pub fn play(&mut self, rt: &impl Abort, turn: &Turn) {
+    pub fn play(&mut self, rt: &impl Abort, turn: &Round) {
         let moment = moment_of(turn);
         let period = u32::from(turn.period);
         assert!(rt; moment.frame < 65_536, "a cycle's first frame");

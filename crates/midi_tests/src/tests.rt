@@ -1,22 +1,22 @@
 ghost use Rattle.std.specs.Prelude.{◌≤◌, length};
 
 use crate::scripts::{ONE_PLAYER, TWO_PLAYERS};
-use crate::session::{Session, Turn};
+use crate::session::{Session, Round};
 use jack_types::{Event, Logged, TransportState};
 use std::process::Abort;
 
 /// The call that opens the log's client in each script.
 const LOG: u32 = 1;
 
-const STARTING: Turn = Turn {
+const STARTING: Round = Round {
     cycle: 1,
     state: TransportState::Starting,
     frame: 0,
     period: 64,
 };
 
-const fn rolling(cycle: u32, frame: u16, period: u16) -> Turn {
-    Turn {
+const fn rolling(cycle: u32, frame: u16, period: u16) -> Round {
+    Round {
         cycle,
         state: TransportState::Rolling,
         frame,
@@ -34,7 +34,7 @@ fn logged(cycle: u32, offset: u32, bytes: &[u8]) -> Logged
     }
 }
 
-fn play_all(rt: &impl Abort, session: &mut Session, turns: &[Turn]) {
+fn play_all(rt: &impl Abort, session: &mut Session, turns: &[Round]) {
     for turn in turns {
         session.play(rt, turn);
     }

@@ -10,7 +10,7 @@ use Rattle.jack_types.specs.declared.scripts.Body.TheVariants.{Run, Lane}
 use Rattle.session_model.specs.Explanations.{Given, Printed, Written, Explained, playback_text, course_of}
 use Rattle.session_model.specs.Histories.{LegalSoFar, Cycles, IsWithinPhase, calls_of, plan_of, accepted}
 use Rattle.session_model.specs.Reports.{report_text}
-use Rattle.session_model.specs.Scripts.{Planned, Turn, planned, turns}
+use Rattle.session_model.specs.Scripts.{Planned, ScriptCycle, planned, turns}
 use Rattle.session_model.specs.Serial.{serial}
 use Rattle.session_laws.proofs.HistoryLemmas.{LegalSoFar-none, LegalSoFar-next, IsNextCall}
 use Rattle.session_laws.proofs.LoopLemmas.{Contains-cases, Contains-first}
@@ -105,7 +105,7 @@ rising (suc zero) (suc (suc j)) d low high = absurd (not-below_zero (let p : j <
 rising (suc (suc i)) (suc zero) d low high = absurd (not-below_zero (let p : i < 0 = omega (arith, low) in p))
 rising (suc (suc i)) (suc (suc j)) d low high = absurd (not-below_zero (let p : j < 0 = omega (arith, high) in p))
 
-abbrev only_turn : Turn
+abbrev only_turn : ScriptCycle
 only_turn = record { period = 4; is_freewheel = false; phase = 0 }
 
 turns_are : turns small.script ≡ only_turn ∷ only_turn ∷ []
@@ -123,7 +123,7 @@ second_bounds : IsWithinPhase small.script printed.history only_turn 2
 unfolding digits
 second_bounds = (lit≤ tt, lit≤ tt)
 
-bounds : (k number : ℕ) (turn : Turn) → slice_get (1 ∷ 2 ∷ []) k ≡ Some number → slice_get (only_turn ∷ only_turn ∷ []) k ≡ Some turn → IsWithinPhase small.script printed.history turn number
+bounds : (k number : ℕ) (turn : ScriptCycle) → slice_get (1 ∷ 2 ∷ []) k ≡ Some number → slice_get (only_turn ∷ only_turn ∷ []) k ≡ Some turn → IsWithinPhase small.script printed.history turn number
 bounds zero number turn n t =
     subst (λ m. IsWithinPhase small.script printed.history turn m) (some-same 1 number n)
     (subst (λ u. IsWithinPhase small.script printed.history u 1) (some-same only_turn turn t) first_bounds)

@@ -4,4 +4,3 @@ pub mod NameLemmas
 pub mod PlayedLemmas
 pub mod ScriptLemmas
 pub mod SerialLemmas
-pub mod ServedLemmas

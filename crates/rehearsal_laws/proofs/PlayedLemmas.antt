@@ -22,7 +22,7 @@ use Rattle.session_model.specs.Cycles.{carried, cycle, edges_into, input_of}
 use Rattle.session_model.specs.Explanations.{course_of, playback_text}
 use Rattle.session_model.specs.Playback.{playback_names, played_back, played_in}
 use Rattle.session_model.specs.Samples.{below, bytes_of, clamp, down, mix, sample, samples_of, total, up}
-use Rattle.session_model.specs.Scripts.{Phase, Turn, phases_of, turns, turns_from, with_do}
+use Rattle.session_model.specs.Scripts.{Phase, ScriptCycle, phases_of, turns, turns_from, with_do}
 use Rattle.session_model.specs.Serial.{serial}
 use Rattle.session_model.specs.State.{Connection, playback_port}
 use Rattle.session_model.specs.WaveFiles.{file_text, wave_text}
@@ -114,7 +114,7 @@ played-fit course =
 -- ---- how many samples there are
 
 -- a cycle of 64 frames that is bound to the device
-abbrev plain : Turn
+abbrev plain : ScriptCycle
 plain = record { period = 64; is_freewheel = false; phase = 0 }
 
 turns-do : (index : ℕ) (command : Command) (phases : List Phase) → turns_from index (with_do command phases) ≡ turns_from index phases
@@ -156,11 +156,11 @@ record HasTurns (course : Course) (cycles : ℕ) : Type 0 where
 
 turn-plain : (course : Course) (cycles i : ℕ) → HasTurns course cycles → i < cycles → turn course (i + 1) ≡ plain
 turn-plain course cycles i has few =
-    ap (λ (all : List Turn). slice_index_or (no_turn ∷ all) (i + 1) no_turn) has.turns_are
+    ap (λ (all : List ScriptCycle). slice_index_or (no_turn ∷ all) (i + 1) no_turn) has.turns_are
     ∙ behind (replicate cycles plain) i
     ∙ get_or-replicate cycles i plain no_turn few
   where
-    behind : (all : List Turn) (i : ℕ) → slice_index_or (no_turn ∷ all) (i + 1) no_turn ≡ get_or all i no_turn
+    behind : (all : List ScriptCycle) (i : ℕ) → slice_index_or (no_turn ∷ all) (i + 1) no_turn ≡ get_or all i no_turn
     behind all i = simp add-one
 
 -- numbers below so many all pass
@@ -184,7 +184,7 @@ flat-length f m (suc n) each =
 played-length : (course : Course) (cycles i : ℕ) → HasTurns course cycles → i < cycles → length (played_in course (i + 1)) ≡ 128
 played-length course cycles i has few =
     flat-length (λ frame. map (λ buffer. sample buffer frame) (map (input_of course (i + 1)) (playback_names course))) 2 (period course (i + 1)) (λ frame low. channels frame)
-    ∙ ap (λ (t : Turn). t.period * 2) (turn-plain course cycles i has few)
+    ∙ ap (λ (t : ScriptCycle). t.period * 2) (turn-plain course cycles i has few)
   where
     channels : (frame : ℕ) → length (map (λ buffer. sample buffer frame) (map (input_of course (i + 1)) (playback_names course))) ≡ 2
     channels frame =
@@ -195,7 +195,7 @@ played-length course cycles i has few =
 played-count : (course : Course) (cycles : ℕ) → HasTurns course cycles → length (played_back course) ≡ cycles * 128
 played-count course cycles has =
     ap (λ n. length (flat_map (λ i. played_in course (i + 1)) (filter (λ i. not (turn course (i + 1)).is_freewheel) (below n)))) (ap length has.turns_are ∙ length-replicate cycles plain)
-    ∙ ap (λ (is : List ℕ). length (flat_map (λ i. played_in course (i + 1)) is)) (all-pass (λ i. not (turn course (i + 1)).is_freewheel) cycles (λ i few. ap (λ (t : Turn). not t.is_freewheel) (turn-plain course cycles i has few)))
+    ∙ ap (λ (is : List ℕ). length (flat_map (λ i. played_in course (i + 1)) is)) (all-pass (λ i. not (turn course (i + 1)).is_freewheel) cycles (λ i few. ap (λ (t : ScriptCycle). not t.is_freewheel) (turn-plain course cycles i has few)))
     ∙ flat-length (λ i. played_in course (i + 1)) 128 cycles (λ i few. played-length course cycles i has few)
 
 -- ---- of a rehearsal

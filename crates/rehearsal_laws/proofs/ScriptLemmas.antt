@@ -22,7 +22,6 @@ use Rattle.rehearsal_model.specs.Rehearsals.{any_line, capture_samples, chain_li
 use Rattle.session_model.specs.Grammar.{IsCommand, IsFormat, IsHeader, IsIn, IsKind, IsListed, IsScript, all_bytes, all_cycles, begun_after, is_call, is_period_line, is_segment, last_begun, open_segment, opens, segment_after}
 use Rattle.session_model.specs.Samples.{below}
 use Rattle.session_model.specs.Scripts.{phases_of}
-use Rattle.session_model.specs.Served.{serves, serves_version}
 use Rattle.session_laws.proofs.GrammarLimits.{all_bytes-append, all_cycles-append, bytes_in, count_by-append, cycles_in}
 use Rattle.session_laws.proofs.GrammarLoops.{AreBodies, bodies-at}
 use Rattle.session_laws.proofs.ListLemmas.{IsNonDecreasing-ordered}
@@ -299,19 +298,10 @@ lines-in n =
     subst (λ (lines : List Body). AreBodies rehearsal_header [] lines) (sym (parts n).lines_are)
     (dos-behind (dos_of (parts n).clients (parts n).chain (parts n).others (parts n).last) (parts n).lanes (dos-in n) (parts n).lanes_in)
 
-serves-drain : serves (codes "drain") ≡ true
-unfolding serves
-serves-drain = refl
-
-serves-1 : serves_version 1 ≡ true
-unfolding serves_version
-serves-1 = refl
-
 header-in : IsHeader rehearsal_header
 header-in =
     record {
       version = (omega arith, omega arith);
-      served = serves-1;
       rate = (omega arith, omega arith);
       period = (4, omega arith, refl);
       capture = (omega arith, omega arith);
@@ -322,9 +312,6 @@ header-in =
       ring = (omega arith, omega arith);
       drain = omega arith;
       fill = omega arith;
-      no_ring = λ none. refl;
-      no_drain = λ none. absurd (true≢false (sym serves-drain ∙ none));
-      no_fill = λ none. refl;
       few_recorders = omega arith;
       recorders = All-from_recursion (IsFormat 48000) rehearsal_header.recorders (record { rate_is = refl; channels = (omega arith, omega arith); bits = (1, omega arith, refl) }, tt);
       few_disks = omega arith;

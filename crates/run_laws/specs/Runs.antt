@@ -14,7 +14,7 @@ use Rattle.session_model.specs.Histories.{IsWithinPhase}
 use Rattle.session_model.specs.Recorders.{IsAfterSegment}
 use Rattle.session_model.specs.Rings.{RingBlock}
 use Rattle.session_model.specs.Samples.{below}
-use Rattle.session_model.specs.Scripts.{Script, Turn, turns}
+use Rattle.session_model.specs.Scripts.{Script, ScriptCycle, turns}
 use Rattle.record_ring.specs.Rings.{Sending, Getting}
 use Rattle.wave_write.specs.Tapes.{Tape, HasSamples}
 use Rattle.disk_recorder.specs.Recordings.{MayWrite, samples_of_blocks}
@@ -26,7 +26,7 @@ use Rattle.run_laws.specs.Sessions.{IsMet, IsOne, IsOver, KeepsGiven, Session}
 
 -- each cycle's number lies within the bounds of its phase
 abbrev pub AreWithin : Script → List Entry → List ℕ → Type 0
-AreWithin script history numbers = (k number : ℕ) (turn : Turn) → slice_get numbers k ≡ Some number → slice_get (turns script) k ≡ Some turn → IsWithinPhase script history turn number
+AreWithin script history numbers = (k number : ℕ) (turn : ScriptCycle) → slice_get numbers k ≡ Some number → slice_get (turns script) k ≡ Some turn → IsWithinPhase script history turn number
 
 -- overruns and underruns came in `run` cycles alone
 pub record MissesInRun (session : Session) : Type 0 where

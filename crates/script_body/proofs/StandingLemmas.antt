@@ -19,7 +19,6 @@ use Rattle.session_laws.proofs.GrammarWidths.{open_segment-more}
 use Rattle.session_model.specs.Grammar.{is_call, opens, is_segment, is_period_line, segment_after, open_segment, begun_after, last_begun, most_channels, all_cycles, all_bytes}
 use Rattle.session_model.specs.Reading.{◌>>=◌, Read, word, chosen, made, number, any_number, fixed, begun_in, command, lane_line, old_lines, has_periods, body_line, Limit, body_limits, passed_limit, unless, whole, body_of, at_line, body_lines}
 use Rattle.session_model.specs.Scripts.{phases_of}
-use Rattle.session_model.specs.Served.{serves}
 use Rattle.session_model.specs.Texts.{Line}
 use Rattle.script_body.specs.declared.standing.Standing.{Standing}
 use Rattle.script_body.specs.Standings.{begun_by, lane_line_at, lines_at, period_lines, line_at, body_line_at, cycles_of, bytes_of, limits_at, none_begun, one_if, start, moved, IsWithin, IsSmall, Follows, body_at}
@@ -57,7 +56,7 @@ body_line-same : (header : Header) (earlier : List Body) (standing : Standing) �
 body_line-same header earlier standing f words =
     bind_same {E = Cause} (word words) _ _ (λ w e.
     ap (λ (o : Option (Choice Body)). chosen o w.1) (found_in-maybe (has_periods header) (lines_at header standing) period_lines w.0)
-    ∙ four-same w.1 (serves (codes "do") && bytes_eq w.0 (codes "do")) (serves (codes "run") && bytes_eq w.0 (codes "run")) (serves (codes "freewheel") && bytes_eq w.0 (codes "freewheel")) (serves (codes "lane") && bytes_eq w.0 (codes "lane"))
+    ∙ four-same w.1 (bytes_eq w.0 (codes "do")) (bytes_eq w.0 (codes "run")) (bytes_eq w.0 (codes "freewheel")) (bytes_eq w.0 (codes "lane"))
     (codes "do", made (command header) Do) (codes "run", made (number 1 1000000) Run) (codes "freewheel", made (number 1 1000000) Freewheel) (codes "lane", lane_line_at header standing) (codes "lane", lane_line header earlier)
     (if has_periods header then found_in period_lines w.0 else None) (lane-same header earlier standing f w.1)
     ∙ ap (λ (o : Option (Choice Body)). chosen o w.1) (sym (found_in-maybe (has_periods header) (old_lines header earlier) period_lines w.0)))

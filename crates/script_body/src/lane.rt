@@ -11,7 +11,6 @@ use script_commands::command;
 use script_words::Words;
 
 /// The word `at`.
-#[tactic(auto, unfolding(session_model::specs::Served::serves))]
 fn at(words: &mut Words) -> Result<(), Cause>
     ensures { MatchResult result (λ _. fixed (codes "at") words.old ≡ Ok (codes "at", words.new)) (λ cause. fixed (codes "at") words.old ≡ Err cause) }
 {

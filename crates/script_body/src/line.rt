@@ -38,7 +38,6 @@ fn freewheel_line(words: &mut Words) -> Result<Body, Cause>
 }
 
 /// What the line of version 2 says behind its first word.
-#[tactic(auto, unfolding(session_model::specs::Served::serves))]
 fn period_line(first: &[u8], words: &mut Words) -> Result<Body, Cause>
     ensures gives { Reads result words.new (chosen (found_in period_lines first.now) words.old) }
     ensures small { IfOk result IsSmall }
@@ -58,7 +57,6 @@ fn has_periods(header: &Header) -> bool
 }
 
 /// What a line says behind its first word.
-#[tactic(auto, unfolding(session_model::specs::Served::serves))]
 fn line_at(
     first: &[u8],
     words: &mut Words,

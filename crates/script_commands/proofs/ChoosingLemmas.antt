@@ -8,12 +8,11 @@ use Rattle.jack_types.specs.declared.scripts.Cause.{Cause}
 use Rattle.jack_types.specs.declared.scripts.Header.{Header}
 use Rattle.script_words.specs.Reads.{Reads}
 use Rattle.session_model.specs.Reading.{◌>>=◌, Read, word, chosen, kind, command, old_kinds, new_kinds}
-use Rattle.session_model.specs.Served.{serves}
 use Rattle.script_commands.specs.Choosing.{Choice, found_in, or_else, kind_of, command_of, graph_commands, other_commands}
 
 pub found_in-append : {X : Type 0} (xs ys : List (Choice X)) (first : List ℕ) → found_in (xs ++ ys) first ≡ or_else (found_in xs first) (found_in ys first)
 found_in-append [] ys first = refl
-found_in-append (choice ∷ xs) ys first = go (serves choice.0 && bytes_eq first choice.0) (found_in-append xs ys first)
+found_in-append (choice ∷ xs) ys first = go (bytes_eq first choice.0) (found_in-append xs ys first)
   where
     go : (b : Bool) → found_in (xs ++ ys) first ≡ or_else (found_in xs first) (found_in ys first) → (if b then Some choice else found_in (xs ++ ys) first) ≡ or_else (if b then Some choice else found_in xs first) (found_in ys first)
     go true later = refl

@@ -1,5 +1,5 @@
 -- A word that chooses how to go on, by two lists one behind the other.
---     found_in choices first      what a word chooses, among the choices that are served
+--     found_in choices first      what a word chooses, among the choices
 --     or_else one other      the first of two choices
 --     kind_of header first, command_of header first      what a kind's or a command's word chooses
 --     behind choice words      what the choice reads behind its word
@@ -10,13 +10,12 @@ use Rattle.jack_types.specs.declared.commands.Command.TheVariants.{Open, Close, 
 use Rattle.jack_types.specs.declared.kinds.Kind.{Kind}
 use Rattle.jack_types.specs.declared.scripts.Header.{Header}
 use Rattle.session_model.specs.Reading.{Reader, just, made, made_of_two, client, port, number, kind, mode, registering, tempo, old_kinds, new_kinds}
-use Rattle.session_model.specs.Served.{serves}
 
 abbrev pub Choice : Type 0 → Type 0
 Choice X = List ℕ × Reader X
 
 abbrev pub found_in : {X : Type 0} → List (Choice X) → List ℕ → Option (Choice X)
-found_in choices first = find (λ choice. serves choice.0 && bytes_eq first choice.0) choices
+found_in choices first = find (λ choice. bytes_eq first choice.0) choices
 
 abbrev pub or_else : {X : Type 0} → Option (Choice X) → Option (Choice X) → Option (Choice X)
 or_else (Some choice) other = Some choice

@@ -10,8 +10,6 @@ ghost use Rattle.jack_types.specs.declared.commands.Command.TheVariants.{Activat
 use crate::kinds::kind;
 use jack_types::{Cause, ClientName, Command, Header, Mode, PortKind, Way};
 use script_words::Words;
-
-#[tactic(auto, unfolding(session_model::specs::Served::serves))]
 fn way(words: &mut Words) -> Result<Way, Cause>
     ensures { Reads result words.new (way words.old) }
 {
@@ -24,8 +22,6 @@ fn way(words: &mut Words) -> Result<Way, Cause>
     }
     Err(Cause::Unknown)
 }
-
-#[tactic(auto, unfolding(session_model::specs::Served::serves))]
 fn port_type(words: &mut Words) -> Result<PortKind, Cause>
     ensures { Reads result words.new (port_type words.old) }
 {
@@ -38,8 +34,6 @@ fn port_type(words: &mut Words) -> Result<PortKind, Cause>
     }
     Err(Cause::Unknown)
 }
-
-#[tactic(auto, unfolding(session_model::specs::Served::serves))]
 fn mode(words: &mut Words) -> Result<Mode, Cause>
     ensures { Reads result words.new (mode words.old) }
 {
@@ -224,7 +218,6 @@ fn latency(words: &mut Words) -> Result<Command, Cause>
 }
 
 /// What a command on transport, times or latency says behind its word.
-#[tactic(auto, unfolding(session_model::specs::Served::serves))]
 fn other_command(first: &[u8], words: &mut Words) -> Result<Command, Cause>
     ensures { Reads result words.new (chosen (found_in other_commands first.now) words.old) }
 {
@@ -259,7 +252,6 @@ fn other_command(first: &[u8], words: &mut Words) -> Result<Command, Cause>
 }
 
 /// What a command says behind its word.
-#[tactic(auto, unfolding(session_model::specs::Served::serves))]
 fn command_of(first: &[u8], words: &mut Words, header: &Header) -> Result<Command, Cause>
     ensures { Reads result words.new (chosen (command_of header.now first.now) words.old) }
 {

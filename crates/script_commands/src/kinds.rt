@@ -84,7 +84,6 @@ fn disk(words: &mut Words, header: &Header) -> Result<Kind, Cause>
 }
 
 /// What a kind of version 3 says behind its word.
-#[tactic(auto, unfolding(session_model::specs::Served::serves))]
 fn new_kind(first: &[u8], words: &mut Words, header: &Header) -> Result<Kind, Cause>
     ensures { Reads result words.new (chosen (found_in (new_kinds header.now) first.now) words.old) }
 {
@@ -104,7 +103,6 @@ fn new_kind(first: &[u8], words: &mut Words, header: &Header) -> Result<Kind, Ca
 }
 
 /// What a kind says behind its word.
-#[tactic(auto, unfolding(session_model::specs::Served::serves))]
 fn kind_of(first: &[u8], words: &mut Words, header: &Header) -> Result<Kind, Cause>
     ensures { Reads result words.new (chosen (kind_of header.now first.now) words.old) }
 {

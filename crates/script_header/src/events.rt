@@ -4,7 +4,6 @@ ghost use Rattle.std.specs.Prelude.{◌≡◌, ◌+◌, ◌<◌, ◌≤◌, All,
 ghost use Rattle.jack_types.specs.declared.scripts.Many.TheVariants.{Events as TheEvents};
 ghost use Rattle.script_words.specs.Reads.{Reads};
 ghost use Rattle.session_model.specs.Reading.{at_line, event, several};
-ghost use Rattle.session_model.specs.Served.{serves};
 ghost use Rattle.script_header.specs.Fronts.{event_behind, events_of};
 ghost use Rattle.script_header.specs.LineReads.{ReadsLineBy, wholly};
 
@@ -70,7 +69,6 @@ fn event_in(mut line: Line, last: &[u32]) -> Result<Item, ScriptFault>
 }
 
 /// The event lines in front.
-#[tactic(auto, unfolding(session_model::specs::Served::serves))]
 fn some_events(alloc: Global, lines: &mut Lines) -> Result<Vec<Item>, ScriptFault>
     ensures gives { ReadsLineBy (λ v. v.items) result lines.new.lines (several TheEvents 4096 (codes "event") event [] lines.old.lines) }
     ensures lists { IfOk result (λ v. All (λ item. item.0 < 16) v.items) }

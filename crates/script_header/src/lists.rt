@@ -3,7 +3,6 @@
 ghost use Rattle.std.specs.Prelude.{◌≡◌, ◌+◌, ◌≤◌, Bool, List, [], codes, length, pos, true};
 ghost use Rattle.jack_types.specs.declared.scripts.Many.TheVariants.{Disks as TheDisks, Recorders as TheRecorders};
 ghost use Rattle.session_model.specs.Reading.{at_line, number, recorder, several};
-ghost use Rattle.session_model.specs.Served.{serves};
 ghost use Rattle.script_header.specs.Fronts.{disks_of};
 ghost use Rattle.script_header.specs.LineReads.{ReadsLine, wholly};
 
@@ -43,7 +42,6 @@ fn recorder_in(mut line: Line, rate: u32) -> Result<Format, ScriptFault>
 }
 
 /// The `recorder` lines in front.
-#[tactic(auto, unfolding(session_model::specs::Served::serves))]
 pub fn recorders(lines: &mut Lines, rate: u32) -> Result<Recorders, ScriptFault>
     ensures gives { ReadsLine result lines.new.lines (several TheRecorders 4 (codes "recorder") (recorder rate) [] lines.old.lines) }
     ensures end { lines.new.end ≡ lines.old.end }
@@ -71,7 +69,6 @@ pub fn recorders(lines: &mut Lines, rate: u32) -> Result<Recorders, ScriptFault>
 }
 
 /// The `disk` lines in front.
-#[tactic(auto, unfolding(session_model::specs::Served::serves))]
 fn some_disks(lines: &mut Lines) -> Result<Disks, ScriptFault>
     ensures gives { ReadsLine result lines.new.lines (several TheDisks 4 (codes "disk") (λ found. number 1 8) [] lines.old.lines) }
     ensures end { lines.new.end ≡ lines.old.end }

@@ -2,7 +2,6 @@
 
 ghost use Rattle.std.specs.Prelude.{◌≡◌, ◌≤◌, ◌≤ℤ◌, Bool, IfOk, codes, pos, true};
 ghost use Rattle.session_model.specs.Reading.{number_up_to, optional};
-ghost use Rattle.session_model.specs.Served.{serves};
 ghost use Rattle.script_header.specs.Fronts.{fill_of, optional_of};
 ghost use Rattle.script_header.specs.LineReads.{ReadsLine};
 
@@ -20,7 +19,6 @@ pub struct Optional {
 
 /// A line of one number up to 64, or the usual number where the line is left out.
 fn number_or(lines: &mut Lines, name: &[u8], least: i64, usual: u32) -> Result<u32, ScriptFault>
-    requires served { serves name.now ≡ true }
     requires natural { pos 0 ≤ℤ least }
     ensures gives { ReadsLine result lines.new.lines (optional usual name.now (number_up_to least (pos 64)) lines.old.lines) }
     ensures end { lines.new.end ≡ lines.old.end }
@@ -33,8 +31,6 @@ fn number_or(lines: &mut Lines, name: &[u8], least: i64, usual: u32) -> Result<u
         None => Ok(usual),
     }
 }
-
-#[tactic(auto, unfolding(session_model::specs::Served::serves))]
 pub fn optional_lines(lines: &mut Lines, is_new: bool) -> Result<Optional, ScriptFault>
     ensures gives { ReadsLine result lines.new.lines (optional_of is_new lines.old.lines) }
     ensures end { lines.new.end ≡ lines.old.end }
@@ -46,7 +42,6 @@ pub fn optional_lines(lines: &mut Lines, is_new: bool) -> Result<Optional, Scrip
 }
 
 /// The line `fill`, which is of version 3.
-#[tactic(auto, unfolding(session_model::specs::Served::serves))]
 fn fill(lines: &mut Lines, is_new: bool) -> Result<u32, ScriptFault>
     ensures gives { ReadsLine result lines.new.lines (fill_of is_new lines.old.lines) }
     ensures end { lines.new.end ≡ lines.old.end }

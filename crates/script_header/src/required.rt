@@ -4,7 +4,6 @@ ghost use Rattle.std.specs.Prelude.{◌≡◌, ◌≤◌, ◌≤ℤ◌, IfErr, I
 ghost use Rattle.jack_types.specs.declared.scripts.Cause.TheVariants.{Header as NotHeader};
 ghost use Rattle.script_words.specs.Remaining.{begun_line, place};
 ghost use Rattle.session_model.specs.Reading.{at_line, channels_and_bits, number_up_to, period, required, version, workers};
-ghost use Rattle.session_model.specs.Served.{serves};
 ghost use Rattle.script_header.specs.Fronts.{required_of};
 ghost use Rattle.script_header.specs.LineReads.{ReadsLine, wholly};
 
@@ -27,7 +26,6 @@ pub struct Required {
 
 /// Takes the line in front, which has to begin with the name.
 fn begun<'a>(lines: &mut Lines<'a>, name: &[u8]) -> Result<Line<'a>, ScriptFault>
-    requires { serves name.now ≡ true }
     ensures ok { IfOk result (λ l. begun_line name.now lines.old.lines ≡ Some (record { number = l.number; words = l.words }, lines.new.lines)) }
     ensures err { IfErr result (λ fault. (begun_line name.now lines.old.lines ≡ None) × (fault ≡ record { line = place lines.old; cause = NotHeader })) }
     ensures end { lines.new.end ≡ lines.old.end }
@@ -74,7 +72,6 @@ pub fn number_in(mut line: Line, least: i64, most: i64) -> Result<u64, ScriptFau
 
 /// A line of one number in its range.
 fn number_line(lines: &mut Lines, name: &[u8], least: i64, most: i64) -> Result<u64, ScriptFault>
-    requires { serves name.now ≡ true }
     ensures gives { ReadsLine result lines.new.lines (required lines.old.end name.now (number_up_to least most) lines.old.lines) }
     ensures within { IfOk result (λ n. (least ≤ℤ pos n) × (pos n ≤ℤ most)) }
     ensures end { lines.new.end ≡ lines.old.end }
@@ -92,8 +89,6 @@ fn whole_version(words: &mut Words) -> Result<u32, Cause>
     }
     Ok(version)
 }
-
-#[tactic(auto, unfolding(session_model::specs::Served::serves))]
 fn version_line(lines: &mut Lines) -> Result<u32, ScriptFault>
     ensures gives { ReadsLine result lines.new.lines (required lines.old.end (codes "jackd") version lines.old.lines) }
     ensures end { lines.new.end ≡ lines.old.end }
@@ -115,8 +110,6 @@ fn whole_period(words: &mut Words) -> Result<u32, Cause>
     }
     Ok(period)
 }
-
-#[tactic(auto, unfolding(session_model::specs::Served::serves))]
 fn period_line(lines: &mut Lines) -> Result<u32, ScriptFault>
     ensures gives { ReadsLine result lines.new.lines (required lines.old.end (codes "period") period lines.old.lines) }
     ensures most { IfOk result (λ n. n ≤ 4096) }
@@ -138,8 +131,6 @@ fn whole_playback(words: &mut Words) -> Result<(u16, u16), Cause>
     }
     Ok(playback)
 }
-
-#[tactic(auto, unfolding(session_model::specs::Served::serves))]
 fn playback_line(lines: &mut Lines) -> Result<(u16, u16), ScriptFault>
     ensures gives { ReadsLine result lines.new.lines (required lines.old.end (codes "playback") channels_and_bits lines.old.lines) }
     ensures end { lines.new.end ≡ lines.old.end }
@@ -160,8 +151,6 @@ fn whole_mode(words: &mut Words, version: u32) -> Result<(Option<u16>, bool), Ca
     }
     Ok(mode)
 }
-
-#[tactic(auto, unfolding(session_model::specs::Served::serves))]
 fn mode_line(lines: &mut Lines, version: u32) -> Result<(Option<u16>, bool), ScriptFault>
     ensures gives { ReadsLine result lines.new.lines (required lines.old.end (codes "mode") (workers version) lines.old.lines) }
     ensures end { lines.new.end ≡ lines.old.end }
@@ -172,8 +161,6 @@ fn mode_line(lines: &mut Lines, version: u32) -> Result<(Option<u16>, bool), Scr
         Err(cause) => Err(fault(line.number, cause)),
     }
 }
-
-#[tactic(auto, unfolding(session_model::specs::Served::serves))]
 pub fn required_lines(lines: &mut Lines) -> Result<Required, ScriptFault>
     ensures gives { ReadsLine result lines.new.lines (required_of lines.old.end lines.old.lines) }
     ensures period { IfOk result (λ r. r.period ≤ 4096) }

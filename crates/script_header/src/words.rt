@@ -11,8 +11,7 @@ ghost use Rattle.script_commands.specs.Choosing.{found_in};
 use jack_types::{Cause, Format};
 use script_words::Words;
 
-/// A version that is served.
-#[tactic(auto, unfolding(session_model::specs::Served::serves_version))]
+/// A version, 1 to 3.
 pub fn version(words: &mut Words) -> Result<u32, Cause>
     ensures { Reads result words.new (version words.old) }
 {
@@ -73,7 +72,6 @@ fn some_workers(words: &mut Words, steal: bool) -> Result<(Option<u16>, bool), C
 }
 
 /// What a mode says behind its word.
-#[tactic(auto, unfolding(session_model::specs::Served::serves))]
 fn workers_of(first: &[u8], words: &mut Words, version: u32) -> Result<(Option<u16>, bool), Cause>
     ensures { Reads result words.new (chosen (workers_of version first.now) words.old) }
 {
@@ -90,7 +88,6 @@ fn workers_of(first: &[u8], words: &mut Words, version: u32) -> Result<(Option<u
 }
 
 /// What the mode of version 3 says behind its word.
-#[tactic(auto, unfolding(session_model::specs::Served::serves))]
 fn stealing_workers(first: &[u8], words: &mut Words) -> Result<(Option<u16>, bool), Cause>
     ensures { Reads result words.new (chosen (found_in stealing first.now) words.old) }
 {

@@ -4,19 +4,19 @@
 use Rattle.std.proofs.Common.{◌≡◌, ℕ, zero, suc, ◌+◌, ◌≤◌, sum_by, List, [], ◌∷◌, ◌++◌, length, replicate, refl, sym, ◌∙◌, ap, arith, length-append}
 use Rattle.std.proofs.lemmas.List.Sums.{sum_by-cons}
 use Rattle.session_model.specs.Grammar.{IsScript, all_cycles}
-use Rattle.session_model.specs.Scripts.{Phase, Script, Turn, phases, turns, turns_from}
+use Rattle.session_model.specs.Scripts.{Phase, Script, ScriptCycle, phases, turns, turns_from}
 use Rattle.script_needs.specs.Lines.{cycles_on}
 use Rattle.script_needs.proofs.LineLemmas.{cycles-on_lines}
 
 turns-count : (index : ℕ) (phs : List Phase) → length (turns_from index phs) ≡ all_cycles phs
 turns-count index [] = refl
 turns-count index (phase ∷ phs) =
-    let turn : Turn = record { period = phase.period; is_freewheel = phase.is_freewheel; phase = index } in
+    let turn : ScriptCycle = record { period = phase.period; is_freewheel = phase.is_freewheel; phase = index } in
     let both : length (replicate phase.cycles turn ++ turns_from (index + 1) phs) ≡ length (replicate phase.cycles turn) + length (turns_from (index + 1) phs) = length-append (replicate phase.cycles turn) (turns_from (index + 1) phs) in
     let all : all_cycles (phase ∷ phs) ≡ phase.cycles + all_cycles phs = sum_by-cons (λ (p : Phase). p.cycles) phase phs in
     omega (arith, both, all, run phase.cycles turn, turns-count (index + 1) phs)
   where
-    run : (n : ℕ) (turn : Turn) → length (replicate n turn) ≡ n
+    run : (n : ℕ) (turn : ScriptCycle) → length (replicate n turn) ≡ n
     run zero turn = refl
     run (suc n) turn = ap suc (run n turn)
 

@@ -10,7 +10,7 @@ use Rattle.jack_types.specs.declared.scripts.Body.{Body}
 use Rattle.jack_types.specs.declared.scripts.Body.TheVariants.{Do, Run, Freewheel, Lane, Period}
 use Rattle.session_model.specs.Courses.{no_turn}
 use Rattle.session_model.specs.Grammar.{IsBody, IsPeriod, IsScript}
-use Rattle.session_model.specs.Scripts.{Script, Phase, Turn, with_do, phases, phases_of, turns, turns_from}
+use Rattle.session_model.specs.Scripts.{Script, Phase, ScriptCycle, with_do, phases, phases_of, turns, turns_from}
 use Rattle.session_laws.proofs.ListLemmas.{Each, Each-append, Each-map}
 use Rattle.driver_laws.specs.Drivers.{greatest_period, turn_of}
 
@@ -35,17 +35,17 @@ module _ (P : ℕ → Type 0) where
   phases-have (Lane lane begun command ∷ lines) period p h = phases-have lines period p h.1
   phases-have (Period next ∷ lines) period p h = phases-have lines next h.0 h.1
 
-  turns-each : (index : ℕ) (phs : List Phase) → Each (HasPeriod P) phs → Each (λ (turn : Turn). P turn.period) (turns_from index phs)
+  turns-each : (index : ℕ) (phs : List Phase) → Each (HasPeriod P) phs → Each (λ (turn : ScriptCycle). P turn.period) (turns_from index phs)
   turns-each index [] h = tt
   turns-each index (phase ∷ phs) h =
-      Each-append (λ (turn : Turn). P turn.period) (replicate phase.cycles (record { period = phase.period; is_freewheel = phase.is_freewheel; phase = index })) (turns_from (index + 1) phs)
+      Each-append (λ (turn : ScriptCycle). P turn.period) (replicate phase.cycles (record { period = phase.period; is_freewheel = phase.is_freewheel; phase = index })) (turns_from (index + 1) phs)
       (each phase.cycles) (turns-each (index + 1) phs h.1)
     where
-      each : (n : ℕ) → Each (λ (turn : Turn). P turn.period) (replicate n (record { period = phase.period; is_freewheel = phase.is_freewheel; phase = index }))
+      each : (n : ℕ) → Each (λ (turn : ScriptCycle). P turn.period) (replicate n (record { period = phase.period; is_freewheel = phase.is_freewheel; phase = index }))
       each zero = tt
       each (suc n) = (h.0, each n)
 
-  turn-at : (ts : List Turn) → Each (λ (turn : Turn). P turn.period) ts → (i : ℕ) → i < length ts → P (get_or ts i no_turn).period
+  turn-at : (ts : List ScriptCycle) → Each (λ (turn : ScriptCycle). P turn.period) ts → (i : ℕ) → i < length ts → P (get_or ts i no_turn).period
   turn-at [] h i q = absurd (omega (arith, q))
   turn-at (t ∷ ts) h zero q = h.0
   turn-at (t ∷ ts) h (suc i) q = turn-at ts h.1 i (omega (arith, q))

@@ -11,11 +11,11 @@ use Rattle.jack_types.specs.Recorders.{no_format}
 use Rattle.jack_types.specs.declared.files.Format.{Format}
 use Rattle.jack_types.specs.declared.scripts.Header.{Header}
 use Rattle.session_model.specs.Grammar.{IsScript, all_bytes, most_channels}
-use Rattle.session_model.specs.Scripts.{Phase, Script, Turn, phases, turns, turns_from}
+use Rattle.session_model.specs.Scripts.{Phase, Script, ScriptCycle, phases, turns, turns_from}
 use Rattle.script_needs.proofs.PeriodLemmas.{start-within}
 
-abbrev pub frames_in : List Turn → ℕ
-frames_in ts = sum_by (λ (turn : Turn). turn.period) ts
+abbrev pub frames_in : List ScriptCycle → ℕ
+frames_in ts = sum_by (λ (turn : ScriptCycle). turn.period) ts
 
 abbrev frames_of : List Phase → ℕ
 frames_of phs = sum_by (λ (phase : Phase). phase.cycles * phase.period) phs
@@ -23,9 +23,9 @@ frames_of phs = sum_by (λ (phase : Phase). phase.cycles * phase.period) phs
 turns-frames : (index : ℕ) (phs : List Phase) → frames_in (turns_from index phs) ≡ frames_of phs
 turns-frames index [] = refl
 turns-frames index (phase ∷ phs) =
-    let turn : Turn = record { period = phase.period; is_freewheel = phase.is_freewheel; phase = index } in
-    let both : frames_in (replicate phase.cycles turn ++ turns_from (index + 1) phs) ≡ frames_in (replicate phase.cycles turn) + frames_in (turns_from (index + 1) phs) = sum_by-append (λ (t : Turn). t.period) (replicate phase.cycles turn) (turns_from (index + 1) phs) in
-    let first : frames_in (replicate phase.cycles turn) ≡ phase.cycles * phase.period = sum_by-replicate (λ (t : Turn). t.period) phase.cycles turn in
+    let turn : ScriptCycle = record { period = phase.period; is_freewheel = phase.is_freewheel; phase = index } in
+    let both : frames_in (replicate phase.cycles turn ++ turns_from (index + 1) phs) ≡ frames_in (replicate phase.cycles turn) + frames_in (turns_from (index + 1) phs) = sum_by-append (λ (t : ScriptCycle). t.period) (replicate phase.cycles turn) (turns_from (index + 1) phs) in
+    let first : frames_in (replicate phase.cycles turn) ≡ phase.cycles * phase.period = sum_by-replicate (λ (t : ScriptCycle). t.period) phase.cycles turn in
     let all : frames_of (phase ∷ phs) ≡ phase.cycles * phase.period + frames_of phs = sum_by-cons (λ (p : Phase). p.cycles * p.period) phase phs in
     both ∙ ap (λ n. n + frames_in (turns_from (index + 1) phs)) first ∙ ap (λ n. phase.cycles * phase.period + n) (turns-frames (index + 1) phs) ∙ sym all
 
@@ -54,7 +54,7 @@ samples-few script n is =
     let most : ℕ = most_channels script.header in
     let bytes : all_bytes script.header (phases script) ≡ 4 * (frames_of (phases script) * most) = bytes-frames script.header (phases script) in
     let few = is.few_bytes in
-    let front : frames_in (take n (turns script)) ≤ frames_in (turns script) = sum_by-take-le (λ (turn : Turn). turn.period) (turns script) n in
+    let front : frames_in (take n (turns script)) ≤ frames_in (turns script) = sum_by-take-le (λ (turn : ScriptCycle). turn.period) (turns script) n in
     let all : frames_in (turns script) ≡ frames_of (phases script) = turns-frames 0 (phases script) in
     let less : frames_in (take n (turns script)) * most ≤ frames_of (phases script) * most = mul-le (frames_in (take n (turns script))) most (frames_of (phases script)) most (omega (arith, front, all)) (omega arith) in
     omega (arith, bytes, few, less)

@@ -2,7 +2,7 @@
 
 ghost use Rattle.std.specs.Prelude.{◌≡◌, ◌+◌, ◌*◌, ◌<◌, ◌≤◌, ℕ, length, slice_index_or, sum_by, take};
 ghost use Rattle.session_model.specs.Grammar.{IsPeriod, IsScript, most_channels};
-ghost use Rattle.session_model.specs.Scripts.{Script, Turn, turns};
+ghost use Rattle.session_model.specs.Scripts.{Script, ScriptCycle, turns};
 ghost use Rattle.driver_laws.specs.Drivers.{Driver, channels_on, frames_run, greatest_period, turn_of};
 
 /// There are at most 1,000,000 cycles.
@@ -24,7 +24,7 @@ pub fn periods_are_in_range()
 /// The frames of a script's first cycles, of whatever channels it has most, are at most 500,000,000 samples; so are those
 /// of the cycles that a driver ran, as many as a recorder has, or a disk, or the capture or the playback.
 pub fn samples_are_few()
-    ensures most { (script : Script) (n : ℕ) → IsScript script → sum_by (λ (turn : Turn). turn.period) (take n (turns script)) * most_channels script.header ≤ 500000000 }
+    ensures most { (script : Script) (n : ℕ) → IsScript script → sum_by (λ (turn : ScriptCycle). turn.period) (take n (turns script)) * most_channels script.header ≤ 500000000 }
     ensures run { (driver : Driver) → IsScript driver.script → frames_run driver * most_channels driver.script.header ≤ 500000000 }
     ensures recorders { (driver : Driver) (recorder : ℕ) → IsScript driver.script → frames_run driver * channels_on driver.script recorder ≤ 500000000 }
     ensures disks { (driver : Driver) (disk : ℕ) → IsScript driver.script → frames_run driver * slice_index_or driver.script.header.disks disk 0 ≤ 500000000 }

@@ -2,7 +2,7 @@
 
 ghost use Rattle.std.specs.Prelude.{◌≡◌, ◌++◌, ◌==◌, ◌∷◌, [], IfOk, codes, map, string_bytes};
 ghost use Rattle.std.specs.Prelude.{if◌then◌else◌};
-ghost use Rattle.session_model.specs.Grammar.{mode_slots, number_slots, Numeral, recorder_slots, required_lines, served_line, Word};
+ghost use Rattle.session_model.specs.Grammar.{mode_slots, number_slots, Numeral, recorder_slots, required_lines, Word};
 ghost use Rattle.script_text.specs.Printing.{with_line, with_lines};
 
 use crate::words::{end_line, put_number, put_number_line, put_word};
@@ -51,25 +51,22 @@ pub fn put_required(text: &mut String, header: &Header) -> Result<(), AllocError
 }
 
 /// The line `ring`.
-#[tactic(auto, unfolding(session_model::specs::Served::serves))]
 pub fn put_ring(text: &mut String, ring: u32) -> Result<(), AllocError>
-    ensures { IfOk result (λ _. string_bytes text.new ≡ with_lines (string_bytes text.old) (served_line (codes "ring") ring)) }
+    ensures { IfOk result (λ _. string_bytes text.new ≡ with_lines (string_bytes text.old) (number_slots (codes "ring") ring ∷ [])) }
 {
     put_number_line(text, "ring", ring)
 }
 
 /// The line `drain`.
-#[tactic(auto, unfolding(session_model::specs::Served::serves))]
 pub fn put_drain(text: &mut String, drain: u32) -> Result<(), AllocError>
-    ensures { IfOk result (λ _. string_bytes text.new ≡ with_lines (string_bytes text.old) (served_line (codes "drain") drain)) }
+    ensures { IfOk result (λ _. string_bytes text.new ≡ with_lines (string_bytes text.old) (number_slots (codes "drain") drain ∷ [])) }
 {
     put_number_line(text, "drain", drain)
 }
 
 /// The line `fill`, which is of version 3.
-#[tactic(auto, unfolding(session_model::specs::Served::serves))]
 pub fn put_fill(text: &mut String, header: &Header) -> Result<(), AllocError>
-    ensures { IfOk result (λ _. string_bytes text.new ≡ with_lines (string_bytes text.old) (if header.now.version == 3 then served_line (codes "fill") header.now.fill else [])) }
+    ensures { IfOk result (λ _. string_bytes text.new ≡ with_lines (string_bytes text.old) (if header.now.version == 3 then number_slots (codes "fill") header.now.fill ∷ [] else [])) }
 {
     if header.version == 3 {
         return put_number_line(text, "fill", header.fill);

@@ -32,7 +32,7 @@ abbrev pub in_front : {X : Type 0} → Option X → ℕ
 in_front None = 0
 in_front (Some text) = 1
 
--- whether the first of the lines begins with a word that is served
+-- whether the first of the lines begins with the word
 abbrev pub begins_front : List ℕ → List Line → Bool
 begins_front name [] = false
 begins_front name (line ∷ lines) = begins name line

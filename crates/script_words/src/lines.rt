@@ -1,7 +1,6 @@
 //! The lines of a text that are said.
 
 ghost use Rattle.std.specs.Prelude.{◌≡◌, ◌+◌, ◌≤◌, ◌∷◌, [], IfNone, IfSome, MatchOption, None, Some, length, true};
-ghost use Rattle.session_model.specs.Served.{serves};
 ghost use Rattle.script_words.specs.Remaining.{begins_front, begun_line, place, remaining_from};
 
 use crate::bytes::{begins_with, first_piece, is_said, without_cr};
@@ -72,7 +71,6 @@ impl<'a> Lines<'a> {
 
     /// Takes the line in front if its first word is this name. Its words are those behind the name.
     pub fn take_begun(&mut self, name: &[u8]) -> Option<Line<'a>>
-        requires served { serves name.now ≡ true }
         ensures none { IfNone result ((begun_line name.now self.old.lines ≡ None) × (self.new ≡ self.old)) }
         ensures some { IfSome result (λ l. begun_line name.now self.old.lines ≡ Some (record { number = l.number; words = l.words }, self.new.lines)) }
         ensures end { self.new.end ≡ self.old.end }
@@ -87,7 +85,6 @@ impl<'a> Lines<'a> {
 
     /// Whether the first word of the line in front is this name.
     fn begins(&self, name: &[u8]) -> bool
-        requires { serves name.now ≡ true }
         ensures { result ≡ begins_front name.now self.now.lines }
     {
         match self.front {

@@ -10,7 +10,7 @@ use Rattle.jack_types.specs.declared.replies.Entry.{Entry}
 use Rattle.session_model.specs.Courses.{no_turn}
 use Rattle.session_model.specs.Histories.{accepted, calls_of}
 use Rattle.session_model.specs.Samples.{below}
-use Rattle.session_model.specs.Scripts.{Script, Phase, Planned, Turn, phases, planned, turns}
+use Rattle.session_model.specs.Scripts.{Script, Phase, Planned, ScriptCycle, phases, planned, turns}
 use Rattle.session_model.specs.Serial.{answered, due, lanes_at, do_calls, calls_from, serial_calls, serial_history, serial_number, numbers_from, history_with, is_before}
 use Rattle.session_laws.proofs.CycleLemmas.{filter-passes}
 use Rattle.session_laws.proofs.ListLemmas.{Each, Each-append, Each-contains, Each-from_contains, Each-map, Each-unmap, Each-weaker, Each-flat_map, filter-all, filter-none}
@@ -116,7 +116,7 @@ second_false false c d h = refl
 
 pub serial_number_is : SerialNumber
 serial_number_is script done t phase is_script here low =
-    index_at script history (map (λ (turn : Turn). turn.phase) (turns script)) 1 j done turn_there
+    index_at script history (map (λ (turn : ScriptCycle). turn.phase) (turns script)) 1 j done turn_there
     ∙ ap (λ (es : List Entry). length (accepted es)) (
     ap (filter (λ (e : Entry). test e.call)) whole
     ∙ filter-append (λ (e : Entry). test e.call) first w.0
@@ -223,7 +223,7 @@ serial_number_is script done t phase is_script here low =
         let there = in_plan plan (subst (λ ps. Contains ps plan) (sym all) (at_back front rest plan c)) in
         before_is script done (1 + (base + t)) plan there ∙ Each-contains Late rest plan late c)))
 
-    turn_there : slice_get (map (λ (turn : Turn). turn.phase) (turns script)) j ≡ Some done
+    turn_there : slice_get (map (λ (turn : ScriptCycle). turn.phase) (turns script)) j ≡ Some done
     turn_there =
         let up : cycles_in (take (suc done) (phases script)) ≡ base + phase.cycles = sum_next (phases script) done phase here in
         let most : cycles_in (take (suc done) (phases script)) ≤ cycles_in (phases script) = sum_by-take-le (λ (p : Phase). p.cycles) (phases script) (suc done) in
@@ -231,4 +231,4 @@ serial_number_is script done t phase is_script here low =
         let inside : j < length (turns script) = omega (arith, up, most, total, low) in
         let is : (slice_index_or (turns script) j no_turn).phase ≡ 0 + done = phase_at (phases script) 0 done j (omega arith) (omega (arith, up, low)) in
         let zeroth : 0 + done ≡ done = omega arith in
-        mapped_some (λ (turn : Turn). turn.phase) (turns script) j (slice_index_or (turns script) j no_turn) (there_in (turns script) j no_turn inside) ∙ ap Some (is ∙ zeroth)
+        mapped_some (λ (turn : ScriptCycle). turn.phase) (turns script) j (slice_index_or (turns script) j no_turn) (there_in (turns script) j no_turn inside) ∙ ap Some (is ∙ zeroth)

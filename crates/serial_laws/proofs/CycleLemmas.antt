@@ -4,7 +4,7 @@
 use Rattle.std.proofs.Common.{◌≡◌, ℕ, suc, ◌+◌, ◌<◌, Bool, true, false, List, length, slice_get, IsNone, Some, sym, ◌∙◌, ap, subst, arith}
 use Rattle.std.proofs.lemmas.Option.{none-some}
 use Rattle.session_model.specs.Explanations.{Given}
-use Rattle.session_model.specs.Scripts.{Phase, Script, Turn, phases, turns}
+use Rattle.session_model.specs.Scripts.{Phase, Script, ScriptCycle, phases, turns}
 use Rattle.record_ring.specs.Rings.{Getting, Sending}
 use Rattle.driver_laws.specs.Drivers.{run, turn_of}
 use Rattle.driver_laws.specs.Segments.{cycles_before}
@@ -151,7 +151,7 @@ module _ (there : CyclesThere) (are : CyclesAre) (exact_behind : TurnedExact) (s
   is_left = subst (λ n. n < length (turns session.script)) (sym at.cycles_are) (there session.script done t phase phase_there early)
 
   kind_is : (turn_of session.script (run session.driver + 1)).is_freewheel ≡ phase.is_freewheel
-  kind_is = ap (λ n. (turn_of session.script (n + 1)).is_freewheel) at.cycles_are ∙ ap (λ (turn : Turn). turn.is_freewheel) (are session.script done t phase phase_there early)
+  kind_is = ap (λ n. (turn_of session.script (n + 1)).is_freewheel) at.cycles_are ∙ ap (λ (turn : ScriptCycle). turn.is_freewheel) (are session.script done t phase phase_there early)
 
   exact : AreExact session
   exact = AreExact-so_far session at.so_far

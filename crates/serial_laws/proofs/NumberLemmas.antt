@@ -8,7 +8,7 @@ use Rattle.std.proofs.lemmas.List.Elements.{All-contains, Contains-append_right,
 use Rattle.std.proofs.lemmas.List.Sums.{sum_by-cons}
 use Rattle.std.proofs.lemmas.Option.{none-some, same_Some}
 use Rattle.session_model.specs.Courses.{no_turn}
-use Rattle.session_model.specs.Scripts.{Phase, Script, Turn, phases, turns, turns_from}
+use Rattle.session_model.specs.Scripts.{Phase, Script, ScriptCycle, phases, turns, turns_from}
 use Rattle.graph_word.specs.Publications.{Reading, Takes}
 use Rattle.driver_laws.specs.Drivers.{turn_of}
 use Rattle.driver_laws.specs.Segments.{cycles_before}
@@ -17,7 +17,7 @@ abbrev cycles_in : List Phase → ℕ
 cycles_in phs = sum_by (λ (p : Phase). p.cycles) phs
 
 -- the turn of a phase's cycles
-abbrev turn_in : ℕ → Phase → Turn
+abbrev turn_in : ℕ → Phase → ScriptCycle
 turn_in index phase = record { period = phase.period; is_freewheel = phase.is_freewheel; phase = index }
 
 turns-more : (phase : Phase) (phs : List Phase) (index : ℕ) → length (turns_from index (phase ∷ phs)) ≡ phase.cycles + length (turns_from (index + 1) phs)

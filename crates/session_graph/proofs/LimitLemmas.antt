@@ -8,7 +8,7 @@ use Rattle.jack_types.specs.declared.scripts.Body.{Body}
 use Rattle.jack_types.specs.declared.scripts.Body.TheVariants.{Do, Run, Freewheel, Lane, Period}
 use Rattle.jack_types.specs.declared.scripts.Header.{Header}
 use Rattle.session_model.specs.Grammar.{IsScript, IsBody, all_cycles, is_call, open_segment, segment_after}
-use Rattle.session_model.specs.Scripts.{Script, Phase, LaneCall, Turn, Uncounted, phases, phases_of, planned, turns, turns_from, uncounted, counted, lane_calls, with_do}
+use Rattle.session_model.specs.Scripts.{Script, Phase, LaneCall, ScriptCycle, Uncounted, phases, phases_of, planned, turns, turns_from, uncounted, counted, lane_calls, with_do}
 use Rattle.session_laws.proofs.GrammarLimits.{all_cycles-append, cycles_in}
 use Rattle.session_laws.proofs.SerialCallsLemmas.{dos_of, calls_at}
 use Rattle.session_laws.proofs.SerialLawfulLemmas.{AreBodies, AreBodies-rest}
@@ -41,12 +41,12 @@ cycles-of_phases script = let all = all_cycles-append script.header.period [] sc
 turns-count : (index : ℕ) (phs : List Phase) → length (turns_from index phs) ≡ all_cycles phs
 turns-count index [] = refl
 turns-count index (phase ∷ phs) =
-    let turn : Turn = record { period = phase.period; is_freewheel = phase.is_freewheel; phase = index } in
+    let turn : ScriptCycle = record { period = phase.period; is_freewheel = phase.is_freewheel; phase = index } in
     let both : length (replicate phase.cycles turn ++ turns_from (index + 1) phs) ≡ length (replicate phase.cycles turn) + length (turns_from (index + 1) phs) = length-append (replicate phase.cycles turn) (turns_from (index + 1) phs) in
     let all : all_cycles (phase ∷ phs) ≡ phase.cycles + all_cycles phs = sum_by-cons (λ (p : Phase). p.cycles) phase phs in
     omega (arith, both, all, run phase.cycles turn, turns-count (index + 1) phs)
   where
-    run : (n : ℕ) (turn : Turn) → length (replicate n turn) ≡ n
+    run : (n : ℕ) (turn : ScriptCycle) → length (replicate n turn) ≡ n
     run zero turn = refl
     run (suc n) turn = ap suc (run n turn)
 

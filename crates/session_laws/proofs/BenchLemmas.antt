@@ -1,7 +1,7 @@
 -- A crew over benches that are ready plays the cycle: what its benches give solves the cycle's equations.
 --     turn-is_played      a bench plays what its client plays, where the other clients' outputs are those of the benches
 --     Agree-outputs      the benches' outputs are the cycle's
---     IsPlayed-of_sequential      the benches behind the crew's cycle have what the cycle has
+--     HaveCycle-of_sequential      the benches behind the crew's cycle have what the cycle has
 use Rattle.std.proofs.Common.{◌≡◌, ℕ, zero, suc, ◌<◌, true, not, ◌==◌, ◌&&◌, List, [], length, map, get_or, Contains, ℤ, Option, Some, None, refl, sym, ◌∙◌, ap, ap₂, subst, arith, eqb-true, eq-eqb}
 use Rattle.std.specs.List.{position_or_len}
 use Rattle.std.specs.Option.{option_map_or, option_map}
@@ -14,7 +14,7 @@ use Rattle.jack_types.specs.declared.ports.Link.{Link}
 use Rattle.jack_types.specs.declared.ports.Mark.{Mark}
 use Rattle.jack_types.specs.declared.ports.Mark.TheVariants.{Direct, Feedback}
 use Rattle.session_model.specs.Activation.{link_at, no_link, incoming, outgoing, place_among, given_to, value_of, sequential}
-use Rattle.session_model.specs.Benches.{Signal, Route, Task, Bench, no_signal, signal_at, audio_part, midi_part, mixed, merged, task_played, task_turn, routed, bench_played, bench_after, handed, bench_gives, node_at, place_in, edges_between, link_place, edge_place, fixed_audio, fixed_midi, direct_part, marked_part, audio_part_of, midi_part_of, port_place, route_of, task_of, IsPlan, IsReady, outputs_of, IsPlayed}
+use Rattle.session_model.specs.Benches.{Signal, Route, Task, Bench, no_signal, signal_at, audio_part, midi_part, mixed, merged, task_played, task_turn, routed, bench_played, bench_after, handed, bench_gives, node_at, place_in, edges_between, link_place, edge_place, fixed_audio, fixed_midi, direct_part, marked_part, audio_part_of, midi_part_of, port_place, route_of, task_of, IsPlan, IsReady, outputs_of, HaveCycle}
 use Rattle.session_model.specs.Commands.{ports_of, is_audio, is_input}
 use Rattle.session_model.specs.Courses.{Course, players}
 use Rattle.session_model.specs.Cycles.{Signals, Settled, ClientPlayed, Cycle, carried, edges_into, audio_into, midi_into, audio_inputs, audio_outputs, midi_inputs, midi_outputs, at_port, played_on, client_played, player_named, audio_of, midi_of, given, signals, cycle_of, memory_after}
@@ -355,8 +355,8 @@ module _ (course : Course) (at : Settled) (nodes : List OpenClient) (links : Lis
     same_turn : (n : ℕ) → client_played course at now (node_at nodes n) ≡ client_played course at this.now (node_at nodes n)
     same_turn n = client_played-same course at now this.now (name_at n) (λ edge m direct into. Agree-outputs edge.source) (node_at nodes n) refl
 
-    pub IsPlayed-done : IsPlayed this nodes done
-    IsPlayed-done = record {
+    pub HaveCycle-done : HaveCycle this nodes done
+    HaveCycle-done = record {
       memory = λ n h.
           ap (λ player. memory_after course at this.now (earlier.memory (node_at nodes n).birth) player) (plan.born n h)
           ∙ ap (λ (played : ClientPlayed). Some played.memory) (sym (turn-is_played n h ∙ same_turn n))
@@ -384,12 +384,12 @@ module _ (course : Course) (at : Settled) (nodes : List OpenClient) (links : Lis
         midi_at (Some n) e = ap (λ (bench : Bench). at_port [] (midi_outputs at.graph (name_at n)) bench.midi port) (h n (place_in-some (client_part port) n e).0)
 
     -- benches that are what the machine says have what the cycle has
-    pub IsPlayed-of_sequential : (benches : ℕ → Bench) → ((n : ℕ) → n < length nodes → benches n ≡ sequential bench_after bench_gives links before n) → IsPlayed this nodes benches
-    IsPlayed-of_sequential benches h = record {
-      memory = λ n w. IsPlayed-done.memory n w ∙ ap (λ (bench : Bench). Some bench.memory) (sym (h n w));
-      audio = λ port. (outputs-same benches h port).audio ∙ IsPlayed-done.audio port;
-      midi = λ port. (outputs-same benches h port).midi ∙ IsPlayed-done.midi port;
-      sounds = λ n w. ap (λ (bench : Bench). bench.sounds) (h n w) ∙ IsPlayed-done.sounds n w;
-      notes = λ n w. ap (λ (bench : Bench). bench.notes) (h n w) ∙ IsPlayed-done.notes n w;
-      mix = λ port. audio_into-same course at (outputs_of at nodes benches) now (client_part port) (λ edge m direct into. outputs-same benches h edge.source) port refl ∙ IsPlayed-done.mix port;
+    pub HaveCycle-of_sequential : (benches : ℕ → Bench) → ((n : ℕ) → n < length nodes → benches n ≡ sequential bench_after bench_gives links before n) → HaveCycle this nodes benches
+    HaveCycle-of_sequential benches h = record {
+      memory = λ n w. HaveCycle-done.memory n w ∙ ap (λ (bench : Bench). Some bench.memory) (sym (h n w));
+      audio = λ port. (outputs-same benches h port).audio ∙ HaveCycle-done.audio port;
+      midi = λ port. (outputs-same benches h port).midi ∙ HaveCycle-done.midi port;
+      sounds = λ n w. ap (λ (bench : Bench). bench.sounds) (h n w) ∙ HaveCycle-done.sounds n w;
+      notes = λ n w. ap (λ (bench : Bench). bench.notes) (h n w) ∙ HaveCycle-done.notes n w;
+      mix = λ port. audio_into-same course at (outputs_of at nodes benches) now (client_part port) (λ edge m direct into. outputs-same benches h edge.source) port refl ∙ HaveCycle-done.mix port;
     }

@@ -13,7 +13,7 @@ use Rattle.jack_types.specs.declared.ports.Mark.{Mark}
 use Rattle.jack_types.specs.declared.ports.Mark.TheVariants.{Direct, Feedback}
 use Rattle.jack_types.specs.declared.replies.Underrun.{Underrun}
 use Rattle.session_model.specs.Activation.{Machine, AtHome, place_of, IsSequential}
-use Rattle.session_model.specs.Benches.{Signal, Bench, bench_after, bench_gives, node_at, outputs_of, IsPlan, IsReady, IsPlayed}
+use Rattle.session_model.specs.Benches.{Signal, Bench, bench_after, bench_gives, node_at, outputs_of, IsPlan, IsReady, HaveCycle}
 use Rattle.session_model.specs.Courses.{Course, graph, period, captured, players}
 use Rattle.session_model.specs.Cycles.{carried, edges_into, input_of, Signals, Settled, Cycle, cycle, previous, settled_after, with_block, player_born}
 use Rattle.session_model.specs.Driving.{kept_from, settled_from, IsDriven}
@@ -25,7 +25,7 @@ use Rattle.session_model.specs.Transport.{moment}
 use Rattle.session_laws.proofs.CourseLemmas.{IsSameUpTo, later, cycle-same}
 use Rattle.session_laws.proofs.CycleLemmas.{bytes_same, map_filter-same, find-passes, find-contains}
 use Rattle.session_laws.proofs.FeedbackLemmas.{FeedbackInside}
-use Rattle.session_laws.proofs.PlayedLemmas.{IsPlayed-cycle, IsPlayed-none, memory-kept}
+use Rattle.session_laws.proofs.PlayedLemmas.{HaveCycle-cycle, HaveCycle-none, memory-kept}
 
 pub cycle-graph : (course : Course) (k : ℕ) → (cycle course k).settled.graph ≡ graph course k
 cycle-graph course zero = refl
@@ -36,14 +36,14 @@ cycle-frames course zero = refl
 cycle-frames course (suc k) = refl
 
 pub IsDriven-none : (course : Course) (benches : ℕ → Bench) → IsDriven course 0 [] benches (λ birth. None)
-IsDriven-none course benches = record { played = IsPlayed-none course benches; memories = λ birth. refl }
+IsDriven-none course benches = record { played = HaveCycle-none course benches; memories = λ birth. refl }
 
 -- what the course gets later changes nothing
 pub IsDriven-grown : (course : Course) (k : ℕ) (nodes : List OpenClient) (benches : ℕ → Bench) (held : ℕ → Option Memory) (changes : List Change) (numbers : List ℕ) (underruns : List (List Underrun))
     → IsSameUpTo course (later course changes numbers underruns) k → IsDriven course k nodes benches held → IsDriven (later course changes numbers underruns) k nodes benches held
 IsDriven-grown course k nodes benches held changes numbers underruns same driven =
     let one : cycle course k ≡ cycle (later course changes numbers underruns) k = cycle-same course changes numbers underruns k same k (omega arith) in record {
-      played = subst (λ (made : Cycle). IsPlayed made nodes benches) one driven.played;
+      played = subst (λ (made : Cycle). HaveCycle made nodes benches) one driven.played;
       memories = λ birth. driven.memories birth ∙ ap (λ (made : Cycle). made.memory birth) one;
     }
 
@@ -87,8 +87,8 @@ module _ (course : Course) (k : ℕ) (old_nodes : List OpenClient) (old_benches 
     memories = λ birth. go birth (player_born (graph course (suc k)) birth) refl;
   }
     where
-      played : IsPlayed (cycle course (suc k)) nodes benches
-      played = IsPlayed-cycle course k nodes links before benches machine values plan (subst (λ at. IsReady course at nodes links before) settled_from-is_settled ready) sequential_now home
+      played : HaveCycle (cycle course (suc k)) nodes benches
+      played = HaveCycle-cycle course k nodes links before benches machine values plan (subst (λ at. IsReady course at nodes links before) settled_from-is_settled ready) sequential_now home
 
       -- the memory of a player's birth
       of_player : (birth : ℕ) (client : OpenClient) → client.birth ≡ birth → Contains nodes client → now_held birth ≡ (cycle course (suc k)).memory birth

@@ -128,7 +128,7 @@ begun_in-again (Some cycles) before n h =
 
 lane_line-takes : (header : Header) (earlier : List Body) → ChoiceTakes body_slots (IsBody header earlier) (codes "lane", lane_line header earlier)
 lane_line-takes header earlier = record {
-  takes = λ words y is e.
+  takes = λ words y e.
       let lane = bind_ok (number 1 4 words) _ y e in
       let at = bind_ok (fixed (codes "at") lane.0.1) _ y lane.2 in
       let n = bind_ok (any_number at.0.1) _ y at.2 in
@@ -144,7 +144,7 @@ lane_line-takes header earlier = record {
       let three = Takes-join (Word (codes "at") ∷ []) (Numeral n.0.0 ∷ command_slots c.0.0) lane.0.1 at.0.1 c.0.1 j2 two in
       let four = Takes-join (Numeral lane.0.0 ∷ []) (Word (codes "at") ∷ Numeral n.0.0 ∷ command_slots c.0.0) words lane.0.1 c.0.1 i.0 three in
       let made : (Lane lane.0.0 n.0.0 c.0.0, c.0.1) ≡ y = ap (λ (m : ℕ). (Lane lane.0.0 m c.0.0, c.0.1)) b.1 ∙ ok_is (Lane lane.0.0 begun.0 c.0.0, c.0.1) y c.2 in
-      subst (λ (y : Body × List (List ℕ)). Takes (body_slots y.0) (codes "lane" ∷ words) y.1 × IsBody header earlier y.0) made (((refl, is), four), (i.1, b.0.0, b.0.1, l.1));
+      subst (λ (y : Body × List (List ℕ)). Takes (body_slots y.0) (codes "lane" ∷ words) y.1 × IsBody header earlier y.0) made ((refl, four), (i.1, b.0.0, b.0.1, l.1));
 }
 
 lane_line-again : (header : Header) (earlier : List Body) (words rest : List (List ℕ)) (lane begun : ℕ) (c : Command) → Takes (Numeral lane ∷ Word (codes "at") ∷ Numeral begun ∷ command_slots c) words rest → IsBody header earlier (Lane lane begun c) → lane_line header earlier words ≡ Ok (Lane lane begun c, rest)

@@ -149,7 +149,7 @@ mode-reads = record {
 
 registering-takes : (header : Header) → ChoiceTakes command_slots (IsCommand header) (codes "register", registering)
 registering-takes header = record {
-  takes = λ words y is e.
+  takes = λ words y e.
       let p = bind_ok (port words) _ y e in
       let w = bind_ok (way p.0.1) _ y p.2 in
       let t = bind_ok (port_type w.0.1) _ y w.2 in
@@ -157,7 +157,7 @@ registering-takes header = record {
       let b = way-reads.takes p.0.1 w.0 w.1 in
       let c = port_type-reads.takes w.0.1 t.0 t.1 in
       let joined = Takes-join (Fixed p.0.0 ∷ []) (Word (way_word w.0.0) ∷ Word (type_word t.0.0) ∷ []) words p.0.1 t.0.1 a.0 (Takes-join (Word (way_word w.0.0) ∷ []) (Word (type_word t.0.0) ∷ []) p.0.1 w.0.1 t.0.1 b.0 c.0) in
-      subst (λ (y : Command × List (List ℕ)). Takes (command_slots y.0) (codes "register" ∷ words) y.1 × IsCommand header y.0) (ok_is (Register p.0.0 w.0.0 t.0.0, t.0.1) y t.2) (((refl, is), joined), a.1);
+      subst (λ (y : Command × List (List ℕ)). Takes (command_slots y.0) (codes "register" ∷ words) y.1 × IsCommand header y.0) (ok_is (Register p.0.0 w.0.0 t.0.0, t.0.1) y t.2) ((refl, joined), a.1);
 }
 
 registering-again : (words rest : List (List ℕ)) (port : List ℕ) (way : Way) (kind : PortKind) → Takes (Fixed port ∷ Word (way_word way) ∷ Word (type_word kind) ∷ []) words rest → IsPortName port → registering words ≡ Ok (Register port way kind, rest)
@@ -172,7 +172,7 @@ tempo_slots client mbpm beats ticks = Fixed client ∷ Numeral mbpm ∷ Numeral 
 tempo-takes : (header : Header) (name : List ℕ) (make : List ℕ → ℕ → ℕ → ℕ → Command) → ((c : List ℕ) (m b t : ℕ) → command_slots (make c m b t) ≡ Word name ∷ tempo_slots c m b t) → ((c : List ℕ) (m b t : ℕ) → IsClientName c → IsTempo m b t → IsCommand header (make c m b t))
     → ChoiceTakes command_slots (IsCommand header) (name, tempo make)
 tempo-takes header name make same good = record {
-  takes = λ words y is e.
+  takes = λ words y e.
       let c = bind_ok (client words) _ y e in
       let m = bind_ok (number 1000 999999 c.0.1) _ y c.2 in
       let b = bind_ok (number 1 32 m.0.1) _ y m.2 in
@@ -185,7 +185,7 @@ tempo-takes header name make same good = record {
       let three = Takes-join (Numeral m.0.0 ∷ []) (Numeral b.0.0 ∷ Numeral t.0.0 ∷ []) c.0.1 m.0.1 t.0.1 j.0 two in
       let four = Takes-join (Fixed c.0.0 ∷ []) (Numeral m.0.0 ∷ Numeral b.0.0 ∷ Numeral t.0.0 ∷ []) words c.0.1 t.0.1 i.0 three in
       subst (λ (y : Command × List (List ℕ)). Takes (command_slots y.0) (name ∷ words) y.1 × IsCommand header y.0) (ok_is (make c.0.0 m.0.0 b.0.0 t.0.0, t.0.1) y t.2)
-      (subst (λ (s : List Slot). Takes s (name ∷ words) t.0.1) (sym (same c.0.0 m.0.0 b.0.0 t.0.0)) ((refl, is), four), good c.0.0 m.0.0 b.0.0 t.0.0 i.1 (record { mbpm_in = j.1; beats_in = k.1; ticks_in = l.1 }));
+      (subst (λ (s : List Slot). Takes s (name ∷ words) t.0.1) (sym (same c.0.0 m.0.0 b.0.0 t.0.0)) (refl, four), good c.0.0 m.0.0 b.0.0 t.0.0 i.1 (record { mbpm_in = j.1; beats_in = k.1; ticks_in = l.1 }));
 }
 
 tempo-again : (make : List ℕ → ℕ → ℕ → ℕ → Command) (words rest : List (List ℕ)) (c : List ℕ) (m b t : ℕ) → Takes (tempo_slots c m b t) words rest → IsClientName c → IsTempo m b t → tempo make words ≡ Ok (make c m b t, rest)

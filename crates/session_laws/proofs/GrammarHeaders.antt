@@ -11,7 +11,6 @@ use Rattle.jack_types.specs.declared.scripts.Cause.TheVariants.{Choice}
 use Rattle.jack_types.specs.declared.scripts.Many.TheVariants.{Recorders, Events, Disks}
 use Rattle.session_model.specs.Grammar.{Slot, Word, Numeral, number_slots, mode_slots, recorder_slots, event_slots, body_slots, IsIn, IsBits, IsFormat, IsOptional}
 use Rattle.session_model.specs.Reading.{Reader, made, number, any_number, bits, version, old_modes, workers, recorder, channels_and_bits, event, optional, several}
-use Rattle.session_model.specs.Served.{serves, serves_version}
 use Rattle.session_model.specs.Texts.{Line}
 use Rattle.session_laws.proofs.GrammarReaders.{bind_ok, if_ok, ok_is, Takes, Takes-join, Takes-split, Reads, Reads-good, EachChoice-if, ChoiceTakes, by_word-takes, by_word-again, find-old, just-takes, made-takes, made-again, number-reads, any_number-reads}
 use Rattle.session_laws.proofs.GrammarBodies.{bits-reads}
@@ -21,25 +20,21 @@ use Rattle.session_laws.proofs.GrammarLists.{Item}
 
 -- ---- the lines' words
 
-abbrev pub IsVersion : ℕ → Type 0
-IsVersion n = IsIn 1 3 n × IsTrue (serves_version n)
-
-pub version-reads : Reads version (λ n. Numeral n ∷ []) IsVersion
+pub version-reads : Reads version (λ n. Numeral n ∷ []) (IsIn 1 3)
 version-reads = record {
   takes = λ words y e.
       let n = bind_ok (any_number words) _ y e in
       let t = any_number-reads.takes words n.0 n.1 in
-      let i = if_ok (nat_le 1 n.0.0 && nat_le n.0.0 3 && serves_version n.0.0) n.0 y (Choice n.0.0) n.2 in
-      subst (λ (y : ℕ × List (List ℕ)). Takes (Numeral y.0 ∷ []) words y.1 × IsVersion y.0) i.1 (t.0, tested n.0.0 (serves_version n.0.0) refl i.0);
+      let i = if_ok (nat_le 1 n.0.0 && nat_le n.0.0 3) n.0 y (Choice n.0.0) n.2 in
+      subst (λ (y : ℕ × List (List ℕ)). Takes (Numeral y.0 ∷ []) words y.1 × IsIn 1 3 y.0) i.1 (t.0, tested n.0.0 i.0);
   again = λ words x rest p g. rw (any_number-reads.again words x rest p tt, passes x g) refl;
 }
   where
-    tested : (n : ℕ) (b : Bool) → serves_version n ≡ b → (nat_le 1 n && nat_le n 3 && b) ≡ true → IsVersion n
-    tested n true served h = ((grind arith, grind arith), served)
-    tested n false served h = absurd (grind arith)
+    tested : (n : ℕ) → (nat_le 1 n && nat_le n 3) ≡ true → IsIn 1 3 n
+    tested n h = (grind arith, grind arith)
 
-    passes : (n : ℕ) → IsVersion n → (nat_le 1 n && nat_le n 3 && serves_version n) ≡ true
-    passes n g = let low = g.0.0 in let high = g.0.1 in rw g.1 (grind arith)
+    passes : (n : ℕ) → IsIn 1 3 n → (nat_le 1 n && nat_le n 3) ≡ true
+    passes n g = let low = g.0 in let high = g.1 in grind arith
 
 pub channels_and_bits-reads : Reads channels_and_bits (λ x. Numeral x.0 ∷ Numeral x.1 ∷ []) (λ x. IsIn 1 8 x.0 × IsBits x.1)
 channels_and_bits-reads = record {
@@ -139,23 +134,22 @@ pub record IsGiven (name : List ℕ) (usual : ℕ) (IsGood : ℕ → Type 0) (li
   pub choice : IsOptional name n usual read
   pub took : LinesTake read lines rest
   pub good : IsGood n
-  pub unserved : serves name ≡ false → n ≡ usual
 
 pub ring-takes : (lines : List Line) (y : ℕ × List Line) → optional 16 (codes "ring") (number 1 64) lines ≡ Ok y → (read : List (List Slot)) × IsGiven (codes "ring") 16 (IsIn 1 64) lines y.0 y.1 read
-ring-takes lines y e = let o = optional-takes (number-reads 1 64) (codes "ring") refl 16 (omega arith, omega arith) lines y e in (o.0, record { choice = o.1; took = o.2; good = o.3; unserved = o.4 })
+ring-takes lines y e = let o = optional-takes (number-reads 1 64) (codes "ring") refl 16 (omega arith, omega arith) lines y e in (o.0, record { choice = o.1; took = o.2; good = o.3 })
 
 pub ring-again : (lines : List Line) (n : ℕ) (rest : List Line) (read : List (List Slot)) → IsOptional (codes "ring") n 16 read → LinesTake read lines rest → IsIn 1 64 n → NotBegun (codes "ring") rest → optional 16 (codes "ring") (number 1 64) lines ≡ Ok (n, rest)
 ring-again lines n rest read o p g none = optional-again (number-reads 1 64) (codes "ring") refl 16 lines n rest read o p g none
 
 pub drain-takes : (lines : List Line) (y : ℕ × List Line) → optional 4 (codes "drain") (number 0 64) lines ≡ Ok y → (read : List (List Slot)) × IsGiven (codes "drain") 4 (λ n. n ≤ 64) lines y.0 y.1 read
-drain-takes lines y e = let o = optional-takes (up_to-reads 64) (codes "drain") refl 4 (omega arith) lines y e in (o.0, record { choice = o.1; took = o.2; good = o.3; unserved = o.4 })
+drain-takes lines y e = let o = optional-takes (up_to-reads 64) (codes "drain") refl 4 (omega arith) lines y e in (o.0, record { choice = o.1; took = o.2; good = o.3 })
 
 pub drain-again : (lines : List Line) (n : ℕ) (rest : List Line) (read : List (List Slot)) → IsOptional (codes "drain") n 4 read → LinesTake read lines rest → n ≤ 64 → NotBegun (codes "drain") rest → optional 4 (codes "drain") (number 0 64) lines ≡ Ok (n, rest)
 drain-again lines n rest read o p g none = optional-again (up_to-reads 64) (codes "drain") refl 4 lines n rest read o p g none
 
 pub fill-takes : (new : Bool) (lines : List Line) (y : ℕ × List Line) → (if new then optional 4 (codes "fill") (number 0 64) lines else Ok (4, lines)) ≡ Ok y → (read : List (List Slot)) × IsGiven (codes "fill") 4 (λ n. n ≤ 64) lines y.0 y.1 read × (new ≡ false → (read ≡ []) × (y.0 ≡ 4))
-fill-takes true lines y e = let o = optional-takes (up_to-reads 64) (codes "fill") refl 4 (omega arith) lines y e in (o.0, record { choice = o.1; took = o.2; good = o.3; unserved = o.4 }, λ h. absurd (true≢false h))
-fill-takes false lines y e = subst (λ (y : ℕ × List Line). (read : List (List Slot)) × IsGiven (codes "fill") 4 (λ n. n ≤ 64) lines y.0 y.1 read × (false ≡ false → (read ≡ []) × (y.0 ≡ 4))) (ok_is (4, lines) y e) ([], record { choice = inr (refl, refl); took = refl; good = omega arith; unserved = λ h. refl }, λ h. (refl, refl))
+fill-takes true lines y e = let o = optional-takes (up_to-reads 64) (codes "fill") refl 4 (omega arith) lines y e in (o.0, record { choice = o.1; took = o.2; good = o.3 }, λ h. absurd (true≢false h))
+fill-takes false lines y e = subst (λ (y : ℕ × List Line). (read : List (List Slot)) × IsGiven (codes "fill") 4 (λ n. n ≤ 64) lines y.0 y.1 read × (false ≡ false → (read ≡ []) × (y.0 ≡ 4))) (ok_is (4, lines) y e) ([], record { choice = inr (refl, refl); took = refl; good = omega arith }, λ h. (refl, refl))
 
 pub fill-again : (new : Bool) (lines : List Line) (n : ℕ) (rest : List Line) (read : List (List Slot)) → IsOptional (codes "fill") n 4 read → LinesTake read lines rest → n ≤ 64 → NotBegun (codes "fill") rest → (new ≡ false → (read ≡ []) × (n ≡ 4)) → (if new then optional 4 (codes "fill") (number 0 64) lines else Ok (4, lines)) ≡ Ok (n, rest)
 fill-again true lines n rest read o p g none old = optional-again (up_to-reads 64) (codes "fill") refl 4 lines n rest read o p g none

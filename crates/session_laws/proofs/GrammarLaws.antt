@@ -131,8 +131,7 @@ assemble end lines v rate p capture playback m ring drain fill recorders disks e
     let good_bodies : AreBodies header [] body = subst (λ (xs : List Body). AreBodies header [] xs) (sym body-is.1) body-is.3 in (
       is_script header events.0 body
           (record {
-            version = v-is.1.0;
-            served = v-is.1.1;
+            version = v-is.1;
             rate = rate-is.1;
             period = p-is.1;
             capture = capture-is.1;
@@ -143,9 +142,6 @@ assemble end lines v rate p capture playback m ring drain fill recorders disks e
             ring = ring-is.1.good;
             drain = drain-is.1.good;
             fill = fill-is.1.good;
-            no_ring = ring-is.1.unserved;
-            no_drain = drain-is.1.unserved;
-            no_fill = fill-is.1.unserved;
             few_recorders = recorders-are.2;
             recorders = recorders-are.1;
             few_disks = disks-are.2;
@@ -256,7 +252,7 @@ reassemble end script choices l0 l1 l2 l3 l4 l5 l6 l7 l8 l9 l10 l11 l12 is ch t1
     let r_ring = behind_recorders (codes "ring") (record { dos = refl; run = refl; freewheel = refl; lane = refl; period = refl }) (λ item. refl) (λ n. refl) (λ format. refl) in
     let f_ring = not-begun (codes "ring") choices.fill _ l8 l9 (optional-apart (codes "ring") (codes "fill") script.header.fill 4 choices.fill refl ch.fill) r_ring.0 t9 r_ring.1 in
     let b_ring = not-begun (codes "ring") choices.drain _ l7 l8 (optional-apart (codes "ring") (codes "drain") script.header.drain 4 choices.drain refl ch.drain) f_ring.0 t8 f_ring.1 in
-    bind_again _ (required-again version-reads (codes "jackd") refl end l0 script.header.version l1 t1 (h.version, h.served)) (
+    bind_again _ (required-again version-reads (codes "jackd") refl end l0 script.header.version l1 t1 h.version) (
     bind_again _ (required-again (number-reads 8000 192000) (codes "rate") refl end l1 script.header.rate l2 t2 h.rate) (
     bind_again _ (required-again period-reads (codes "period") refl end l2 script.header.period l3 t3 h.period) (
     bind_again _ (required-again (number-reads 1 8) (codes "capture") refl end l3 script.header.capture l4 t4 h.capture) (

@@ -8,9 +8,7 @@ use Rattle.jack_types.specs.declared.scripts.Cause.TheVariants.{Header as NotHea
 use Rattle.jack_types.specs.declared.scripts.Many.{Many}
 use Rattle.session_model.specs.Grammar.{Slot, Word, Fixed, Numeral, SignedNumeral, Hexed, FillAll, LinesFill, number_slots, IsOptional}
 use Rattle.session_model.specs.Reading.{◌>>=◌, Reader, whole, at_line, begins, rest_of, required, optional, several}
-use Rattle.session_model.specs.Served.{serves}
 use Rattle.session_model.specs.Texts.{Line}
-use Rattle.session_laws.proofs.LoopLemmas.{and_parts, and_true}
 use Rattle.session_laws.proofs.GrammarReaders.{bind_ok, ok_is, Reads, bytes-same, bytes-self}
 use Rattle.session_laws.proofs.GrammarBodies.{whole-takes, whole-again}
 
@@ -74,17 +72,13 @@ abbrev pub NotBegun : List ℕ → List Line → Type 0
 NotBegun name [] = Unit {0}
 NotBegun name (line ∷ lines) = begins name line ≡ false
 
-and_false : (a b : Bool) → b ≡ false → (a && b) ≡ false
-and_false true b h = h
-and_false false b h = refl
-
 pub head-apart : (name : List ℕ) (slots : List Slot) (line : Line) → HeadApart name slots → FillAll line.words slots → begins name line ≡ false
 head-apart name [] line h p = absurd h
 head-apart name (Word text ∷ slots) line h p = go line.words p
   where
-    go : (words : List (List ℕ)) → FillAll words (Word text ∷ slots) → (serves name && bytes_eq (slice_index_or words 0 []) name) ≡ false
+    go : (words : List (List ℕ)) → FillAll words (Word text ∷ slots) → bytes_eq (slice_index_or words 0 []) name ≡ false
     go [] q = absurd q
-    go (w ∷ words) q = and_false (serves name) (bytes_eq w name) (rw q.0.0 h)
+    go (w ∷ words) q = rw q.0 h
 head-apart name (Fixed text ∷ slots) line h p = absurd h
 head-apart name (Numeral n ∷ slots) line h p = absurd h
 head-apart name (SignedNumeral z ∷ slots) line h p = absurd h
@@ -102,19 +96,16 @@ module _ {X : Type 0} {reader : Reader X} {slots : X → List Slot} {IsGood : X 
   pub line-takes : (line : Line) (x : X) → begins name line ≡ true → rest_of reader line ≡ Ok x → FillAll line.words (Word name ∷ slots x) × IsGood x
   line-takes line x b e = go line.words b (at_line-ok line.number (reader (drop 1 line.words) >>= whole) x e)
     where
-      go : (words : List (List ℕ)) → (serves name && bytes_eq (slice_index_or words 0 []) name) ≡ true → (reader (drop 1 words) >>= whole) ≡ Ok x → FillAll words (Word name ∷ slots x) × IsGood x
-      go [] c f = let p = and_parts (serves name) (bytes_eq [] name) c in absurd (true≢false (sym p.1 ∙ some))
-      go (w ∷ words) c f =
-          let p = and_parts (serves name) (bytes_eq w name) c in
-          let t = whole-takes r words x f in
-          (((bytes-same w name p.1, p.0), t.0), t.1)
+      go : (words : List (List ℕ)) → bytes_eq (slice_index_or words 0 []) name ≡ true → (reader (drop 1 words) >>= whole) ≡ Ok x → FillAll words (Word name ∷ slots x) × IsGood x
+      go [] c f = absurd (true≢false (sym c ∙ some))
+      go (w ∷ words) c f = let t = whole-takes r words x f in ((bytes-same w name c, t.0), t.1)
 
   pub line-again : (line : Line) (x : X) → FillAll line.words (Word name ∷ slots x) → IsGood x → (begins name line ≡ true) × (rest_of reader line ≡ Ok x)
   line-again line x p g = go line.words p
     where
-      go : (words : List (List ℕ)) → FillAll words (Word name ∷ slots x) → ((serves name && bytes_eq (slice_index_or words 0 []) name) ≡ true) × (at_line line.number (reader (drop 1 words) >>= whole) ≡ Ok x)
+      go : (words : List (List ℕ)) → FillAll words (Word name ∷ slots x) → (bytes_eq (slice_index_or words 0 []) name ≡ true) × (at_line line.number (reader (drop 1 words) >>= whole) ≡ Ok x)
       go [] q = absurd q
-      go (w ∷ words) q = (and_true (serves name) (bytes_eq w name) q.0.1 (rw q.0.0 (bytes-self name)), rw (whole-again r words x q.1 g) refl)
+      go (w ∷ words) q = (rw q.0 (bytes-self name), rw (whole-again r words x q.1 g) refl)
 
   pub required-takes : (end : ℕ) (lines : List Line) (y : X × List Line) → required end name reader lines ≡ Ok y → LinesTake ((Word name ∷ slots y.0) ∷ []) lines y.1 × IsGood y.0
   required-takes end [] y e = absurd cc
@@ -132,17 +123,16 @@ module _ {X : Type 0} {reader : Reader X} {slots : X → List Slot} {IsGood : X 
   required-again end (line ∷ lines) x rest p g = let a = line-again line x p.0 g in rw (a.0, a.1, p.1) refl
 
 module _ {reader : Reader ℕ} {IsGood : ℕ → Type 0} (r : Reads reader (λ n. Numeral n ∷ []) IsGood) (name : List ℕ) (some : bytes_eq [] name ≡ false) (usual : ℕ) where
-  pub optional-takes : IsGood usual → (lines : List Line) (y : ℕ × List Line) → optional usual name reader lines ≡ Ok y → (read : List (List Slot)) × IsOptional name y.0 usual read × LinesTake read lines y.1 × IsGood y.0 × (serves name ≡ false → y.0 ≡ usual)
-  optional-takes good [] y e = subst (λ (y : ℕ × List Line). (read : List (List Slot)) × IsOptional name y.0 usual read × LinesTake read [] y.1 × IsGood y.0 × (serves name ≡ false → y.0 ≡ usual)) (ok_is (usual, []) y e) ([], inr (refl, refl), refl, good, λ h. refl)
+  pub optional-takes : IsGood usual → (lines : List Line) (y : ℕ × List Line) → optional usual name reader lines ≡ Ok y → (read : List (List Slot)) × IsOptional name y.0 usual read × LinesTake read lines y.1 × IsGood y.0
+  optional-takes good [] y e = subst (λ (y : ℕ × List Line). (read : List (List Slot)) × IsOptional name y.0 usual read × LinesTake read [] y.1 × IsGood y.0) (ok_is (usual, []) y e) ([], inr (refl, refl), refl, good)
   optional-takes good (line ∷ lines) y e = go (begins name line) refl e
     where
-      go : (b : Bool) → begins name line ≡ b → (if b then (rest_of reader line >>= λ n. Ok (n, lines)) else Ok (usual, line ∷ lines)) ≡ Ok y → (read : List (List Slot)) × IsOptional name y.0 usual read × LinesTake read (line ∷ lines) y.1 × IsGood y.0 × (serves name ≡ false → y.0 ≡ usual)
+      go : (b : Bool) → begins name line ≡ b → (if b then (rest_of reader line >>= λ n. Ok (n, lines)) else Ok (usual, line ∷ lines)) ≡ Ok y → (read : List (List Slot)) × IsOptional name y.0 usual read × LinesTake read (line ∷ lines) y.1 × IsGood y.0
       go true h k =
           let x = bind_ok (rest_of reader line) _ y k in
           let t = line-takes r name some line x.0 h x.1 in
-          let served : serves name ≡ true = (and_parts (serves name) (bytes_eq (slice_index_or line.words 0 []) name) h).0 in
-          subst (λ (y : ℕ × List Line). (read : List (List Slot)) × IsOptional name y.0 usual read × LinesTake read (line ∷ lines) y.1 × IsGood y.0 × (serves name ≡ false → y.0 ≡ usual)) (ok_is (x.0, lines) y x.2) (number_slots name x.0 ∷ [], inl refl, (t.0, refl), t.1, λ k. absurd (true≢false (sym served ∙ k)))
-      go false h k = subst (λ (y : ℕ × List Line). (read : List (List Slot)) × IsOptional name y.0 usual read × LinesTake read (line ∷ lines) y.1 × IsGood y.0 × (serves name ≡ false → y.0 ≡ usual)) (ok_is (usual, line ∷ lines) y k) ([], inr (refl, refl), refl, good, λ h. refl)
+          subst (λ (y : ℕ × List Line). (read : List (List Slot)) × IsOptional name y.0 usual read × LinesTake read (line ∷ lines) y.1 × IsGood y.0) (ok_is (x.0, lines) y x.2) (number_slots name x.0 ∷ [], inl refl, (t.0, refl), t.1)
+      go false h k = subst (λ (y : ℕ × List Line). (read : List (List Slot)) × IsOptional name y.0 usual read × LinesTake read (line ∷ lines) y.1 × IsGood y.0) (ok_is (usual, line ∷ lines) y k) ([], inr (refl, refl), refl, good)
 
   pub optional-again : (lines : List Line) (n : ℕ) (rest : List Line) (read : List (List Slot)) → IsOptional name n usual read → LinesTake read lines rest → IsGood n → NotBegun name rest → optional usual name reader lines ≡ Ok (n, rest)
   optional-again lines n rest read (inl same) p g none = there lines (subst (λ (s : List (List Slot)). LinesTake s lines rest) same p)

@@ -1,6 +1,6 @@
 -- Readers of words: what is read fills its slots, and what fills its slots is read.
 use Rattle.std.proofs.Common.{◌≡◌, ℕ, ◌<◌, Bool, true, false, ◌&&◌, cond, inl, inr, List, [], ◌∷◌, ◌++◌, Option, Some, None, Result, Ok, Err, refl, sym, ap, subst, ◌∙◌, arith}
-use Rattle.std.specs.Prelude.{IsTrue, if◌then◌else◌, find, ◌==◌, ℤ, pos, ◌-ℤ◌, neg_ℤ, nat_abs, int_le}
+use Rattle.std.specs.Prelude.{if◌then◌else◌, find, ◌==◌, ℤ, pos, ◌-ℤ◌, neg_ℤ, nat_abs, int_le}
 use Rattle.std.specs.Str.{bytes_eq}
 use Rattle.std.proofs.lemmas.Slice.Eq.{bytes_eq-Decides}
 use Rattle.std.proofs.lemmas.Int.{ints}
@@ -10,8 +10,6 @@ use Rattle.jack_types.specs.declared.scripts.Cause.{Cause}
 use Rattle.jack_types.specs.declared.scripts.Cause.TheVariants.{Number, Range}
 use Rattle.session_model.specs.Grammar.{Slot, Word, Fixed, Numeral, SignedNumeral, Fills, FillAll, IsIn, IsIntIn, IsNumeral, IsSignedNumeral, is_number, number_value}
 use Rattle.session_model.specs.Reading.{◌>>=◌, Reader, word, just, by_word, chosen, made, made_of_two, any_number, number, number_up_to, ranged, signed_value, signed_number, or_no_number, name_cause, unless, client, port}
-use Rattle.session_model.specs.Served.{serves}
-use Rattle.session_laws.proofs.LoopLemmas.{and_parts}
 
 pub bind_ok : {A B E : Type 0} (r : Result A E) (f : A → Result B E) (y : B) → (r >>= f) ≡ Ok y → (x : A) × (r ≡ Ok x) × (f x ≡ Ok y)
 bind_ok (Ok x) f y e = (x, refl, e)
@@ -77,23 +75,21 @@ EachChoice-append P (choice ∷ a) b p q = (p.0, EachChoice-append P a b p.1 q)
 
 -- what a choice reads behind its word fills the slots with the word
 pub record ChoiceTakes {X : Type 0} (slots : X → List Slot) (IsGood : X → Type 0) (choice : List ℕ × Reader X) : Type 0 where
-  pub takes : (words : List (List ℕ)) (y : X × List (List ℕ)) → IsTrue (serves choice.0) → choice.1 words ≡ Ok y → Takes (slots y.0) (choice.0 ∷ words) y.1 × IsGood y.0
+  pub takes : (words : List (List ℕ)) (y : X × List (List ℕ)) → choice.1 words ≡ Ok y → Takes (slots y.0) (choice.0 ∷ words) y.1 × IsGood y.0
 
 pub by_word-takes : {X : Type 0} (slots : X → List Slot) (IsGood : X → Type 0) (choices : List (List ℕ × Reader X)) → EachChoice (ChoiceTakes slots IsGood) choices
     → (words : List (List ℕ)) (y : X × List (List ℕ)) → by_word choices words ≡ Ok y → Takes (slots y.0) words y.1 × IsGood y.0
 by_word-takes slots IsGood choices each [] y e = absurd cc
 by_word-takes {X} slots IsGood choices each (first ∷ others) y e = find_in choices each e
   where
-    at : (c : List ℕ × Reader X) (cs : List (List ℕ × Reader X)) (b : Bool) → (serves c.0 && bytes_eq first c.0) ≡ b → ChoiceTakes slots IsGood c → (chosen (find (λ choice. serves choice.0 && bytes_eq first choice.0) cs) others ≡ Ok y → Takes (slots y.0) (first ∷ others) y.1 × IsGood y.0)
-        → chosen (cond b (Some c) (find (λ choice. serves choice.0 && bytes_eq first choice.0) cs)) others ≡ Ok y → Takes (slots y.0) (first ∷ others) y.1 × IsGood y.0
-    at c cs true same one later h =
-        let p = and_parts (serves c.0) (bytes_eq first c.0) same in
-        subst (λ (name : List ℕ). Takes (slots y.0) (name ∷ others) y.1 × IsGood y.0) (sym (bytes-same first c.0 p.1)) (one.takes others y p.0 h)
+    at : (c : List ℕ × Reader X) (cs : List (List ℕ × Reader X)) (b : Bool) → bytes_eq first c.0 ≡ b → ChoiceTakes slots IsGood c → (chosen (find (λ choice. bytes_eq first choice.0) cs) others ≡ Ok y → Takes (slots y.0) (first ∷ others) y.1 × IsGood y.0)
+        → chosen (cond b (Some c) (find (λ choice. bytes_eq first choice.0) cs)) others ≡ Ok y → Takes (slots y.0) (first ∷ others) y.1 × IsGood y.0
+    at c cs true same one later h = subst (λ (name : List ℕ). Takes (slots y.0) (name ∷ others) y.1 × IsGood y.0) (sym (bytes-same first c.0 same)) (one.takes others y h)
     at c cs false same one later h = later h
 
-    find_in : (cs : List (List ℕ × Reader X)) → EachChoice (ChoiceTakes slots IsGood) cs → chosen (find (λ choice. serves choice.0 && bytes_eq first choice.0) cs) others ≡ Ok y → Takes (slots y.0) (first ∷ others) y.1 × IsGood y.0
+    find_in : (cs : List (List ℕ × Reader X)) → EachChoice (ChoiceTakes slots IsGood) cs → chosen (find (λ choice. bytes_eq first choice.0) cs) others ≡ Ok y → Takes (slots y.0) (first ∷ others) y.1 × IsGood y.0
     find_in [] p h = absurd cc
-    find_in (c ∷ cs) p h = at c cs (serves c.0 && bytes_eq first c.0) refl p.0 (λ k. find_in cs p.1 k) h
+    find_in (c ∷ cs) p h = at c cs (bytes_eq first c.0) refl p.0 (λ k. find_in cs p.1 k) h
 
 -- ---- numbers
 
@@ -243,25 +239,11 @@ signed_number-reads least most = record { takes = λ words y e. takes words y e;
 
 -- ---- choices by a word
 
--- a served choice is found
-find-served : {X : Type 0} (choices : List (List ℕ × Reader X)) (name : List ℕ) (c : List ℕ × Reader X) → IsTrue (serves name) → find (λ choice. bytes_eq name choice.0) choices ≡ Some c → find (λ choice. serves choice.0 && bytes_eq name choice.0) choices ≡ Some c
-find-served [] name c is e = absurd cc
-find-served {X} (first ∷ choices) name c is e = go (bytes_eq name first.0) refl (λ k. find-served choices name c is k) e
-  where
-    go : (b : Bool) → bytes_eq name first.0 ≡ b → (find (λ choice. bytes_eq name choice.0) choices ≡ Some c → find (λ choice. serves choice.0 && bytes_eq name choice.0) choices ≡ Some c) → cond b (Some first) (find (λ choice. bytes_eq name choice.0) choices) ≡ Some c
-        → cond (serves first.0 && b) (Some first) (find (λ choice. serves choice.0 && bytes_eq name choice.0) choices) ≡ Some c
-    go true same later k = let s : serves first.0 ≡ true = subst (λ (n : List ℕ). serves n ≡ true) (bytes-same name first.0 same) is in rw s k
-    go false same later k = rw (and_no (serves first.0)) (later k)
-      where
-        and_no : (b : Bool) → (b && false) ≡ false
-        and_no true = refl
-        and_no false = refl
-
 -- a choice of a list is found, and goes on
 pub by_word-again : {X : Type 0} (choices : List (List ℕ × Reader X)) (name : List ℕ) (reader : Reader X) → find (λ choice. bytes_eq name choice.0) choices ≡ Some (name, reader)
     → (slots : List Slot) (words rest : List (List ℕ)) (y : Result (X × List (List ℕ)) Cause) → Takes (Word name ∷ slots) words rest → ((others : List (List ℕ)) → Takes slots others rest → reader others ≡ y) → by_word choices words ≡ y
 by_word-again choices name reader found slots [] rest y p e = absurd p
-by_word-again choices name reader found slots (w ∷ others) rest y p e = rw (p.0.0, find-served choices name (name, reader) p.0.1 found) (e others p.1)
+by_word-again choices name reader found slots (w ∷ others) rest y p e = rw (p.0, found) (e others p.1)
 
 find-append : {X : Type 0} (test : X → Bool) (xs ys : List X) (x : X) → find test xs ≡ Some x → find test (xs ++ ys) ≡ Some x
 find-append test [] ys x h = absurd cc
@@ -282,26 +264,26 @@ EachChoice-if P false xs ys p q = p
 
 module _ {X : Type 0} (slots : X → List Slot) (IsGood : X → Type 0) (name : List ℕ) where
   pub just-takes : (x : X) → slots x ≡ Word name ∷ [] → IsGood x → ChoiceTakes slots IsGood (name, just x)
-  just-takes x same good = record { takes = λ words y is e. subst (λ (y : X × List (List ℕ)). Takes (slots y.0) (name ∷ words) y.1 × IsGood y.0) (ok_is (x, words) y e) (subst (λ (s : List Slot). Takes s (name ∷ words) words) (sym same) ((refl, is), refl), good) }
+  just-takes x same good = record { takes = λ words y e. subst (λ (y : X × List (List ℕ)). Takes (slots y.0) (name ∷ words) y.1 × IsGood y.0) (ok_is (x, words) y e) (subst (λ (s : List Slot). Takes s (name ∷ words) words) (sym same) (refl, refl), good) }
 
   pub made-takes : {A : Type 0} {reader : Reader A} {a_slots : A → List Slot} {a_good : A → Type 0} (r : Reads reader a_slots a_good) (make : A → X) → ((a : A) → slots (make a) ≡ Word name ∷ a_slots a) → ((a : A) → a_good a → IsGood (make a)) → ChoiceTakes slots IsGood (name, made reader make)
   made-takes {A} {reader} {a_slots} {a_good} r make same good = record {
-    takes = λ words y is e.
+    takes = λ words y e.
         let a = bind_ok (reader words) _ y e in
         let t = r.takes words a.0 a.1 in
-        subst (λ (y : X × List (List ℕ)). Takes (slots y.0) (name ∷ words) y.1 × IsGood y.0) (ok_is (make a.0.0, a.0.1) y a.2) (subst (λ (s : List Slot). Takes s (name ∷ words) a.0.1) (sym (same a.0.0)) ((refl, is), t.0), good a.0.0 t.1);
+        subst (λ (y : X × List (List ℕ)). Takes (slots y.0) (name ∷ words) y.1 × IsGood y.0) (ok_is (make a.0.0, a.0.1) y a.2) (subst (λ (s : List Slot). Takes s (name ∷ words) a.0.1) (sym (same a.0.0)) (refl, t.0), good a.0.0 t.1);
   }
 
   pub made_of_two-takes : {A B : Type 0} {first : Reader A} {a_slots : A → List Slot} {a_good : A → Type 0} (r : Reads first a_slots a_good) {second : Reader B} {b_slots : B → List Slot} {b_good : B → Type 0} (q : Reads second b_slots b_good)
       → (make : A → B → X) → ((a : A) (b : B) → slots (make a b) ≡ Word name ∷ (a_slots a ++ b_slots b)) → ((a : A) (b : B) → a_good a → b_good b → IsGood (make a b)) → ChoiceTakes slots IsGood (name, made_of_two first second make)
   made_of_two-takes {A} {B} {first} {a_slots} {a_good} r {second} {b_slots} {b_good} q make same good = record {
-    takes = λ words y is e.
+    takes = λ words y e.
         let a = bind_ok (first words) _ y e in
         let b = bind_ok (second a.0.1) _ y a.2 in
         let t = r.takes words a.0 a.1 in
         let u = q.takes a.0.1 b.0 b.1 in
         subst (λ (y : X × List (List ℕ)). Takes (slots y.0) (name ∷ words) y.1 × IsGood y.0) (ok_is (make a.0.0 b.0.0, b.0.1) y b.2)
-        (subst (λ (s : List Slot). Takes s (name ∷ words) b.0.1) (sym (same a.0.0 b.0.0)) ((refl, is), Takes-join (a_slots a.0.0) (b_slots b.0.0) words a.0.1 b.0.1 t.0 u.0), good a.0.0 b.0.0 t.1 u.1);
+        (subst (λ (s : List Slot). Takes s (name ∷ words) b.0.1) (sym (same a.0.0 b.0.0)) (refl, Takes-join (a_slots a.0.0) (b_slots b.0.0) words a.0.1 b.0.1 t.0 u.0), good a.0.0 b.0.0 t.1 u.1);
   }
 
 pub made-again : {A X : Type 0} {reader : Reader A} {a_slots : A → List Slot} {a_good : A → Type 0} (r : Reads reader a_slots a_good) (make : A → X) (words rest : List (List ℕ)) (a : A) → Takes (a_slots a) words rest → a_good a → made reader make words ≡ Ok (make a, rest)

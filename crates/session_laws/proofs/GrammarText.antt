@@ -1,6 +1,6 @@
 -- The printed script spells the script.
 use Rattle.std.proofs.Common.{◌≡◌, ℕ, zero, suc, ◌+◌, ◌*◌, ◌^◌, ◌<◌, ◌≤◌, Bool, true, false, inl, inr, List, [], ◌∷◌, ◌++◌, length, map, filter, Option, Some, None, refl, sym, ap, subst, ◌∙◌, arith}
-use Rattle.std.specs.Prelude.{IsTrue, if◌then◌else◌, ◌==◌, codes, flat_map, nat_le, sum_by, slice_index_or}
+use Rattle.std.specs.Prelude.{if◌then◌else◌, ◌==◌, codes, flat_map, nat_le, sum_by, slice_index_or}
 use Rattle.std.specs.List.{AllByRecursion}
 use Rattle.std.proofs.lemmas.List.{append-nil, map-append}
 use Rattle.std.proofs.lemmas.List.Concat.{flat_map-append}
@@ -8,10 +8,9 @@ use Rattle.std.proofs.lemmas.List.Elements.{All-from_recursion, recursion_from_A
 use Rattle.jack_types.specs.declared.events.Event.{Event}
 use Rattle.jack_types.specs.declared.files.Format.{Format}
 use Rattle.session_model.specs.Events.{event_bytes}
-use Rattle.session_model.specs.Grammar.{Slot, Word, Fixed, Numeral, SignedNumeral, Hexed, Fills, FillAll, LinesFill, IsIn, IsBits, IsFormat, IsListed, IsScript, IsOptional, AreEvents, Choices, AreChoices, widths, number_slots, mode_slots, recorder_slots, event_slots, body_slots, required_lines, lines_by, served_line, printed_choices, script_text, IsServedSlot, IsServed, Spells}
+use Rattle.session_model.specs.Grammar.{Slot, Word, Fixed, Numeral, SignedNumeral, Hexed, Fills, FillAll, LinesFill, IsIn, IsBits, IsFormat, IsListed, IsScript, IsOptional, AreEvents, Choices, AreChoices, widths, number_slots, mode_slots, recorder_slots, event_slots, body_slots, required_lines, lines_by, printed_choices, script_text, Spells}
 use Rattle.session_model.specs.Samples.{below}
 use Rattle.session_model.specs.Scripts.{Script}
-use Rattle.session_model.specs.Served.{serves}
 use Rattle.session_model.specs.Texts.{Line, said}
 use Rattle.session_laws.proofs.GrammarBodies.{period_in, contained}
 use Rattle.session_laws.proofs.GrammarEvents.{listed-status}
@@ -99,12 +98,8 @@ nat_le32 n = nat_le n 32
 bits-small : (n : ℕ) → IsBits n → n ≤ 32
 bits-small n h = let b : nat_le32 n ≡ true = contained nat_le32 widths n refl h in grind (arith, b)
 
-served-plain : (word : List ℕ) (n : ℕ) → IsPlainLine (number_slots word 0) → n < 10 ^ 10 → AllByRecursion IsPlainLine (served_line word n) × (total_width (served_line word n) ≤ length word + 12)
-served-plain word n p h = go (serves word)
-  where
-    go : (b : Bool) → AllByRecursion IsPlainLine (if b then number_slots word n ∷ [] else []) × (total_width (if b then number_slots word n ∷ [] else []) ≤ length word + 12)
-    go true = ((number-plain word n p h, tt), omega arith)
-    go false = (tt, omega arith)
+line-plain : (word : List ℕ) (n : ℕ) → IsPlainLine (number_slots word 0) → n < 10 ^ 10 → AllByRecursion IsPlainLine (number_slots word n ∷ []) × (total_width (number_slots word n ∷ []) ≤ length word + 12)
+line-plain word n p h = ((number-plain word n p h, tt), omega arith)
 
 mode-plain : (threads : Option ℕ) (steal : Bool) → ((w : ℕ) → threads ≡ Some w → IsIn 1 16 w) → IsPlainLine (mode_slots threads steal) × (line_width (mode_slots threads steal) ≤ 24)
 mode-plain None steal h = ((((omega arith, refl), ((omega arith, refl), tt)), refl), omega arith)
@@ -146,17 +141,10 @@ printed_order script is = record {
   each = λ list lt. within script.events 16 list lt;
 }
 
-served-choice : (word : List ℕ) (n usual : ℕ) → (serves word ≡ false → n ≡ usual) → IsOptional word n usual (served_line word n)
-served-choice word n usual h = go (serves word) h
-  where
-    go : (b : Bool) → (b ≡ false → n ≡ usual) → IsOptional word n usual (if b then number_slots word n ∷ [] else [])
-    go true h = inl refl
-    go false h = inr (refl, h refl)
-
 printed-choices : (script : Script) → IsScript script → AreChoices script (printed_choices script)
 printed-choices script is = record {
-  ring = served-choice (codes "ring") script.header.ring 16 is.header.no_ring;
-  drain = served-choice (codes "drain") script.header.drain 4 is.header.no_drain;
+  ring = inl refl;
+  drain = inl refl;
   fill = fill (script.header.version == 3) refl;
   old = λ lt. old lt (script.header.version == 3) refl;
   events = printed_order script is;
@@ -165,19 +153,19 @@ printed-choices script is = record {
     below_three : (n : ℕ) → IsIn 1 3 n → (n == 3) ≡ false → n < 3
     below_three n h k = let a = h.0 in let b = h.1 in grind arith
 
-    fill : (b : Bool) → (script.header.version == 3) ≡ b → IsOptional (codes "fill") script.header.fill 4 (if b then served_line (codes "fill") script.header.fill else [])
-    fill true e = served-choice (codes "fill") script.header.fill 4 is.header.no_fill
+    fill : (b : Bool) → (script.header.version == 3) ≡ b → IsOptional (codes "fill") script.header.fill 4 (if b then number_slots (codes "fill") script.header.fill ∷ [] else [])
+    fill true e = inl refl
     fill false e = inr (refl, (is.old (below_three script.header.version is.header.version e)).0)
 
-    old : script.header.version < 3 → (b : Bool) → (script.header.version == 3) ≡ b → (if b then served_line (codes "fill") script.header.fill else []) ≡ []
+    old : script.header.version < 3 → (b : Bool) → (script.header.version == 3) ≡ b → (if b then number_slots (codes "fill") script.header.fill ∷ [] else []) ≡ []
     old lt true e = absurd (not_three script.header.version lt e)
       where
         not_three : (n : ℕ) → n < 3 → (n == 3) ≡ true → ⊥
         not_three n h e = grind arith
     old lt false e = refl
 
-pub printed : (script : Script) → IsScript script → IsServed script → Spells (script_text script) script
-printed script is served =
+pub printed : (script : Script) → IsScript script → Spells (script_text script) script
+printed script is =
     let h = is.header in
     let order = first_lists script.events 16 in
     let events_are = printed_order script is in
@@ -185,8 +173,8 @@ printed script is served =
     let goods = goods-listed [] order (lists-goods script.events order lists events_are.lists events_are.each) in
     let few : length order ≤ 4096 = few_lists (lists_of order) script.events (length order) (lists_of-same script.events order is.lists events_are.each) (lists_of-count order goods.0) is.few_events in
     let required = required-plain in
-    let ring = served-plain (codes "ring") script.header.ring (((omega arith, refl), (omega arith, tt)), refl) (omega (arith, h.ring)) in
-    let drain = served-plain (codes "drain") script.header.drain (((omega arith, refl), (omega arith, tt)), refl) (omega (arith, h.drain)) in
+    let ring = line-plain (codes "ring") script.header.ring (((omega arith, refl), (omega arith, tt)), refl) (omega (arith, h.ring)) in
+    let drain = line-plain (codes "drain") script.header.drain (((omega arith, refl), (omega arith, tt)), refl) (omega (arith, h.drain)) in
     let fill = fill-plain (script.header.version == 3) in
     let recorders = formats-plain script.header.rate script.header.recorders (recursion_from_All (IsFormat script.header.rate) script.header.recorders h.recorders) in
     let disks = disks-plain script.header.disks (recursion_from_All (IsIn 1 8) script.header.disks h.disks) in
@@ -198,7 +186,7 @@ printed script is served =
     let sizes = all.1 in (
       size _ _ _ _ _ _ _ _ _ _ _ _ _ _ _ _ width sizes required.1 ring.1 drain.1 fill.1 recorders.1 disks.1 events.1 bodies.1 h.few_recorders h.few_disks few is.few_calls is.few_segments is.few_periods,
       is,
-      (printed_choices script, printed-choices script is, lines-fill (lines_by script (printed_choices script)) 1 all.0 served),
+      (printed_choices script, printed-choices script is, lines-fill (lines_by script (printed_choices script)) 1 all.0),
     )
   where
     few_lists : (made given : List (List (ℕ × Event))) (n : ℕ) → made ≡ given → sum_by length made ≡ n → sum_by length given ≤ 4096 → n ≤ 4096
@@ -229,8 +217,8 @@ printed script is served =
           omega (arith, mode.1),
         )
 
-    fill-plain : (b : Bool) → AllByRecursion IsPlainLine (if b then served_line (codes "fill") script.header.fill else []) × (total_width (if b then served_line (codes "fill") script.header.fill else []) ≤ 16)
-    fill-plain true = served-plain (codes "fill") script.header.fill (((omega arith, refl), (omega arith, tt)), refl) (omega (arith, is.header.fill))
+    fill-plain : (b : Bool) → AllByRecursion IsPlainLine (if b then number_slots (codes "fill") script.header.fill ∷ [] else []) × (total_width (if b then number_slots (codes "fill") script.header.fill ∷ [] else []) ≤ 16)
+    fill-plain true = line-plain (codes "fill") script.header.fill (((omega arith, refl), (omega arith, tt)), refl) (omega (arith, is.header.fill))
     fill-plain false = (tt, omega arith)
 
     join : (a b c d e f g h : List (List Slot)) → AllByRecursion IsPlainLine a → AllByRecursion IsPlainLine b → AllByRecursion IsPlainLine c → AllByRecursion IsPlainLine d → AllByRecursion IsPlainLine e → AllByRecursion IsPlainLine f → AllByRecursion IsPlainLine g → AllByRecursion IsPlainLine h
@@ -243,83 +231,6 @@ printed script is served =
     size : (n width a b c d e f g h recorders disks events calls segments periods : ℕ) → n ≤ width → width ≡ a + b + c + d + e + f + g + h → a ≤ 125 → b ≤ 16 → c ≤ 17 → d ≤ 16 → e ≤ 31 * recorders → f ≤ 16 * disks → g ≤ 61 * events → h ≤ 171 * calls + 21 * segments + 18 * periods → recorders ≤ 4 → disks ≤ 4 → events ≤ 4096 → calls ≤ 4096 → segments ≤ 256 → periods ≤ 256 → n ≤ 1048576
     size n width a b c d e f g h recorders disks events calls segments periods p0 p1 p2 p3 p4 p5 p6 p7 p8 p9 q0 q1 q2 q3 q4 q5 = omega arith
 
--- ---- the words of a script that was read are served
-
-fills-served : (words : List (List ℕ)) (slots : List Slot) → FillAll words slots → AllByRecursion IsServedSlot slots
-fills-served [] [] p = tt
-fills-served [] (slot ∷ slots) p = absurd p
-fills-served (w ∷ words) [] p = absurd p
-fills-served (w ∷ words) (slot ∷ slots) p = (one slot p.0, fills-served words slots p.1)
-  where
-    one : (slot : Slot) → Fills w slot → IsServedSlot slot
-    one (Word text) q = q.1
-    one (Fixed text) q = tt
-    one (Numeral n) q = tt
-    one (SignedNumeral z) q = tt
-    one (Hexed bytes) q = tt
-
-lines-served : (lines : List Line) (slots : List (List Slot)) → LinesFill lines slots → AllByRecursion (AllByRecursion IsServedSlot) slots
-lines-served [] [] p = tt
-lines-served [] (slots ∷ others) p = absurd p
-lines-served (line ∷ lines) [] p = absurd p
-lines-served (line ∷ lines) (slots ∷ others) p = (fills-served line.words slots p.0, lines-served lines others p.1)
-
-all-split : {X : Type 0} (P : X → Type 0) (a b : List X) → AllByRecursion P (a ++ b) → AllByRecursion P a × AllByRecursion P b
-all-split P [] b h = (tt, h)
-all-split P (x ∷ a) b h = let s = all-split P a b h.1 in ((h.0, s.0), s.1)
-
-abbrev AreServed : List (List Slot) → Type 0
-AreServed lines = AllByRecursion (AllByRecursion IsServedSlot) lines
-
-served_line-served : (word : List ℕ) (n : ℕ) → AreServed (served_line word n)
-served_line-served word n = go (serves word) refl
-  where
-    go : (b : Bool) → serves word ≡ b → AreServed (if b then number_slots word n ∷ [] else [])
-    go true h = ((h, (tt, tt)), tt)
-    go false h = tt
-
-event_slots-served : (order : List Item) → IsTrue (serves (codes "event")) → AreServed (map event_slots order)
-event_slots-served [] h = tt
-event_slots-served (item ∷ order) h = ((h, (tt, (tt, (tt, tt)))), event_slots-served order h)
-
--- with no event in the lists, none is printed
-no_first_lists : (events : List (List (ℕ × Event))) → ((list : ℕ) → list < 16 → slice_index_or events list [] ≡ []) → (n : ℕ) → n ≤ 16 → first_lists events n ≡ []
-no_first_lists events h zero le = refl
-no_first_lists events h (suc n) le =
-    first_lists-more events n ∙ both (no_first_lists events h n (omega (arith, le))) (ap (λ (xs : List (ℕ × Event)). map (λ item. (n, item)) xs) (h n (omega (arith, le))))
-  where
-    both : {a b : List Item} → a ≡ [] → b ≡ [] → a ++ b ≡ []
-    both p q = rw (p, q) refl
-
-printed-served : (script : Script) (choices : Choices) → AreChoices script choices → AreServed (lines_by script choices) → IsServed script
-printed-served script choices ch s =
-    let P : List Slot → Type 0 = AllByRecursion IsServedSlot in
-    let s7 = all-split P (required_lines script.header ++ choices.ring ++ choices.drain ++ choices.fill ++ map recorder_slots script.header.recorders ++ map (number_slots (codes "disk")) script.header.disks ++ map event_slots choices.events) (map body_slots script.lines) s in
-    let s6 = all-split P (required_lines script.header ++ choices.ring ++ choices.drain ++ choices.fill ++ map recorder_slots script.header.recorders ++ map (number_slots (codes "disk")) script.header.disks) (map event_slots choices.events) s7.0 in
-    let s5 = all-split P (required_lines script.header ++ choices.ring ++ choices.drain ++ choices.fill ++ map recorder_slots script.header.recorders) (map (number_slots (codes "disk")) script.header.disks) s6.0 in
-    let s4 = all-split P (required_lines script.header ++ choices.ring ++ choices.drain ++ choices.fill) (map recorder_slots script.header.recorders) s5.0 in
-    let s3 = all-split P (required_lines script.header ++ choices.ring ++ choices.drain) choices.fill s4.0 in
-    let s2 = all-split P (required_lines script.header ++ choices.ring) choices.drain s3.0 in
-    let s1 = all-split P (required_lines script.header) choices.ring s2.0 in
-    join (required_lines script.header) (printed_choices script).ring (printed_choices script).drain (printed_choices script).fill (map recorder_slots script.header.recorders) (map (number_slots (codes "disk")) script.header.disks) (map event_slots (first_lists script.events 16)) (map body_slots script.lines)
-    s1.0 (served_line-served (codes "ring") script.header.ring) (served_line-served (codes "drain") script.header.drain) (fill (script.header.version == 3)) s4.1 s5.1 (events choices.events s6.1 ch.events) s7.1
-  where
-    fill : (b : Bool) → AreServed (if b then served_line (codes "fill") script.header.fill else [])
-    fill true = served_line-served (codes "fill") script.header.fill
-    fill false = tt
-
-    events : (order : List Item) → AreServed (map event_slots order) → AreEvents script order → AreServed (map event_slots (first_lists script.events 16))
-    events [] p e = rw (no_first_lists script.events (λ list lt. sym (e.each list lt)) 16 (omega arith)) tt
-    events (item ∷ order) p e = event_slots-served (first_lists script.events 16) p.0.0
-
-    join : (a b c d e f g h : List (List Slot)) → AreServed a → AreServed b → AreServed c → AreServed d → AreServed e → AreServed f → AreServed g → AreServed h → AreServed (a ++ b ++ c ++ d ++ e ++ f ++ g ++ h)
-    join a b c d e f g h pa pb pc pd pe pf pg ph =
-        let P : List Slot → Type 0 = AllByRecursion IsServedSlot in
-        all-append P (a ++ b ++ c ++ d ++ e ++ f ++ g) h (all-append P (a ++ b ++ c ++ d ++ e ++ f) g (all-append P (a ++ b ++ c ++ d ++ e) f (all-append P (a ++ b ++ c ++ d) e (all-append P (a ++ b ++ c) d (all-append P (a ++ b) c (all-append P a b pa pb) pc) pd) pe) pf) pg) ph
-
-pub spelled-served : (bytes : List ℕ) (script : Script) → Spells bytes script → IsServed script
-spelled-served bytes script s = printed-served script s.2.0 s.2.1 (lines-served (said bytes) (lines_by script s.2.0) s.2.2)
-
 -- a script that was read is printed as a text that spells it
 pub printed-again : (bytes : List ℕ) (script : Script) → Spells bytes script → Spells (script_text script) script
-printed-again bytes script s = printed script s.1 (spelled-served bytes script s)
+printed-again bytes script s = printed script s.1

@@ -5,7 +5,7 @@ use Rattle.std.specs.List.{list_all, AllByRecursion}
 use Rattle.std.proofs.lemmas.Int.{ints}
 use Rattle.std.proofs.lemmas.List.{length-append}
 use Rattle.std.proofs.lemmas.Fmt.{decimal_by_steps_wide, length-decimal-le_wide}
-use Rattle.session_model.specs.Grammar.{Slot, Word, Fixed, Numeral, SignedNumeral, Hexed, Fills, FillAll, LinesFill, IsNumeral, IsSignedNumeral, IsIntIn, IsServedSlot, is_digit, is_number, number_value, int_text, slot_text}
+use Rattle.session_model.specs.Grammar.{Slot, Word, Fixed, Numeral, SignedNumeral, Hexed, Fills, FillAll, LinesFill, IsNumeral, IsSignedNumeral, IsIntIn, is_digit, is_number, number_value, int_text, slot_text}
 use Rattle.session_model.specs.Reports.{spaced, line, hex_byte, hex_digit}
 use Rattle.session_model.specs.Texts.{with_byte, pieces, without_cr, is_blank, words, numbered, is_said}
 use Rattle.session_laws.proofs.LoopLemmas.{and_parts, and_true}
@@ -205,20 +205,20 @@ hexed-plain (b ∷ bytes) h =
     and_true (nat_lt 32 (hex_digit (b / 16))) (is_plain (hex_digit (b % 16) ∷ flat_map hex_byte bytes)) (hex-plain (b / 16) (omega arith))
     (and_true (nat_lt 32 (hex_digit (b % 16))) (is_plain (flat_map hex_byte bytes)) (hex-plain (b % 16) (omega arith)) (hexed-plain bytes h.1))
 
-pub slot-text : (slot : Slot) → IsPlainSlot slot → IsServedSlot slot → Fills (slot_text slot) slot × IsWord (slot_text slot)
-slot-text (Word text) p s = ((refl, s), p)
-slot-text (Fixed text) p s = (refl, p)
-slot-text (Numeral n) p s = (decimal-numeral n p, decimal-word n p)
-slot-text (SignedNumeral z) p s = signed-text z p
-slot-text (Hexed bytes) p s = (refl, (some bytes p.0, hexed-plain bytes p.1))
+pub slot-text : (slot : Slot) → IsPlainSlot slot → Fills (slot_text slot) slot × IsWord (slot_text slot)
+slot-text (Word text) p = (refl, p)
+slot-text (Fixed text) p = (refl, p)
+slot-text (Numeral n) p = (decimal-numeral n p, decimal-word n p)
+slot-text (SignedNumeral z) p = signed-text z p
+slot-text (Hexed bytes) p = (refl, (some bytes p.0, hexed-plain bytes p.1))
   where
     some : (bytes : List ℕ) → 1 ≤ length bytes → 0 < length (flat_map hex_byte bytes)
     some [] h = absurd (omega (arith, h))
     some (b ∷ bytes) h = omega arith
 
-slots-text : (slots : List Slot) → AllByRecursion IsPlainSlot slots → AllByRecursion IsServedSlot slots → FillAll (map slot_text slots) slots × AllByRecursion IsWord (map slot_text slots)
-slots-text [] p s = (tt, tt)
-slots-text (slot ∷ slots) p s = let one = slot-text slot p.0 s.0 in let later = slots-text slots p.1 s.1 in ((one.0, later.0), (one.1, later.1))
+slots-text : (slots : List Slot) → AllByRecursion IsPlainSlot slots → FillAll (map slot_text slots) slots × AllByRecursion IsWord (map slot_text slots)
+slots-text [] p = (tt, tt)
+slots-text (slot ∷ slots) p = let one = slot-text slot p.0 in let later = slots-text slots p.1 in ((one.0, later.0), (one.1, later.1))
 
 -- the line begins with a word that opens no comment
 abbrev pub HeadSaid : List Slot → Type 0
@@ -243,10 +243,10 @@ IsPlainLine slots = AllByRecursion IsPlainSlot slots × HeadSaid slots
 abbrev pub line_text : List Slot → List ℕ
 line_text slots = line (map slot_text slots)
 
-pub lines-fill : (lines : List (List Slot)) (n : ℕ) → AllByRecursion IsPlainLine lines → AllByRecursion (AllByRecursion IsServedSlot) lines → LinesFill (filter (λ line. is_said line.words) (numbered n (map without_cr (pieces (flat_map line_text lines))))) lines
-lines-fill [] n p s = tt
-lines-fill (slots ∷ lines) n p s =
-    let t = slots-text slots p.0.0 s.0 in
+pub lines-fill : (lines : List (List Slot)) (n : ℕ) → AllByRecursion IsPlainLine lines → LinesFill (filter (λ line. is_said line.words) (numbered n (map without_cr (pieces (flat_map line_text lines))))) lines
+lines-fill [] n p = tt
+lines-fill (slots ∷ lines) n p =
+    let t = slots-text slots p.0.0 in
     let inner = inner-spaced (map slot_text slots) t.1 in
     let whole : pieces (line_text slots ++ flat_map line_text lines) ≡ spaced (map slot_text slots) ∷ pieces (flat_map line_text lines) =
     ap (λ (b : List ℕ). pieces b) (append_assoc (spaced (map slot_text slots)) (10 ∷ []) (flat_map line_text lines)) ∙ pieces-line (spaced (map slot_text slots)) (flat_map line_text lines) inner in
@@ -254,7 +254,7 @@ lines-fill (slots ∷ lines) n p s =
     let read = words-spaced (map slot_text slots) t.1 in
     let said_is : is_said (words (without_cr (spaced (map slot_text slots)))) ≡ true = rw (bare, read) (said-head slots p.0.1) in
     let filled : FillAll (words (without_cr (spaced (map slot_text slots)))) slots = rw (bare, read) t.0 in
-    let later = lines-fill lines (n + 1) p.1 s.1 in
+    let later = lines-fill lines (n + 1) p.1 in
     rw whole (kept said_is filled later)
   where
     kept : is_said (words (without_cr (spaced (map slot_text slots)))) ≡ true → FillAll (words (without_cr (spaced (map slot_text slots)))) slots → LinesFill (filter (λ line. is_said line.words) (numbered (n + 1) (map without_cr (pieces (flat_map line_text lines))))) lines

@@ -30,7 +30,7 @@ use Rattle.session_model.specs.Recorders.{Lost, IsOverrun, kept_before, is_tapin
 use Rattle.session_model.specs.Replies.{reply}
 use Rattle.session_model.specs.Reports.{PrintedCycle, PrintedMeter, PrintedEvent, PrintedRecorder, PrintedDisk, Report, report_of, report_text, printed_call, printed_cycle, printed_recorder, printed_disk, meters_by, events_by, last_log}
 use Rattle.session_model.specs.Samples.{below}
-use Rattle.session_model.specs.Scripts.{Script, Phase, LaneCall, Planned, Uncounted, Turn, phases, phases_of, lane_calls, with_do, planned, planned_of, turns, turns_from, uncounted, counted}
+use Rattle.session_model.specs.Scripts.{Script, Phase, LaneCall, Planned, Uncounted, ScriptCycle, phases, phases_of, lane_calls, with_do, planned, planned_of, turns, turns_from, uncounted, counted}
 use Rattle.session_laws.proofs.ActivationLemmas.{get_or-map_below, length-map_below, length-below}
 use Rattle.session_laws.proofs.ListLemmas.{Each, Each-weaker, Each-both, Each-append, Each-map, Each-flat_map, Each-below, Each-contains, Each-from_contains, Contains-kept, Contains-filtered, Contains-map}
 use Rattle.session_laws.proofs.ReportLemmas.{IsReadable, IsSmallCall, IsSmallOverrun, IsSmallUnderrun, SaysSame, Report-same, place_of_call}
@@ -213,12 +213,12 @@ planned-few script h =
 turns-length : (index : ℕ) (phs : List Phase) → length (turns_from index phs) ≡ all_cycles phs
 turns-length index [] = refl
 turns-length index (phase ∷ phs) =
-    let r : Turn = record { period = phase.period; is_freewheel = phase.is_freewheel; phase = index } in
+    let r : ScriptCycle = record { period = phase.period; is_freewheel = phase.is_freewheel; phase = index } in
     let a : length (replicate phase.cycles r ++ turns_from (index + 1) phs) ≡ length (replicate phase.cycles r) + length (turns_from (index + 1) phs) = length-append (replicate phase.cycles r) (turns_from (index + 1) phs) in
     let b : all_cycles (phase ∷ phs) ≡ phase.cycles + all_cycles phs = sum_by-cons (λ (p : Phase). p.cycles) phase phs in
     omega (arith, a, b, run phase.cycles r, turns-length (index + 1) phs)
   where
-    run : (n : ℕ) (r : Turn) → length (replicate n r) ≡ n
+    run : (n : ℕ) (r : ScriptCycle) → length (replicate n r) ≡ n
     run zero r = refl
     run (suc n) r = ap suc (run n r)
 
@@ -403,7 +403,7 @@ module _ (given : Given) (printed : Printed) (script_is : IsScript given.script)
   number-small i h =
       let n : ℕ = get_or printed.numbers i 0 in
       let at : slice_get printed.numbers i ≡ Some n = slice_get-at printed.numbers i 0 (omega (arith, h, lawful.cycles.each)) in
-      let none : Turn = record { period = 0; is_freewheel = false; phase = 0 } in
+      let none : ScriptCycle = record { period = 0; is_freewheel = false; phase = 0 } in
       let within = lawful.cycles.bounds i n (get_or (turns given.script) i none) at (slice_get-at (turns given.script) i none h) in
       let below_all : n ≤ length printed.history = below_history (2 * (get_or (turns given.script) i none).phase + 2) n within.1 in
       omega (arith, number-at i, below_all, history-few)

@@ -8,7 +8,7 @@ use Rattle.jack_types.specs.declared.commands.Call.{Call}
 use Rattle.jack_types.specs.declared.commands.Command.{Command}
 use Rattle.jack_types.specs.declared.replies.Entry.{Entry}
 use Rattle.session_model.specs.Histories.{Cycles, KeepsAsked, IsWithinPhase, accepted, accepted_below, change_of, plan_of, stage_of}
-use Rattle.session_model.specs.Scripts.{Script, Phase, LaneCall, Planned, Uncounted, Turn, phases, planned, turns, turns_from, uncounted}
+use Rattle.session_model.specs.Scripts.{Script, Phase, LaneCall, Planned, Uncounted, ScriptCycle, phases, planned, turns, turns_from, uncounted}
 use Rattle.session_model.specs.Serial.{serial, serial_calls, serial_history, serial_number, serial_numbers, numbers_from, is_before}
 use Rattle.session_laws.proofs.ListLemmas.{Each, Ordered, Each-weaker, Each-all, Each-append, Each-contains, Each-from_contains, Each-both, Each-map, Each-unmap, Each-at, Each-drop, Ordered-any, Ordered-append, Ordered-map, filter-none, later_each, length-kept, IsNonDecreasing-ordered}
 use Rattle.session_laws.proofs.SerialCallsLemmas.{KeepsLanes, Before, Each-counted, serial_calls_ordered, dos_of, calls_at, stage_later}
@@ -53,17 +53,17 @@ asked_before (phase ∷ phs) index base keeps =
 
 -- ---- turns
 
-none-turn : (turn : Turn) → None ≡ Some turn → ⊥
+none-turn : (turn : ScriptCycle) → None ≡ Some turn → ⊥
 none-turn turn e = cc
 
-some-turn : (a b : Turn) → Some a ≡ Some b → a ≡ b
+some-turn : (a b : ScriptCycle) → Some a ≡ Some b → a ≡ b
 some-turn a b e = cc
 
 -- place k is behind all cycles of the phases before its own
-abbrev pub IsBehind : ℕ → List Phase → ℕ → Turn → Type 0
+abbrev pub IsBehind : ℕ → List Phase → ℕ → ScriptCycle → Type 0
 IsBehind index phs k turn = (p : ℕ) × (turn.phase ≡ index + p) × (cycles_before phs p ≤ k)
 
-in_run : (n : ℕ) (r : Turn) (others : List Turn) (k : ℕ) (turn : Turn) → slice_get (replicate n r ++ others) k ≡ Some turn → (r ≡ turn) ⊎ ((j : ℕ) × (k ≡ n + j) × (slice_get others j ≡ Some turn))
+in_run : (n : ℕ) (r : ScriptCycle) (others : List ScriptCycle) (k : ℕ) (turn : ScriptCycle) → slice_get (replicate n r ++ others) k ≡ Some turn → (r ≡ turn) ⊎ ((j : ℕ) × (k ≡ n + j) × (slice_get others j ≡ Some turn))
 in_run zero r others k turn h = inr (k, omega arith, h)
 in_run (suc n) r others zero turn h = inl (some-turn r turn h)
 in_run (suc n) r others (suc k) turn h = go (in_run n r others k turn h)
@@ -72,37 +72,37 @@ in_run (suc n) r others (suc k) turn h = go (in_run n r others k turn h)
     go (inl e) = inl e
     go (inr w) = inr (w.0, omega (arith, w.1), w.2)
 
-turn_behind : (phs : List Phase) (index k : ℕ) (turn : Turn) → slice_get (turns_from index phs) k ≡ Some turn → IsBehind index phs k turn
+turn_behind : (phs : List Phase) (index k : ℕ) (turn : ScriptCycle) → slice_get (turns_from index phs) k ≡ Some turn → IsBehind index phs k turn
 turn_behind [] index k turn h = absurd (none-turn turn h)
 turn_behind (phase ∷ phs) index k turn h = go (in_run phase.cycles r (turns_from (index + 1) phs) k turn h) (λ j e. turn_behind phs (index + 1) j turn e)
   where
-    r : Turn
+    r : ScriptCycle
     r = record { period = phase.period; is_freewheel = phase.is_freewheel; phase = index }
 
     go : (r ≡ turn) ⊎ ((j : ℕ) × (k ≡ phase.cycles + j) × (slice_get (turns_from (index + 1) phs) j ≡ Some turn))
         → ((j : ℕ) → slice_get (turns_from (index + 1) phs) j ≡ Some turn → IsBehind (index + 1) phs j turn) → IsBehind index (phase ∷ phs) k turn
     go (inl e) later =
-        let same : index ≡ turn.phase = ap (λ (t : Turn). t.phase) e in
+        let same : index ≡ turn.phase = ap (λ (t : ScriptCycle). t.phase) e in
         (0, omega (arith, same), omega arith)
     go (inr w) later =
         let f = later w.0 w.2 in
         (suc f.0, omega (arith, f.1), omega (arith, f.2, w.1))
 
-turns_each : (phs : List Phase) (index : ℕ) → Ordered (λ (a b : Turn). a.phase ≤ b.phase) (turns_from index phs) × Each (λ (turn : Turn). index ≤ turn.phase) (turns_from index phs)
+turns_each : (phs : List Phase) (index : ℕ) → Ordered (λ (a b : ScriptCycle). a.phase ≤ b.phase) (turns_from index phs) × Each (λ (turn : ScriptCycle). index ≤ turn.phase) (turns_from index phs)
 turns_each [] index = (tt, tt)
 turns_each (phase ∷ phs) index =
-    let r : Turn = record { period = phase.period; is_freewheel = phase.is_freewheel; phase = index } in
+    let r : ScriptCycle = record { period = phase.period; is_freewheel = phase.is_freewheel; phase = index } in
     let rest = turns_each phs (index + 1) in
-    let run : Each (λ (turn : Turn). turn.phase ≡ index) (replicate phase.cycles r) = run_each phase.cycles r refl in
-    let others : List Turn = turns_from (index + 1) phs in (
-      Ordered-append (λ (a b : Turn). a.phase ≤ b.phase) (λ (turn : Turn). turn.phase ≡ index) (λ (turn : Turn). index + 1 ≤ turn.phase) (λ a b p q. omega (arith, p, q)) (replicate phase.cycles r) others
-          (Ordered-any (λ (a b : Turn). a.phase ≤ b.phase) (λ (turn : Turn). turn.phase ≡ index) (λ a b p q. omega (arith, p, q)) (replicate phase.cycles r) run) run rest.0 rest.1,
-      Each-append (λ (turn : Turn). index ≤ turn.phase) (replicate phase.cycles r) others
-          (Each-weaker (λ (turn : Turn). turn.phase ≡ index) (λ (turn : Turn). index ≤ turn.phase) (λ turn p. omega (arith, p)) (replicate phase.cycles r) run)
-          (Each-weaker (λ (turn : Turn). index + 1 ≤ turn.phase) (λ (turn : Turn). index ≤ turn.phase) (λ turn p. omega (arith, p)) others rest.1),
+    let run : Each (λ (turn : ScriptCycle). turn.phase ≡ index) (replicate phase.cycles r) = run_each phase.cycles r refl in
+    let others : List ScriptCycle = turns_from (index + 1) phs in (
+      Ordered-append (λ (a b : ScriptCycle). a.phase ≤ b.phase) (λ (turn : ScriptCycle). turn.phase ≡ index) (λ (turn : ScriptCycle). index + 1 ≤ turn.phase) (λ a b p q. omega (arith, p, q)) (replicate phase.cycles r) others
+          (Ordered-any (λ (a b : ScriptCycle). a.phase ≤ b.phase) (λ (turn : ScriptCycle). turn.phase ≡ index) (λ a b p q. omega (arith, p, q)) (replicate phase.cycles r) run) run rest.0 rest.1,
+      Each-append (λ (turn : ScriptCycle). index ≤ turn.phase) (replicate phase.cycles r) others
+          (Each-weaker (λ (turn : ScriptCycle). turn.phase ≡ index) (λ (turn : ScriptCycle). index ≤ turn.phase) (λ turn p. omega (arith, p)) (replicate phase.cycles r) run)
+          (Each-weaker (λ (turn : ScriptCycle). index + 1 ≤ turn.phase) (λ (turn : ScriptCycle). index ≤ turn.phase) (λ turn p. omega (arith, p)) others rest.1),
     )
   where
-    run_each : (n : ℕ) (r : Turn) → r.phase ≡ index → Each (λ (turn : Turn). turn.phase ≡ index) (replicate n r)
+    run_each : (n : ℕ) (r : ScriptCycle) → r.phase ≡ index → Each (λ (turn : ScriptCycle). turn.phase ≡ index) (replicate n r)
     run_each zero r e = tt
     run_each (suc n) r e = (e, run_each n r e)
 
@@ -112,7 +112,7 @@ numbers_from-length : (script : Script) (history : List Entry) (k : ℕ) (ps : L
 numbers_from-length script history k [] = refl
 numbers_from-length script history k (p ∷ ps) = ap suc (numbers_from-length script history (k + 1) ps)
 
-length-phases : (ts : List Turn) → length (map (λ (turn : Turn). turn.phase) ts) ≡ length ts
+length-phases : (ts : List ScriptCycle) → length (map (λ (turn : ScriptCycle). turn.phase) ts) ≡ length ts
 length-phases [] = refl
 length-phases (t ∷ ts) = ap suc (length-phases ts)
 
@@ -123,8 +123,8 @@ some-number : (a b : ℕ) → Some a ≡ Some b → a ≡ b
 some-number a b e = cc
 
 -- the number at a place is that of the turn there
-number_at : (script : Script) (history : List Entry) (ts : List Turn) (start k number : ℕ) → slice_get (numbers_from script history start (map (λ (turn : Turn). turn.phase) ts)) k ≡ Some number
-    → (turn : Turn) × (slice_get ts k ≡ Some turn) × (number ≡ serial_number script history turn.phase (start + k))
+number_at : (script : Script) (history : List Entry) (ts : List ScriptCycle) (start k number : ℕ) → slice_get (numbers_from script history start (map (λ (turn : ScriptCycle). turn.phase) ts)) k ≡ Some number
+    → (turn : ScriptCycle) × (slice_get ts k ≡ Some turn) × (number ≡ serial_number script history turn.phase (start + k))
 number_at script history [] start k number h = absurd (none-number number h)
 number_at script history (t ∷ ts) start zero number h =
     let e : start ≡ start + 0 = omega arith in
@@ -207,11 +207,11 @@ module _ (script : Script) (keeps : Each KeepsLanes (phases script)) where
       (Each-counted (AsksBefore 0 0 (phases script)) [] (uncounted 0 0 (phases script)) (asked_before (phases script) 0 0 keeps)) c in
       omega (arith, f p (omega (arith, h)))
 
-  bounds : (k number : ℕ) (turn : Turn) → slice_get (serial_numbers script) k ≡ Some number → slice_get (turns script) k ≡ Some turn → IsWithinPhase script (serial_history script) turn number
+  bounds : (k number : ℕ) (turn : ScriptCycle) → slice_get (serial_numbers script) k ≡ Some number → slice_get (turns script) k ≡ Some turn → IsWithinPhase script (serial_history script) turn number
   bounds k number turn h t =
       let w = number_at script (serial_history script) (turns script) 1 k number h in
       let same : w.0 ≡ turn = some-turn w.0 turn (sym w.1 ∙ t) in
-      let is : number ≡ serial_number script (serial_history script) turn.phase (1 + k) = subst (λ (r : Turn). number ≡ serial_number script (serial_history script) r.phase (1 + k)) same w.2 in
+      let is : number ≡ serial_number script (serial_history script) turn.phase (1 + k) = subst (λ (r : ScriptCycle). number ≡ serial_number script (serial_history script) r.phase (1 + k)) same w.2 in
       let b = turn_behind (phases script) 0 k turn t in
       let low : accepted_below script (serial_history script) (2 * turn.phase + 1) ≤ serial_number script (serial_history script) turn.phase (1 + k) =
       length-kept change_of (λ (entry : Entry). nat_lt (stage_of script entry.call) (2 * turn.phase + 1)) (λ (entry : Entry). is_before script turn.phase (1 + k) entry.call) (serial_history script)
@@ -248,7 +248,7 @@ module _ (script : Script) (keeps : Each KeepsLanes (phases script)) where
           and_first false b h = absurd (true≢false (sym h))
 
   -- a call is not before a cycle that a call in front of it, or it itself, waited for
-  not_before : (q y : Planned) (m : ℕ) (turn : Turn) → Contains (planned script) q → Contains (planned script) y → q.asked ≡ suc m → slice_get (turns script) m ≡ Some turn → (q ≡ y) ⊎ Before q y
+  not_before : (q y : Planned) (m : ℕ) (turn : ScriptCycle) → Contains (planned script) q → Contains (planned script) y → q.asked ≡ suc m → slice_get (turns script) m ≡ Some turn → (q ≡ y) ⊎ Before q y
       → is_before script turn.phase (1 + m) y.call ≡ false
   not_before q y m turn cq cy asks t order = before_is turn.phase (1 + m) y.call y (plan_of-planned script y cy) ∙ go order
     where
@@ -313,7 +313,7 @@ module _ (script : Script) (keeps : Each KeepsLanes (phases script)) where
           plus_none : (n : ℕ) → n + 0 ≡ n
           plus_none n = omega arith
 
-      behind : (m : ℕ) (turn : Turn) → plan.asked ≡ suc m → slice_get (turns script) m ≡ Some turn → Each (λ (e : Entry). is_before script turn.phase (1 + m) e.call ≡ false) (drop i (serial_history script))
+      behind : (m : ℕ) (turn : ScriptCycle) → plan.asked ≡ suc m → slice_get (turns script) m ≡ Some turn → Each (λ (e : Entry). is_before script turn.phase (1 + m) e.call ≡ false) (drop i (serial_history script))
       behind m turn asks t =
           let P : Call → Type 0 = λ (call : Call). is_before script turn.phase (1 + m) call ≡ false in
           let calls : map (λ (p : Planned). p.call) (drop i (serial_calls script)) ≡ map (λ (e : Entry). e.call) (drop i (serial_history script)) =
@@ -339,10 +339,10 @@ module _ (script : Script) (keeps : Each KeepsLanes (phases script)) where
 
   pub Cycles-serial : Cycles script (serial script).history (serial script).numbers
   Cycles-serial = record {
-    each = numbers_from-length script (serial_history script) 1 (map (λ (turn : Turn). turn.phase) (turns script)) ∙ length-phases (turns script);
+    each = numbers_from-length script (serial_history script) 1 (map (λ (turn : ScriptCycle). turn.phase) (turns script)) ∙ length-phases (turns script);
     rising = IsNonDecreasing-ordered (serial_numbers script)
-        (numbers_ordered script (serial_history script) 1 (map (λ (turn : Turn). turn.phase) (turns script))
-        (Ordered-map (λ a b. a ≤ b) (λ (turn : Turn). turn.phase) (turns script) (turns_each (phases script) 0).0));
+        (numbers_ordered script (serial_history script) 1 (map (λ (turn : ScriptCycle). turn.phase) (turns script))
+        (Ordered-map (λ a b. a ≤ b) (λ (turn : ScriptCycle). turn.phase) (turns script) (turns_each (phases script) 0).0));
     bounds = bounds;
     asked = asked;
   }

@@ -3,7 +3,7 @@
 ghost use Rattle.std.specs.Prelude.{◌≡◌, ℕ, suc, ◌^◌, ◌<◌, ◌≤◌, List, length, Option, None, Some};
 ghost use Rattle.jack_types.specs.declared.ports.Link.{Link as LinkValue};
 ghost use Rattle.session_model.specs.Activation.{AtHome, IsSequential, Machine, place_of};
-ghost use Rattle.session_model.specs.Benches.{Bench, IsPlan, IsPlayed, IsReady, Signal, bench_after, bench_gives, node_at};
+ghost use Rattle.session_model.specs.Benches.{Bench, IsPlan, HaveCycle, IsReady, Signal, bench_after, bench_gives, node_at};
 ghost use Rattle.session_model.specs.Courses.{Course, first_state, graph, number};
 ghost use Rattle.session_model.specs.Cycles.{cycle, player_born, settled_after};
 ghost use Rattle.session_model.specs.Driving.{IsDriven, settled_from};
@@ -24,7 +24,7 @@ pub fn crew_plays_the_cycle()
         → IsPlan (graph course (suc k)) nodes links → IsReady course (settled_after course (suc k) (cycle course k)) nodes links before
         → IsSequential bench_after bench_gives links before machine benches values
         → ((n : ℕ) → n < length nodes → (n < length machine.places) × (place_of machine n ≡ AtHome))
-        → IsPlayed (cycle course (suc k)) nodes benches }
+        → HaveCycle (cycle course (suc k)) nodes benches }
 {}
 
 /// From behind one cycle to behind the next, with what is settled before it read from the benches.

@@ -2,7 +2,7 @@
 
 ghost use Rattle.std.specs.Prelude.{◌≡◌, ◌⊎◌, ℕ, List};
 ghost use Rattle.session_laws.specs.Spellings.{HasScript, HasScriptFault};
-ghost use Rattle.session_model.specs.Grammar.{IsScript, IsServed, Spells, script_text};
+ghost use Rattle.session_model.specs.Grammar.{IsScript, Spells, script_text};
 ghost use Rattle.session_model.specs.Scripts.{Script};
 
 /// Bytes spell one script and have no fault, or have one fault and spell none.
@@ -10,9 +10,9 @@ pub fn script_or_fault()
     ensures { (bytes : List ℕ) → HasScript bytes ⊎ HasScriptFault bytes }
 {}
 
-/// What is printed of a script spells that script, where the program serves its words.
+/// What is printed of a script spells that script.
 pub fn printed_script()
-    ensures { (script : Script) → IsScript script → IsServed script → Spells (script_text script) script }
+    ensures { (script : Script) → IsScript script → Spells (script_text script) script }
 {}
 
 /// A script that was read is printed and read again.

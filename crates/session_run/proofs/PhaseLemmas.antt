@@ -10,7 +10,7 @@
 use Rattle.std.proofs.Common.{◌≡◌, ℕ, suc, ◌+◌, ◌<◌, ◌≤◌, length, slice_get, Bool, Option, Some, None, sym, ◌∙◌, ap, subst, arith}
 use Rattle.session_model.specs.Courses.{Course}
 use Rattle.session_model.specs.Explanations.{Given}
-use Rattle.session_model.specs.Scripts.{Phase, Script, Turn, phases, turns}
+use Rattle.session_model.specs.Scripts.{Phase, Script, ScriptCycle, phases, turns}
 use Rattle.control_desk.specs.Desks.{IsDone, cycles_before}
 use Rattle.record_ring.specs.Rings.{Getting, Sending}
 use Rattle.wave_pcm.specs.Readings.{Reading, SameReading}
@@ -207,8 +207,8 @@ module _ {S W G : Type 0} where
   pub next-in : CycleThere → CycleIs → (works : Works S W G) (segment : Segment) (done t : ℕ) → InPhase works segment done t → IsOfPhase works.driver.script done segment → t < segment.cycles → IsNext works.driver segment.is_freewheel
   next-in there is works segment done t inside of low = record {
     left = subst (λ n. n < length (turns works.driver.script)) (sym inside.at.cycles_are) (there works.driver.script done t of.phase of.there within);
-    kind = ap (λ (turn : Turn). turn.is_freewheel) turn ∙ sym (ap (λ (s : Segment). s.is_freewheel) of.is);
-    period = ap (λ (turn : Turn). turn.period) turn ∙ sym (ap (λ (s : Segment). s.period) of.is) ∙ sym inside.period;
+    kind = ap (λ (turn : ScriptCycle). turn.is_freewheel) turn ∙ sym (ap (λ (s : Segment). s.is_freewheel) of.is);
+    period = ap (λ (turn : ScriptCycle). turn.period) turn ∙ sym (ap (λ (s : Segment). s.period) of.is) ∙ sym inside.period;
   }
     where
       within : t < of.phase.cycles

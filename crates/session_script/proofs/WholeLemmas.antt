@@ -14,7 +14,7 @@ use Rattle.script_header.specs.declared.required.Required.{Required}
 use Rattle.script_header.specs.Fronts.{Item, required_of, optional_of, fill_of, disks_of, events_of, header_of, front_of}
 use Rattle.session_laws.proofs.GrammarLaws.{spelled, read}
 use Rattle.session_laws.proofs.GrammarReaders.{ok_is}
-use Rattle.session_laws.proofs.GrammarText.{printed, spelled-served}
+use Rattle.session_laws.proofs.GrammarText.{printed}
 use Rattle.session_model.specs.Grammar.{IsListed, Spells, script_text}
 use Rattle.session_model.specs.Reading.{◌>>=◌, required, optional, several, version, number, period, channels_and_bits, workers, recorder, body_lines, script_of_lines, script_of, fault_of, script_fault}
 use Rattle.session_model.specs.Samples.{below}
@@ -115,7 +115,7 @@ front-faulty-at bytes text fault is e = front-faulty (line_after bytes) (said by
 -- ---- what was read
 
 pub lawful : (bytes : List ℕ) (script : Script) → script_of bytes ≡ Ok script → IsLawful script
-lawful bytes script e = let s = spelled bytes script e in record { lawful = s.1; served = spelled-served bytes script s }
+lawful bytes script e = record { lawful = (spelled bytes script e).1 }
 
 pub only-script : (bytes : List ℕ) (script other : Script) → script_of bytes ≡ Ok script → Spells bytes other → script ≡ other
 only-script bytes script other e s = ok_is script other (sym e ∙ read bytes other s)
@@ -157,4 +157,4 @@ lists-more n m order e = ap (λ (k : ℕ). lists_below k order) (next n m e) ∙
 pub text-spells : (bytes : List ℕ) (script inside now : Script) → bytes ≡ script_text script → script ≡ inside → inside ≡ now → IsLawful inside → Spells bytes now
 text-spells bytes script inside now text same view l =
     subst (λ (s : Script). Spells bytes s) view
-    (subst (λ (xs : List ℕ). Spells xs inside) (sym (text ∙ ap script_text same)) (printed inside l.lawful l.served))
+    (subst (λ (xs : List ℕ). Spells xs inside) (sym (text ∙ ap script_text same)) (printed inside l.lawful))

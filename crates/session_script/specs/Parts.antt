@@ -6,7 +6,7 @@ use Rattle.std.specs.Prelude.{ℕ, ◌==◌, List, map, filter}
 use Rattle.jack_types.specs.declared.events.Event.{Event}
 use Rattle.jack_types.specs.declared.scripts.Body.{Body}
 use Rattle.jack_types.specs.declared.scripts.Header.{Header}
-use Rattle.session_model.specs.Grammar.{IsScript, IsServed}
+use Rattle.session_model.specs.Grammar.{IsScript}
 use Rattle.session_model.specs.Samples.{below}
 use Rattle.session_model.specs.Scripts.{Script}
 
@@ -21,7 +21,6 @@ lists_below n order = map (λ list. list_of list order) (below n)
 abbrev pub script_of_parts : Header → List (List (ℕ × Event)) → List Body → Script
 script_of_parts header events lines = record { header = header; events = events; lines = lines }
 
--- its numbers are in their ranges, its lines keep the limits, and its words are served
+-- its numbers are in their ranges, and its lines keep the limits
 pub record IsLawful (script : Script) : Type 0 where
   pub lawful : IsScript script
-  pub served : IsServed script

@@ -22,14 +22,14 @@ use Rattle.session_threads.proofs.ReelLemmas.{RecordersKeep, all-there, files-ke
 
 -- ---- one recorder
 
-abbrev pub IsServed : Recording → Recording → Type 0
-IsServed recording after = (tape : Tape) → recording.tape ≡ Some tape → (tape_after : Tape) × (count : ℕ) × (after ≡ record recording { getting = after.getting; tape = Some tape_after; blocks = recording.blocks + count })
+abbrev pub HasDrained : Recording → Recording → Type 0
+HasDrained recording after = (tape : Tape) → recording.tape ≡ Some tape → (tape_after : Tape) × (count : ℕ) × (after ≡ record recording { getting = after.getting; tape = Some tape_after; blocks = recording.blocks + count })
     × Serves count recording.getting tape after.getting tape_after
 
 abbrev pub IsTorn : Recording → Recording → Type 0
 IsTorn recording after = (tape : Tape) → recording.tape ≡ Some tape → (tape_after : Tape) × (after ≡ record recording { getting = after.getting; tape = Some tape_after; blocks = after.blocks }) × Tears recording tape after tape_after
 
-pub served-by : {T E : Type 0} (r : Result T E) (recording after : Recording) (tape : Tape) → recording.tape ≡ Some tape → OnOk r (IsServed recording after) → OnErr r (IsTorn recording after)
+pub served-by : {T E : Type 0} (r : Result T E) (recording after : Recording) (tape : Tape) → recording.tape ≡ Some tape → OnOk r (HasDrained recording after) → OnErr r (IsTorn recording after)
     → ((old new : Tape) → recording.tape ≡ Some old → after.tape ≡ Some new → HasCause old.faults new.faults r) → ServedBy recording after
 served-by (Ok x) recording after tape was served torn cause =
     let it = served tape was in

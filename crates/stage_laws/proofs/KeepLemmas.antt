@@ -12,7 +12,7 @@ use Rattle.session_model.specs.Kinds.{GuestTurn, Memory, guest_played, guest_tur
 use Rattle.session_model.specs.Samples.{below}
 use Rattle.session_laws.proofs.SequentialLemmas.{length-below}
 use Rattle.client_benches.specs.Seen.{Remembered, kept_after, own_scores, task_in}
-use Rattle.client_benches.specs.declared.benches.Turn.{Turn}
+use Rattle.client_benches.specs.declared.benches.Stint.{Stint}
 
 length-outputs : (outputs : ℕ) (at : ℕ → List ℤ) → length (outputs_by outputs at) ≡ outputs
 length-outputs outputs at = length-map (below outputs) at ∙ length-below outputs
@@ -37,16 +37,16 @@ length-played scores Midilog memory outputs moment period inputs = length-output
 length-played scores (Disk disk) memory outputs moment period inputs = length-outputs outputs _
 
 module _ (kept : Remembered) (given : List (List Signal)) where
-  abbrev with_turn : Option Turn → Remembered
+  abbrev with_turn : Option Stint → Remembered
   with_turn turn = record kept { turn = turn }
 
-  abbrev work : Turn → Task
+  abbrev work : Stint → Task
   work turn = task_in (own_scores kept.standing) kept turn
 
-  audio-by : (now : Turn) (turn : Option Turn) → turn ≡ Some now → length (kept_after (with_turn turn) given).audio ≡ now.ports.outputs
+  audio-by : (now : Stint) (turn : Option Stint) → turn ≡ Some now → length (kept_after (with_turn turn) given).audio ≡ now.ports.outputs
   audio-by now turn e =
       ap (λ t. length (kept_after (with_turn t) given).audio) e
       ∙ length-played (own_scores kept.standing) kept.standing.kind kept.standing.memory now.ports.outputs now.moment now.ports.period (mixed (work now) given)
 
-  pub audio-played : (now : Turn) → kept.turn ≡ Some now → length (kept_after kept given).audio ≡ now.ports.outputs
+  pub audio-played : (now : Stint) → kept.turn ≡ Some now → length (kept_after kept given).audio ≡ now.ports.outputs
   audio-played now e = audio-by now kept.turn e

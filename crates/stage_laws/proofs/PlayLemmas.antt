@@ -19,7 +19,7 @@ use Rattle.port_registry.proofs.PlaceLemmas.{find-none}
 use Rattle.cycle_plan.specs.Plans.{IsPlanned, Planned, state_of_plan}
 use Rattle.client_kinds.specs.Standings.{HasGuest, HasScore, Standing}
 use Rattle.client_benches.specs.Seen.{HasScores, Remembered as Kept, Seen, bench_in, kept_after, kept_gives}
-use Rattle.client_benches.specs.declared.benches.Turn.{Turn}
+use Rattle.client_benches.specs.declared.benches.Stint.{Stint}
 use Rattle.client_wiring.specs.Wirings.{wired_of}
 use Rattle.bench_rack.specs.Racks.{Racked, bench_at}
 use Rattle.client_seats.specs.Owners.{Owned, owner_at}
@@ -118,7 +118,7 @@ module _ (course : Course) (old : Staged) (last plan : Planned) (moment : Moment
     where
       by_place : (n < length plan.nodes) ⊎ (length plan.nodes ≤ n) → (turn.links ≡ length (outgoing plan.links n)) × AreStill (bench_at filled n).kept at.graph nodes plan.links n
       by_place (inl h) = (
-        ap (λ (t : Turn). t.links) (some_is (sym e ∙ (set n h).turn)),
+        ap (λ (t : Stint). t.links) (some_is (sym e ∙ (set n h).turn)),
         subst (λ state. AreStill (bench_at filled n).kept state nodes plan.links n) (sym settled.graph) (routes-still plan moment period n sources (bench_at filled n) planned h (set n h)),
       )
       by_place (inr h) = absurd (none_some (sym (idle n h) ∙ e))

@@ -30,17 +30,17 @@ use Rattle.session_laws.proofs.ActivationLemmas.{get_or-map_below, length-map_be
 use Rattle.session_laws.proofs.PlaceLemmas.{map-after, map-same}
 use Rattle.client_benches.specs.Routes.{route_of, routes_on}
 use Rattle.client_benches.specs.Seen.{HasScores, Remembered, bench_in, kept_after, kept_gives, own_scores, task_in}
-use Rattle.client_benches.specs.declared.benches.Turn.{Turn}
+use Rattle.client_benches.specs.declared.benches.Stint.{Stint}
 use Rattle.client_benches.specs.declared.values.Route.{Route}
 use Rattle.client_benches.proofs.ScoreLemmas.{after-scores, gives-scores}
 use Rattle.stage_laws.specs.Quiet.{AreStill, quiet, quiet_part, quiet_task, routes_along, still}
 use Rattle.task_laws.specs.Calls.{IsOldKind}
 
 abbrev pub HasOldKind : Remembered → Type 0
-HasOldKind kept = (turn : Turn) → kept.turn ≡ Some turn → IsOldKind kept.standing.kind
+HasOldKind kept = (turn : Stint) → kept.turn ≡ Some turn → IsOldKind kept.standing.kind
 
 abbrev pub IsRouted : State → List OpenClient → List Link → ℕ → Remembered → Type 0
-IsRouted state nodes links n kept = (turn : Turn) → kept.turn ≡ Some turn → (turn.links ≡ length (outgoing links n)) × AreStill kept state nodes links n
+IsRouted state nodes links n kept = (turn : Stint) → kept.turn ≡ Some turn → (turn.links ≡ length (outgoing links n)) × AreStill kept state nodes links n
 
 abbrev pub IsSilent : List (List Signal) → Type 0
 IsSilent given = (i j : ℕ) → (signal_at given i j).midi ≡ []
@@ -108,7 +108,7 @@ link-silent frames played routes (link ∷ links) (suc place) j = link-silent fr
 gives-silent : (kept : Remembered) (given : List (List Signal)) (place j : ℕ) → (slice_index_or (kept_gives kept given place) j no_signal).midi ≡ []
 gives-silent kept given place j = go kept.turn
   where
-    go : (o : Option Turn) → (slice_index_or (kept_gives (record kept { turn = o }) given place) j no_signal).midi ≡ []
+    go : (o : Option Stint) → (slice_index_or (kept_gives (record kept { turn = o }) given place) j no_signal).midi ≡ []
     go None = refl
     go (Some turn) = link-silent turn.ports.period (task_turn (task_in (own_scores kept.standing) kept turn) kept.standing.memory given) kept.routes (below turn.links) place j
 
@@ -128,19 +128,19 @@ given-silent links before (suc depth) n i j = each (incoming links n) i
 
 module _ (scores : List Score) (state : State) (nodes : List OpenClient) (links : List Link) where
   module _ (n : ℕ) (kept : Remembered) (given : List (List Signal)) where
-    abbrev with_turn : Option Turn → Remembered
+    abbrev with_turn : Option Stint → Remembered
     with_turn turn = record kept { turn = turn }
 
     abbrev its_quiet : Bench → Bench
     its_quiet bench = quiet state nodes links n bench
 
-    abbrev task : Turn → Task
+    abbrev task : Stint → Task
     task turn = task_in scores kept turn
 
-    abbrev client_task : Turn → Task
+    abbrev client_task : Stint → Task
     client_task turn = quiet_task state nodes links n (task turn)
 
-    abbrev sounded : Turn → Memory
+    abbrev sounded : Stint → Memory
     sounded turn = (play scores kept.standing.kind kept.standing.memory turn.ports.outputs turn.moment turn.ports.period (mixed (task turn) given)).memory
 
     abbrev name : List ℕ
@@ -152,7 +152,7 @@ module _ (scores : List Score) (state : State) (nodes : List OpenClient) (links 
     abbrev outputs : ℕ
     outputs = length (midi_outputs state name)
 
-    notes-quiet : IsSilent given → (turn : Turn) → merged (client_task turn) given ≡ no_notes
+    notes-quiet : IsSilent given → (turn : Stint) → merged (client_task turn) given ≡ no_notes
     notes-quiet silent turn =
         map-after (λ parts. merge (map (midi_part given) parts)) (λ (port : OpenPort). map (quiet_part state nodes links n) (edges_into state port.name)) (midi_inputs state name)
         ∙ map-same (λ (port : OpenPort). merge (map (midi_part given) (map (quiet_part state nodes links n) (edges_into state port.name)))) (λ (port : OpenPort). []) (midi_inputs state name)
@@ -161,19 +161,19 @@ module _ (scores : List Score) (state : State) (nodes : List OpenClient) (links 
         ∙ merge-none (λ edge. midi_part given (quiet_part state nodes links n edge)) (part-none state nodes links n given silent) (edges_into state port.name))
 
     -- with the client's MIDI ports, and without
-    abbrev played : Turn → MidiPlayed
+    abbrev played : Stint → MidiPlayed
     played turn = midi_play [] kept.standing.kind (sounded turn) outputs turn.moment turn.ports.period (merged (client_task turn) given)
 
-    abbrev played_bare : Turn → MidiPlayed
+    abbrev played_bare : Stint → MidiPlayed
     played_bare turn = midi_play [] kept.standing.kind (sounded turn) 0 turn.moment turn.ports.period (merged (task turn) given)
 
     after-played : HasOldKind kept → IsSilent given → its_quiet (bench_after (bench_in scores kept) given) ≡ bench_after (its_quiet (bench_in scores kept)) given
     after-played is_old silent = go kept.turn is_old
       where
-        behind : Turn → Memory → List (List Event) → List (List Event) → Bench
+        behind : Stint → Memory → List (List Event) → List (List Event) → Bench
         behind turn memory notes midi = record { task = Some (client_task turn); memory = memory; sounds = mixed (task turn) given; notes = notes; audio = (task_turn (task turn) kept.standing.memory given).audio; midi = midi }
 
-        go : (o : Option Turn) → HasOldKind (with_turn o) → its_quiet (bench_after (bench_in scores (with_turn o)) given) ≡ bench_after (its_quiet (bench_in scores (with_turn o))) given
+        go : (o : Option Stint) → HasOldKind (with_turn o) → its_quiet (bench_after (bench_in scores (with_turn o)) given) ≡ bench_after (its_quiet (bench_in scores (with_turn o))) given
         go None h = refl
         go (Some turn) h =
             ap (λ (midi : MidiPlayed). behind turn midi.memory no_notes (replicate outputs [])) (midi-old [] kept.standing.kind (sounded turn) 0 turn.moment turn.ports.period (merged (task turn) given) (h turn refl))
@@ -187,7 +187,7 @@ module _ (scores : List Score) (state : State) (nodes : List OpenClient) (links 
     abbrev theirs : ℕ → List Carrying
     theirs place = slice_index_or (map (routes_along state nodes links n) (outgoing links n)) place []
 
-    routes-still : (place : ℕ) (turn : Turn) → turn.links ≡ length (outgoing links n) → AreStill kept state nodes links n → slice_index_or (map (routes_on kept.routes) (below turn.links)) place [] ≡ map still (theirs place)
+    routes-still : (place : ℕ) (turn : Stint) → turn.links ≡ length (outgoing links n) → AreStill kept state nodes links n → slice_index_or (map (routes_on kept.routes) (below turn.links)) place [] ≡ map still (theirs place)
     routes-still place turn e are_still = ap (λ count. slice_index_or (map (routes_on kept.routes) (below count)) place []) e ∙ go (cases_lt place (length (outgoing links n)))
       where
         go : (place < length (outgoing links n)) ⊎ (length (outgoing links n) ≤ place) → slice_index_or (map (routes_on kept.routes) (below (length (outgoing links n)))) place [] ≡ map still (theirs place)
@@ -199,12 +199,12 @@ module _ (scores : List Score) (state : State) (nodes : List OpenClient) (links 
     gives-played : (place : ℕ) → HasOldKind kept → IsRouted state nodes links n kept → bench_gives (bench_in scores kept) given place ≡ bench_gives (its_quiet (bench_in scores kept)) given place
     gives-played place is_old is_routed = go kept.turn is_old is_routed
       where
-        same : (turn : Turn) → IsOldKind kept.standing.kind → (route : Carrying) → routed turn.ports.period (task_turn (task turn) kept.standing.memory given) (still route) ≡ routed turn.ports.period (task_turn (client_task turn) kept.standing.memory given) route
+        same : (turn : Stint) → IsOldKind kept.standing.kind → (route : Carrying) → routed turn.ports.period (task_turn (task turn) kept.standing.memory given) (still route) ≡ routed turn.ports.period (task_turn (client_task turn) kept.standing.memory given) route
         same turn h route =
             ap (λ events. record { audio = option_map_or (λ j. slice_index_or (task_turn (task turn) kept.standing.memory given).audio j (silence turn.ports.period)) route.audio []; midi = events })
             (sym (none-given outputs (played turn).outputs (ap (λ (midi : MidiPlayed). midi.outputs) (midi-old [] kept.standing.kind (sounded turn) outputs turn.moment turn.ports.period (merged (client_task turn) given) h)) route.midi))
 
-        go : (o : Option Turn) → HasOldKind (with_turn o) → IsRouted state nodes links n (with_turn o) → bench_gives (bench_in scores (with_turn o)) given place ≡ bench_gives (its_quiet (bench_in scores (with_turn o))) given place
+        go : (o : Option Stint) → HasOldKind (with_turn o) → IsRouted state nodes links n (with_turn o) → bench_gives (bench_in scores (with_turn o)) given place ≡ bench_gives (its_quiet (bench_in scores (with_turn o))) given place
         go None h r = refl
         go (Some turn) h r =
             ap (map (routed turn.ports.period (task_turn (task turn) kept.standing.memory given))) (routes-still place turn (r turn refl).0 (r turn refl).1)

@@ -27,7 +27,7 @@ fn offer<B: Work, G: Gate>(
     taken: Taken<B>,
 )
     requires seat { Sits crew.now.board.shared.table_id crew.now.links.items crew.now.nodes crew.now.seats seat.old.number seat.old.token }
-    requires taken { IsUnplayed B.memory B.has_room B.value_at B.after B.gives seat.old.token.me.0.duty taken.node taken.desk }
+    requires taken { IsUnplayed B.memory B.has_room B.value_at B.after B.gives seat.old.token.me.0.duty taken.node taken.tray }
     requires room { HaveRoom B.has_room crew.now.links.items seat.old.token.me.0.duty.before }
     ensures seat { (seat.new.number ≡ seat.old.number) × Sits crew.now.board.shared.table_id crew.now.links.items crew.now.nodes crew.now.seats seat.new.number seat.new.token }
     ensures deque { KeepsDeque deque.old deque.new }
@@ -54,7 +54,7 @@ fn play<B: Work, G: Gate>(
     mut taken: Taken<B>,
 )
     requires seat { Sits crew.now.board.shared.table_id crew.now.links.items crew.now.nodes crew.now.seats seat.old.number seat.old.token }
-    requires taken { IsUnplayed B.memory B.has_room B.value_at B.after B.gives seat.old.token.me.0.duty taken.node taken.desk }
+    requires taken { IsUnplayed B.memory B.has_room B.value_at B.after B.gives seat.old.token.me.0.duty taken.node taken.tray }
     requires room { HaveRoom B.has_room crew.now.links.items seat.old.token.me.0.duty.before }
     ensures seat { (seat.new.number ≡ seat.old.number) × Sits crew.now.board.shared.table_id crew.now.links.items crew.now.nodes crew.now.seats seat.new.number seat.new.token }
     ensures deque { KeepsDeque deque.old deque.new }

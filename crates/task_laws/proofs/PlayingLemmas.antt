@@ -8,7 +8,7 @@ use Rattle.jack_types.specs.declared.moments.Moment.{Moment}
 use Rattle.session_model.specs.Benches.{Signal, Task, merged, mixed}
 use Rattle.session_model.specs.Kinds.{Memory, guest_played, guest_turn, input_at, midi_play, play, silent}
 use Rattle.client_benches.specs.Seen.{Remembered, kept_after, own_scores, task_in}
-use Rattle.client_benches.specs.declared.benches.Turn.{Turn}
+use Rattle.client_benches.specs.declared.benches.Stint.{Stint}
 use Rattle.client_kinds.specs.Standings.{IsDisk}
 
 module _ {X : Type 0} (part : Memory → X) (numbers : (memory : Memory) (ns : List ℤ) (dead : Bool) → part (record memory { numbers = ns; is_dead = dead }) ≡ part memory) where
@@ -93,25 +93,25 @@ play-peak scores (Disk disk) memory outputs moment period inputs h = refl
 
 -- a bench with this work behind one play
 module _ (kept : Remembered) (given : List (List Signal)) where
-  abbrev with_turn : Option Turn → Remembered
+  abbrev with_turn : Option Stint → Remembered
   with_turn turn = record kept { turn = turn }
 
-  abbrev work : Turn → Task
+  abbrev work : Stint → Task
   work turn = task_in (own_scores kept.standing) kept turn
 
-  fed-by : (turn : Option Turn) → ¬ IsDisk kept.standing.kind → (kept_after (with_turn turn) given).standing.memory.fed ≡ kept.standing.memory.fed
+  fed-by : (turn : Option Stint) → ¬ IsDisk kept.standing.kind → (kept_after (with_turn turn) given).standing.memory.fed ≡ kept.standing.memory.fed
   fed-by None h = refl
   fed-by (Some turn) h =
       midi-fed [] kept.standing.kind _ 0 turn.moment turn.ports.period (merged (work turn) given)
       ∙ play-fed (own_scores kept.standing) kept.standing.kind kept.standing.memory turn.ports.outputs turn.moment turn.ports.period (mixed (work turn) given) h
 
-  empty-by : (turn : Option Turn) → kept.standing.memory.fed ≡ [] → (kept_after (with_turn turn) given).standing.memory.fed ≡ []
+  empty-by : (turn : Option Stint) → kept.standing.memory.fed ≡ [] → (kept_after (with_turn turn) given).standing.memory.fed ≡ []
   empty-by None h = h
   empty-by (Some turn) h =
       midi-fed [] kept.standing.kind _ 0 turn.moment turn.ports.period (merged (work turn) given)
       ∙ play-empty (own_scores kept.standing) kept.standing.kind kept.standing.memory turn.ports.outputs turn.moment turn.ports.period (mixed (work turn) given) h
 
-  peak-by : (turn : Option Turn) → kept.standing.kind ≢ Meter → (kept_after (with_turn turn) given).standing.memory.peak ≡ kept.standing.memory.peak
+  peak-by : (turn : Option Stint) → kept.standing.kind ≢ Meter → (kept_after (with_turn turn) given).standing.memory.peak ≡ kept.standing.memory.peak
   peak-by None h = refl
   peak-by (Some turn) h =
       midi-peak [] kept.standing.kind _ 0 turn.moment turn.ports.period (merged (work turn) given)

@@ -11,7 +11,7 @@ use Rattle.jack_types.specs.declared.commands.Change.{Change}
 use Rattle.jack_types.specs.declared.replies.Entry.{Entry}
 use Rattle.session_model.specs.Grammar.{IsScript}
 use Rattle.session_model.specs.Histories.{IsWithinPhase, LegalSoFar, accepted_below, stage_of}
-use Rattle.session_model.specs.Scripts.{Phase, Script, Turn, phases, turns}
+use Rattle.session_model.specs.Scripts.{Phase, Script, ScriptCycle, phases, turns}
 use Rattle.graph_word.specs.Publications.{IsFront, Publishing, Reading}
 use Rattle.control_desk.specs.Desks.{Desk, GoesOn, IsOfPhases}
 use Rattle.control_desk.specs.Laws.{AcceptedLater, AcceptedUpTo}
@@ -172,7 +172,7 @@ come_behind_fault published cycle up_to more below group later session after don
     stay : (stage : ℕ) → stage ≤ 2 * done → accepted_below session.script after.desk.history stage ≡ accepted_below session.script session.desk.history stage
     stay = below-stays done phase.cycles kept phase.is_freewheel session after fault ran more later
 
-    within : (k number : ℕ) (turn : Turn) → slice_get after.driver.numbers k ≡ Some number → slice_get (turns session.script) k ≡ Some turn → (b : Bool) → nat_lt k (run session.driver) ≡ b → IsWithinPhase session.script after.desk.history turn number
+    within : (k number : ℕ) (turn : ScriptCycle) → slice_get after.driver.numbers k ≡ Some number → slice_get (turns session.script) k ≡ Some turn → (b : Bool) → nat_lt k (run session.driver) ≡ b → IsWithinPhase session.script after.desk.history turn number
     within k number turn at of true e =
         let there : slice_get (session.driver.numbers ++ took.more) k ≡ Some number = ap (λ ns. slice_get ns k) (sym (numbers-after done phase.cycles kept phase.is_freewheel session after fault)) ∙ at in
         let old : k < run session.driver = grind (arith, nat_tests) in
@@ -188,7 +188,7 @@ come_behind_fault published cycle up_to more below group later session after don
         let own : slice_get took.more t ≡ Some number = sym (slice_get-right session.driver.numbers took.more k new) ∙ there in
         let inside : t < phase.cycles = let size = slice_get_within took.more t number own in let count = took.count in let most = fewer in omega (arith, size, count, most) in
         let place : k + 1 ≡ cycles_before session.script done + t + 1 = omega (arith, new, ran.cycles) in
-        let is : turn.phase ≡ done = ap (λ (u : Turn). u.phase) (sym (turn-at session.script k turn of) ∙ ap (turn_of session.script) place ∙ cycle session.script done t phase here inside) in
+        let is : turn.phase ≡ done = ap (λ (u : ScriptCycle). u.phase) (sym (turn-at session.script k turn of) ∙ ap (turn_of session.script) place ∙ cycle session.script done t phase here inside) in
         let least : length fault.grouped.desk.publishing.all ≤ number =
         each-there (λ n. length fault.grouped.desk.publishing.all ≤ n) took.more t number (low-after done phase.cycles kept phase.is_freewheel session after fault) own in
         let most : number ≤ length fault.gone.desk.publishing.all =

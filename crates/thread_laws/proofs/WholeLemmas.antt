@@ -11,7 +11,7 @@ use Rattle.jack_types.specs.declared.replies.Underrun.{Underrun}
 use Rattle.record_ring.specs.Rings.{Getting}
 use Rattle.session_model.specs.Disks.{IsBehindRing}
 use Rattle.session_model.specs.Explanations.{Given}
-use Rattle.session_model.specs.Scripts.{Phase, Script, Turn, phases}
+use Rattle.session_model.specs.Scripts.{Phase, Script, ScriptCycle, phases}
 use Rattle.control_desk.specs.Laws.{OfCallsAccepted}
 use Rattle.driver_laws.specs.Cycling.{CyclesMany}
 use Rattle.driver_laws.specs.Drivers.{Driver, run, turn_of, underruns_on}
@@ -54,7 +54,7 @@ cycles_before-next script done phase here =
 
 pub AreNext-phase : (session : Session) (done : ℕ) (phase : Phase) → slice_get (phases session.script) done ≡ Some phase → run session.driver ≡ cycles_before session.script done → AreNext phase.cycles phase.is_freewheel session
 AreNext-phase session done phase here start t low =
-    ap (λ n. (turn_of session.script (n + t + 1)).is_freewheel) start ∙ ap (λ (turn : Turn). turn.is_freewheel) (cycle-is session.script done t phase here low)
+    ap (λ n. (turn_of session.script (n + t + 1)).is_freewheel) start ∙ ap (λ (turn : ScriptCycle). turn.is_freewheel) (cycle-is session.script done t phase here low)
 
 -- ---- the parts
 

@@ -1,7 +1,7 @@
 use Rattle.std.proofs.Common.{◌≡◌, ◌≤◌, ◌<◌, ℕ, [], length, Some, vec_capacity, vec_len}
 use mathlib.Core.Option.{some}
 use lib.ListN.{get_elem?}
-use Rattle.activation.specs.declared.views.Desk.{Desk}
+use Rattle.activation.specs.declared.views.Tray.{Tray}
 use Rattle.activation.specs.declared.views.Item.TheVariants.{Bench}
 use Rattle.activation.specs.Contents.{HasRoomFor, AreEmpty}
 use Rattle.activation.specs.Plays.{with_items}
@@ -15,7 +15,7 @@ invariant-loop-bench g l =
     × (length l.benches.items ≤ length l.initial.benches.items)
     × ((n : ℕ) (bench : g.row.B.Denot) → n < length l.benches.items → get_elem? l.initial.benches.items n ≡ some bench → get_elem? l.benches.items n ≡ some bench)
     × ((n : ℕ) (bench : g.row.B.Denot) → length l.benches.items ≤ n → get_elem? l.initial.benches.items n ≡ some bench
-    → (desk : Desk g.row.B.Denot g.row.B-Value.Denot) × (get_elem? l.seat.me.0.shelf.items n ≡ some (Some (Bench desk))) × (desk.bench ≡ bench) × HasRoomFor desk)
+    → (tray : Tray g.row.B.Denot g.row.B-Value.Denot) × (get_elem? l.seat.me.0.shelf.items n ≡ some (Some (Bench tray))) × (tray.bench ≡ bench) × HasRoomFor tray)
     × ((slot : ℕ) → length l.initial.benches.items ≤ slot → get_elem? l.seat.me.0.shelf.items slot ≡ get_elem? l.initial.seat.me.0.shelf.items slot)
     × (length l.rooms.items ≡ length l.benches.items)
     × AreEmpty l.rooms.items

@@ -40,17 +40,17 @@ release-requires-clause-room c κs =
     let before = c.requires.fresh.0 in
     let d = c.start-2.new.seat.token.me.0.duty in
     let is : d ≡ started before = search rules in
-    let unplayed : IsUnplayed memory has_room value_at after gives d c.in-Some.first.node c.in-Some.first.desk = subst (λ n. IsUnplayed memory has_room value_at after gives d n c.in-Some.first.desk) (sym c.in-Some.ensures.some.0) c.in-Some.ensures.some.3 in
-    let played : IsPlayed memory has_room value_at after gives d c.play.new.self.node c.play.new.self.desk = c.play.ensures.played d unplayed in
+    let unplayed : IsUnplayed memory has_room value_at after gives d c.in-Some.first.node c.in-Some.first.tray = subst (λ n. IsUnplayed memory has_room value_at after gives d n c.in-Some.first.tray) (sym c.in-Some.ensures.some.0) c.in-Some.ensures.some.3 in
+    let played : IsPlayed memory has_room value_at after gives d c.play.new.self.node c.play.new.self.tray = c.play.ensures.played d unplayed in
     let node : c.play.new.self.node ≡ 0 = c.play.ensures.node ∙ c.in-Some.ensures.some.0 in
-    room_of memory has_room value_at after gives d before c.args.crew.now.links.items c.play.new.self.node 1 c.play.new.self.desk c.requires.crew.0 (ap (λ e. e.links) is) (ap (λ e. e.before) is) (rooms before c.requires.fresh.2) played (omega arith) (omega arith) (sym node) (ap (λ e. has e.released 1) is)
+    room_of memory has_room value_at after gives d before c.args.crew.now.links.items c.play.new.self.node 1 c.play.new.self.tray c.requires.crew.0 (ap (λ e. e.links) is) (ap (λ e. e.before) is) (rooms before c.requires.fresh.2) played (omega arith) (omega arith) (sym node) (ap (λ e. has e.released 1) is)
 
 pub release-requires-2-clause-room : goal.release-requires-2-clause-room
 release-requires-2-clause-room c κs =
     let before = c.requires.fresh.0 in
     let d = c.pick.new.seat.token.me.0.duty in
     let is : d ≡ picked before c.in-Some-release.second.node c.in-Some-release.second.node = search rules in
-    let unplayed : IsUnplayed memory has_room value_at after gives d c.in-Some-pick.second.node c.in-Some-pick.second.desk = subst (λ n. IsUnplayed memory has_room value_at after gives d n c.in-Some-pick.second.desk) (sym c.in-Some-pick.ensures.some.0) c.in-Some-pick.ensures.some.3 in
-    let played : IsPlayed memory has_room value_at after gives d c.play-2.new.self.node c.play-2.new.self.desk = c.play-2.ensures.played d unplayed in
+    let unplayed : IsUnplayed memory has_room value_at after gives d c.in-Some-pick.second.node c.in-Some-pick.second.tray = subst (λ n. IsUnplayed memory has_room value_at after gives d n c.in-Some-pick.second.tray) (sym c.in-Some-pick.ensures.some.0) c.in-Some-pick.ensures.some.3 in
+    let played : IsPlayed memory has_room value_at after gives d c.play-2.new.self.node c.play-2.new.self.tray = c.play-2.ensures.played d unplayed in
     let node : c.play-2.new.self.node ≡ 2 = c.play-2.ensures.node ∙ c.in-Some-pick.ensures.some.0 in
-    room_of memory has_room value_at after gives d before c.args.crew.now.links.items c.play-2.new.self.node 3 c.play-2.new.self.desk c.requires.crew.0 (ap (λ e. e.links) is) (ap (λ e. e.before) is) (rooms before c.requires.fresh.2) played (omega arith) (omega arith) (sym node) (ap (λ e. has e.released 3) is)
+    room_of memory has_room value_at after gives d before c.args.crew.now.links.items c.play-2.new.self.node 3 c.play-2.new.self.tray c.requires.crew.0 (ap (λ e. e.links) is) (ap (λ e. e.before) is) (rooms before c.requires.fresh.2) played (omega arith) (omega arith) (sym node) (ap (λ e. has e.released 3) is)

@@ -1,7 +1,7 @@
 use Rattle.std.proofs.Common.{◌≡◌, ◌≤◌, ◌<◌, ℕ, [], length}
 use mathlib.Core.Option.{some}
 use lib.ListN.{get_elem?}
-use Rattle.activation.specs.declared.views.Desk.{Desk}
+use Rattle.activation.specs.declared.views.Tray.{Tray}
 use Rattle.activation.specs.Contents.{HasRoomFor}
 use Rattle.activation.specs.Plays.{with_items}
 use Rattle.activation.specs.Returns.{BenchAt}
@@ -15,5 +15,5 @@ invariant-loop-node g l =
     × (length l.benches ≡ length l.fn.benches)
     × ((k : ℕ) → l.node ≤ k → get_elem? l.seat.me.0.shelf.items k ≡ get_elem? l.fn.seat.me.0.shelf.items k)
     × ((k : ℕ) → l.node ≤ k → get_elem? l.benches k ≡ get_elem? l.fn.benches k)
-    × ((n : ℕ) (bench : g.row.B.Denot) → n < l.node → get_elem? l.fn.benches n ≡ some bench → (desk : Desk g.row.B.Denot g.row.B-Value.Denot) × BenchAt l.seat.me.0.shelf.items n desk × (desk.bench ≡ bench) × HasRoomFor desk)
-    × ((n : ℕ) (desk : Desk g.row.B.Denot g.row.B-Value.Denot) → n < l.node → BenchAt l.fn.seat.me.0.shelf.items n desk → get_elem? l.benches n ≡ some desk.bench)
+    × ((n : ℕ) (bench : g.row.B.Denot) → n < l.node → get_elem? l.fn.benches n ≡ some bench → (tray : Tray g.row.B.Denot g.row.B-Value.Denot) × BenchAt l.seat.me.0.shelf.items n tray × (tray.bench ≡ bench) × HasRoomFor tray)
+    × ((n : ℕ) (tray : Tray g.row.B.Denot g.row.B-Value.Denot) → n < l.node → BenchAt l.fn.seat.me.0.shelf.items n tray → get_elem? l.benches n ≡ some tray.bench)

@@ -2,7 +2,7 @@ use Rattle.std.proofs.Common.{◌≡◌, ◌<◌, ◌≤◌, Some, ◌∙◌, �
 use Rattle.jack_types.specs.declared.ports.Edge.{Edge}
 use Rattle.jack_types.specs.declared.ports.Link.{Link}
 use Rattle.client_benches.specs.Seen.{Seen}
-use Rattle.client_benches.specs.declared.benches.Turn.{Turn}
+use Rattle.client_benches.specs.declared.benches.Stint.{Stint}
 use Rattle.client_wiring.specs.Wirings.{Wired, wired_of}
 use Rattle.client_wiring.specs.declared.joints.Carried.{Carried}
 use Rattle.client_wiring.specs.declared.joints.Joint.{Joint}
@@ -94,7 +94,7 @@ carry_all-requires-clause-outputs g c i d h = (small i d h, one-of (get_or c.car
     turn = ap (λ (bench : Seen). bench.kept.turn) (c.hear_all.ensures.wires node) ∙ ap (λ (bench : Seen). bench.kept.turn) (c.begin_all.ensures.begun node node-low)
 
     one-of : (output : Output) → IsAmong (widths_at (wired_of c.args.plan.now) node).outputs output → IsOneOf (bench_at c.hear_all.new.rack node).kept.turn output
-    one-of (Audio output) m = (m.0, λ now e. subst (λ (turn : Turn). output < turn.ports.outputs) (some-one _ now (sym turn ∙ e)) (subst (λ (wiring : Wired). output < (widths_at wiring node).outputs) (sym c.requires.wired) m.1))
+    one-of (Audio output) m = (m.0, λ now e. subst (λ (turn : Stint). output < turn.ports.outputs) (some-one _ now (sym turn ∙ e)) (subst (λ (wiring : Wired). output < (widths_at wiring node).outputs) (sym c.requires.wired) m.1))
     one-of (Midi output) m = tt
 
 pub carry_all-requires-clause-few : goal.carry_all-requires-clause-few

@@ -22,7 +22,7 @@ next_link links node k xs outs test =
 
 pub outgoing-links-requires-clause-node : goal.outgoing-links-requires-clause-node
 outgoing-links-requires-clause-node g t c κs within =
-    let low = unplayed_low g.B.Work.memory g.B.Work.has_room g.B.Work.value_at g.B.Work.after g.B.Work.gives c.args.seat.now.token.me.0.duty c.args.taken.node c.args.taken.desk c.requires.taken in
+    let low = unplayed_low g.B.Work.memory g.B.Work.has_room g.B.Work.value_at g.B.Work.after g.B.Work.gives c.args.seat.now.token.me.0.duty c.args.taken.node c.args.taken.tray c.requires.taken in
     omega (arith, low, c.requires.seat.at.same_nodes, c.node-node.ensures)
 
 pub loop-link-init : goal.loop-link-init
@@ -62,7 +62,7 @@ release-requires-clause-room g t c κs within =
     let next = next_link links node c.loop-link.link-index c.outgoing-links.result.now outs c.loop-link-test.true in
     let off = subst (λ q. has c.loop-link.seat.token.me.0.duty.released q ≡ false) next.1 (i.4.open_links c.loop-link.link-index (omega arith) next.0) in
     let rooms = subst (HaveRoom g.B.Work.has_room links) (sym i.4.before_stays) c.requires.room in
-    has_room_at g.B.Work.memory g.B.Work.has_room g.B.Work.value_at g.B.Work.after g.B.Work.gives c.loop-link.seat.token.me.0.duty links c.loop-link.taken.node (get_or c.outgoing-links.result.now c.loop-link.link-index 0) c.loop-link.taken.desk i.1.at.same_links i.3
+    has_room_at g.B.Work.memory g.B.Work.has_room g.B.Work.value_at g.B.Work.after g.B.Work.gives c.loop-link.seat.token.me.0.duty links c.loop-link.taken.node (get_or c.outgoing-links.result.now c.loop-link.link-index 0) c.loop-link.taken.tray i.1.at.same_links i.3
     (λ bench e. rooms (get_or c.outgoing-links.result.now c.loop-link.link-index 0) bench next.2 e) next.2 (next.3 ∙ sym i.2) off
 
 pub run-requires : goal.run-requires
@@ -115,7 +115,7 @@ loop-link-preserved g t c =
     (seat.number ≡ c.args.seat.now.number)
     × Sits c.args.crew.now.board.shared.table_id links c.args.crew.now.nodes c.args.crew.now.seats seat.number seat.token
     × (c.release.new.taken.node ≡ node)
-    × IsPlayed g.B.Work.memory g.B.Work.has_room g.B.Work.value_at g.B.Work.after g.B.Work.gives seat.token.me.0.duty c.release.new.taken.node c.release.new.taken.desk
+    × IsPlayed g.B.Work.memory g.B.Work.has_room g.B.Work.value_at g.B.Work.after g.B.Work.gives seat.token.me.0.duty c.release.new.taken.node c.release.new.taken.tray
     × Going links node (k + 1) old seat.token.me.0.duty in
     elim c.match-release.branch [
       | in-Some w ↦
@@ -132,7 +132,7 @@ loop-link-preserved g t c =
             w.run.ensures.seat.0 ∙ (w.in-Some.ensures.seat.0 ∙ i.0),
             w.run.ensures.seat.1,
             same,
-            played_stays g.B.Work.memory g.B.Work.has_room g.B.Work.value_at g.B.Work.after g.B.Work.gives mid new c.release.new.taken.node c.release.new.taken.desk ran.links_stay ran.before_stays
+            played_stays g.B.Work.memory g.B.Work.has_room g.B.Work.value_at g.B.Work.after g.B.Work.gives mid new c.release.new.taken.node c.release.new.taken.tray ran.links_stay ran.before_stays
                 (kept_held w.in-Some.next.node c.release.new.taken.node mid new ran.held_are (λ e. absurd (omega (arith, mine, e))))
                 (λ l low' from'. ran.lower l (subst (λ ls. l < length ls) sits.at.same_links low') (let f = ap (λ ls. (link_at ls l).from) (sym sits.at.same_links) ∙ from' in omega (arith, f, mine)))
                 w.in-Some.ensures.taken.1,

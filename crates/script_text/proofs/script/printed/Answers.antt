@@ -1,6 +1,6 @@
 use Rattle.std.proofs.Common.{map, refl}
-use Rattle.std.specs.Prelude.{[], codes, string_bytes, if◌then◌else◌, ◌==◌}
-use Rattle.session_model.specs.Grammar.{body_slots, event_slots, number_slots, recorder_slots, required_lines, served_line}
+use Rattle.std.specs.Prelude.{[], ◌∷◌, codes, string_bytes, if◌then◌else◌, ◌==◌}
+use Rattle.session_model.specs.Grammar.{body_slots, event_slots, number_slots, recorder_slots, required_lines}
 use Rattle.script_text.specs.Printing.{first_lists}
 use Rattle.script_text.proofs.PrintingLemmas.{all-printed}
 use Rattle.script_text.proofs.script.printed.Goals as goal
@@ -9,9 +9,9 @@ pub returns : goal.returns
 returns c =
     all-printed (record { header = c.args.header.now; events = map (λ list. list.items) c.args.events.now; lines = c.args.lines.now })
     (required_lines c.args.header.now)
-    (served_line (codes "ring") c.args.header.now.ring)
-    (served_line (codes "drain") c.args.header.now.drain)
-    (if c.args.header.now.version == 3 then served_line (codes "fill") c.args.header.now.fill else [])
+    (number_slots (codes "ring") c.args.header.now.ring ∷ [])
+    (number_slots (codes "drain") c.args.header.now.drain ∷ [])
+    (if c.args.header.now.version == 3 then number_slots (codes "fill") c.args.header.now.fill ∷ [] else [])
     (map recorder_slots c.args.header.now.recorders)
     (map (number_slots (codes "disk")) c.args.header.now.disks)
     (map event_slots (first_lists (map (λ list. list.items) c.args.events.now) 16))

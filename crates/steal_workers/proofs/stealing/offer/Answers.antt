@@ -8,7 +8,7 @@ use Rattle.steal_workers.proofs.stealing.offer.Goals as goal
 
 pub pick-requires-clause-node : goal.pick-requires-clause-node
 pick-requires-clause-node g c κs within =
-    let low = unplayed_low g.B.Work.memory g.B.Work.has_room g.B.Work.value_at g.B.Work.after g.B.Work.gives c.args.seat.now.token.me.0.duty c.args.taken.node c.args.taken.desk c.requires.taken in
+    let low = unplayed_low g.B.Work.memory g.B.Work.has_room g.B.Work.value_at g.B.Work.after g.B.Work.gives c.args.seat.now.token.me.0.duty c.args.taken.node c.args.taken.tray c.requires.taken in
     omega (arith, low, c.requires.seat.at.same_nodes, c.node-node.ensures)
 
 pub returns-in-Some-clause-offered : goal.returns-in-Some-clause-offered

@@ -25,7 +25,7 @@ next_link links node k xs outs test =
 
 pub outgoing-links-requires-clause-node : goal.outgoing-links-requires-clause-node
 outgoing-links-requires-clause-node g c κs within =
-    let low = unplayed_low g.B.Work.memory g.B.Work.has_room g.B.Work.value_at g.B.Work.after g.B.Work.gives c.args.seat.now.token.me.0.duty c.args.taken.node c.args.taken.desk c.requires.taken in
+    let low = unplayed_low g.B.Work.memory g.B.Work.has_room g.B.Work.value_at g.B.Work.after g.B.Work.gives c.args.seat.now.token.me.0.duty c.args.taken.node c.args.taken.tray c.requires.taken in
     omega (arith, low, c.requires.seat.at.same_nodes, c.node-node.ensures)
 
 pub loop-link-init : goal.loop-link-init
@@ -67,7 +67,7 @@ release-requires-clause-room g c κs within =
     let next = next_link links node c.loop-link.link-index c.outgoing-links.result.now outs c.loop-link-test.true in
     let off = subst (λ q. has c.loop-link.seat.token.me.0.duty.released q ≡ false) next.1 (i.going.open_links c.loop-link.link-index (omega arith) next.0) in
     let rooms = subst (HaveRoom g.B.Work.has_room links) (sym i.going.before_stays) c.requires.room in
-    has_room_at g.B.Work.memory g.B.Work.has_room g.B.Work.value_at g.B.Work.after g.B.Work.gives c.loop-link.seat.token.me.0.duty links c.loop-link.taken.node (get_or c.outgoing-links.result.now c.loop-link.link-index 0) c.loop-link.taken.desk i.sits.at.same_links i.played
+    has_room_at g.B.Work.memory g.B.Work.has_room g.B.Work.value_at g.B.Work.after g.B.Work.gives c.loop-link.seat.token.me.0.duty links c.loop-link.taken.node (get_or c.outgoing-links.result.now c.loop-link.link-index 0) c.loop-link.taken.tray i.sits.at.same_links i.played
     (λ bench e. rooms (get_or c.outgoing-links.result.now c.loop-link.link-index 0) bench next.2 e) next.2 (next.3 ∙ sym i.same) off
 
 pub offer-requires-clause-seat : goal.offer-requires-clause-seat
@@ -96,7 +96,7 @@ loop-link-preserved g c =
       number : z.0.number ≡ c.args.seat.now.number;
       sits : Sits crew.board.shared.table_id links crew.nodes crew.seats z.0.number z.0.token;
       same : c.release.new.taken.node ≡ node;
-      played : IsPlayed g.B.Work.memory g.B.Work.has_room g.B.Work.value_at g.B.Work.after g.B.Work.gives z.0.token.me.0.duty c.release.new.taken.node c.release.new.taken.desk;
+      played : IsPlayed g.B.Work.memory g.B.Work.has_room g.B.Work.value_at g.B.Work.after g.B.Work.gives z.0.token.me.0.duty c.release.new.taken.node c.release.new.taken.tray;
       going : Going links node (k + 1) old (beside old z.0.token.me.0.duty);
       deque : KeepsDeque c.args.deque.now z.1;
       left : LeavesAbove node crew.nodes old.left z.0.token.me.0.duty.left;
@@ -118,7 +118,7 @@ loop-link-preserved g c =
             number = w.offer.ensures.seat.0 ∙ (w.in-Some.ensures.seat.0 ∙ i.number);
             sits = w.offer.ensures.seat.1;
             same = same;
-            played = played_stays g.B.Work.memory g.B.Work.has_room g.B.Work.value_at g.B.Work.after g.B.Work.gives mid new c.release.new.taken.node c.release.new.taken.desk offered.links_stay offered.before_stays
+            played = played_stays g.B.Work.memory g.B.Work.has_room g.B.Work.value_at g.B.Work.after g.B.Work.gives mid new c.release.new.taken.node c.release.new.taken.tray offered.links_stay offered.before_stays
                 (kept_held w.in-Some.next.node c.release.new.taken.node mid new offered.held_are (λ e. absurd (omega (arith, mine, e))))
                 (λ l low' from'. offered.lower l (subst (λ ls. l < length ls) sits.at.same_links low') (let f = ap (λ ls. (link_at ls l).from) (sym sits.at.same_links) ∙ from' in omega (arith, f, mine)))
                 w.in-Some.ensures.taken.1;

@@ -35,8 +35,8 @@ lay-requires-clause-slot g c κs within =
 pub lay-requires-clause-item : goal.lay-requires-clause-item
 lay-requires-clause-item g c κs within =
     let low = inside c.args.seat.now.token.me.0.duty.before c.args.taken.node c.requires.taken.old c.requires.taken.old_is in
-    subst (λ d. IsDone g.B.Work.memory g.B.Work.has_room g.B.Work.after g.B.Work.gives d.links d.before c.args.taken.node (Some (Bench record { bench = c.args.taken.desk.bench; given = c.clear.new.self }))) (sym c.lay_values.ensures.seat.1)
-    (done_bench g.B.Work.memory g.B.Work.has_room g.B.Work.value_at g.B.Work.after g.B.Work.gives c.args.seat.now.token.me.0.duty c.args.self.now.links.items c.args.self.now.nodes c.args.taken.node c.args.taken.desk record { bench = c.args.taken.desk.bench; given = c.clear.new.self } c.requires.seat.at.same_links c.requires.seat.at.same_nodes (omega (arith, low, c.requires.seat.at.same_nodes))
+    subst (λ d. IsDone g.B.Work.memory g.B.Work.has_room g.B.Work.after g.B.Work.gives d.links d.before c.args.taken.node (Some (Bench record { bench = c.args.taken.tray.bench; given = c.clear.new.self }))) (sym c.lay_values.ensures.seat.1)
+    (done_bench g.B.Work.memory g.B.Work.has_room g.B.Work.value_at g.B.Work.after g.B.Work.gives c.args.seat.now.token.me.0.duty c.args.self.now.links.items c.args.self.now.nodes c.args.taken.node c.args.taken.tray record { bench = c.args.taken.tray.bench; given = c.clear.new.self } c.requires.seat.at.same_links c.requires.seat.at.same_nodes (omega (arith, low, c.requires.seat.at.same_nodes))
     c.requires.taken c.requires.released refl (search rules, search rules))
 
 pub fetch_sub-requires : goal.fetch_sub-requires

@@ -14,13 +14,13 @@ use Rattle.activation.proofs.Testing.{has_there}
 
 pub put_back_values-requires-clause-node : goal.put_back_values-requires-clause-node
 put_back_values-requires-clause-node g c κs within =
-    let low = unplayed_low g.B.Work.memory g.B.Work.has_room g.B.Work.value_at g.B.Work.after g.B.Work.gives c.args.seat.now.token.me.0.duty c.args.taken.node c.args.taken.desk c.requires.taken in
+    let low = unplayed_low g.B.Work.memory g.B.Work.has_room g.B.Work.value_at g.B.Work.after g.B.Work.gives c.args.seat.now.token.me.0.duty c.args.taken.node c.args.taken.tray c.requires.taken in
     (c.requires.taken.held, omega (arith, low, c.requires.seat.at.same_nodes))
 
 pub put_back-requires-clause-seat : goal.put_back-requires-clause-seat
 put_back-requires-clause-seat g c κs within =
     let at = c.put_back_values.ensures.seat.0 in
-    let low = unplayed_low g.B.Work.memory g.B.Work.has_room g.B.Work.value_at g.B.Work.after g.B.Work.gives c.args.seat.now.token.me.0.duty c.args.taken.node c.args.taken.desk c.requires.taken in (
+    let low = unplayed_low g.B.Work.memory g.B.Work.has_room g.B.Work.value_at g.B.Work.after g.B.Work.gives c.args.seat.now.token.me.0.duty c.args.taken.node c.args.taken.tray c.requires.taken in (
       at.table,
       at.idle,
       owns_bench c.put_back_values.new.seat.me.0 c.args.self.now.links.items c.args.self.now.nodes at.same_links at.same_nodes c.args.taken.node (ap (λ d. has d.held c.args.taken.node) c.put_back_values.ensures.seat.1 ∙ c.requires.taken.held)
@@ -29,19 +29,19 @@ put_back-requires-clause-seat g c κs within =
 
 pub put_back-requires-clause-slot : goal.put_back-requires-clause-slot
 put_back-requires-clause-slot g c κs within =
-    let low = unplayed_low g.B.Work.memory g.B.Work.has_room g.B.Work.value_at g.B.Work.after g.B.Work.gives c.args.seat.now.token.me.0.duty c.args.taken.node c.args.taken.desk c.requires.taken in
+    let low = unplayed_low g.B.Work.memory g.B.Work.has_room g.B.Work.value_at g.B.Work.after g.B.Work.gives c.args.seat.now.token.me.0.duty c.args.taken.node c.args.taken.tray c.requires.taken in
     omega (arith, low, c.requires.seat.at.same_nodes, c.args.self.now.shape.words)
 
 pub put_back-requires-clause-item : goal.put_back-requires-clause-item
 put_back-requires-clause-item g c κs within =
     let duty = c.args.seat.now.token.me.0.duty in
-    let low = unplayed_low g.B.Work.memory g.B.Work.has_room g.B.Work.value_at g.B.Work.after g.B.Work.gives duty c.args.taken.node c.args.taken.desk c.requires.taken in
-    subst (λ d. IsFull g.B.Work.memory g.B.Work.has_room g.B.Work.after g.B.Work.gives d.links d.before c.args.taken.node (Some (Bench record { bench = c.args.taken.desk.bench; given = c.clear.new.self }))) (sym c.put_back_values.ensures.seat.1)
-    (full_bench g.B.Work.memory g.B.Work.has_room g.B.Work.value_at g.B.Work.after g.B.Work.gives duty.links duty.before c.args.taken.node record { bench = c.args.taken.desk.bench; given = c.clear.new.self } low c.requires.taken.bench (search rules, search rules))
+    let low = unplayed_low g.B.Work.memory g.B.Work.has_room g.B.Work.value_at g.B.Work.after g.B.Work.gives duty c.args.taken.node c.args.taken.tray c.requires.taken in
+    subst (λ d. IsFull g.B.Work.memory g.B.Work.has_room g.B.Work.after g.B.Work.gives d.links d.before c.args.taken.node (Some (Bench record { bench = c.args.taken.tray.bench; given = c.clear.new.self }))) (sym c.put_back_values.ensures.seat.1)
+    (full_bench g.B.Work.memory g.B.Work.has_room g.B.Work.value_at g.B.Work.after g.B.Work.gives duty.links duty.before c.args.taken.node record { bench = c.args.taken.tray.bench; given = c.clear.new.self } low c.requires.taken.bench (search rules, search rules))
 
 pub left_word-word-requires-clause-node : goal.left_word-word-requires-clause-node
 left_word-word-requires-clause-node g c κs within =
-    let low = unplayed_low g.B.Work.memory g.B.Work.has_room g.B.Work.value_at g.B.Work.after g.B.Work.gives c.args.seat.now.token.me.0.duty c.args.taken.node c.args.taken.desk c.requires.taken in
+    let low = unplayed_low g.B.Work.memory g.B.Work.has_room g.B.Work.value_at g.B.Work.after g.B.Work.gives c.args.seat.now.token.me.0.duty c.args.taken.node c.args.taken.tray c.requires.taken in
     omega (arith, low, c.requires.seat.at.same_nodes)
 
 pub store-requires : goal.store-requires

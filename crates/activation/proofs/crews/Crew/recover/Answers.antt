@@ -3,15 +3,15 @@ use mathlib.Core.Option.{some, some-injective}
 use lib.ListN.{get_elem?}
 use Rattle.jack_types.specs.declared.ports.Link.{Link}
 use Rattle.session_model.specs.Activation.{no_link}
-use Rattle.activation.specs.declared.views.Desk.{Desk}
+use Rattle.activation.specs.declared.views.Tray.{Tray}
 use Rattle.activation.specs.declared.views.Item.TheVariants.{Bench}
 use Rattle.activation.specs.Contents.{IsFull, IsDone}
 use Rattle.activation.specs.Plays.{AreClear}
 use Rattle.activation.specs.Returns.{AreSpent}
 use Rattle.activation.specs.Rounds.{HavePlayed, AreUnused, IsReturned}
 use Rattle.activation.proofs.Alone.{enter_alone}
-use Rattle.activation.proofs.Entered.{clear_is, desk_unused, desk_played, spent_below, above_unused, spent_played, returned}
-use Rattle.activation.proofs.Turning.{same_desk}
+use Rattle.activation.proofs.Entered.{clear_is, tray_unused, tray_played, spent_below, above_unused, spent_played, returned}
+use Rattle.activation.proofs.Turning.{same_tray}
 use Rattle.activation.proofs.crews.Crew.recover.Goals as goal
 
 pub load-counter-requires : goal.load-counter-requires
@@ -28,7 +28,7 @@ returns-then-counter-ne0-clause-benches g c n low =
     let inside : n < length c.gather-token.result.me.0.duty.before = omega (arith, low, got.token.same_nodes) in
     ⊎_elim
     (λ (h : HavePlayed c.args.self.now.nodes c.args.self.now.seats c.args.seats.now). absurd (c.if-counter-ne0.true (spent_below g.B.Work.memory g.B.Work.has_room g.B.Work.after g.B.Work.gives c.args.self.now.board.shared.table_id.slots 0 c.load-counter.result c.gather-token.result.me c.load-counter.new.seat.me c.load-counter.ensures.2 (λ k l. got.played h k (omega (arith, l, got.token.same_nodes))) (omega (arith, inside)))))
-    (λ (h : AreUnused c.args.seats.now). let it = desk_unused g.B.Work.memory g.B.Work.has_room g.B.Work.after g.B.Work.gives c.args.self.now.board.shared.table_id.slots 0 c.load-counter.result c.gather-token.result.me c.load-counter.new.seat.me c.load-counter.ensures.2 (got.unused h) n inside in (it.0, it.1, it.3))
+    (λ (h : AreUnused c.args.seats.now). let it = tray_unused g.B.Work.memory g.B.Work.has_room g.B.Work.after g.B.Work.gives c.args.self.now.board.shared.table_id.slots 0 c.load-counter.result c.gather-token.result.me c.load-counter.new.seat.me c.load-counter.ensures.2 (got.unused h) n inside in (it.0, it.1, it.3))
     c.requires.over
 
 pub returns-then-counter-ne0-clause-clear : goal.returns-then-counter-ne0-clause-clear
@@ -40,10 +40,10 @@ returns-clause-clear g c =
     subst (AreClear c.args.self.now.nodes) (sym (ap (λ m. m.0.shelf.words) c.give_back.ensures.seat.1)) clear
 
 pub returns-then-counter-ne0-clause-unused : goal.returns-then-counter-ne0-clause-unused
-returns-then-counter-ne0-clause-unused g c before know h n desk low at =
+returns-then-counter-ne0-clause-unused g c before know h n tray low at =
     let got = c.gather-token.ensures in
-    let it = desk_unused g.B.Work.memory g.B.Work.has_room g.B.Work.after g.B.Work.gives c.args.self.now.board.shared.table_id.slots 0 c.load-counter.result c.gather-token.result.me c.load-counter.new.seat.me c.load-counter.ensures.2 (got.unused h) n (omega (arith, low, got.token.same_nodes)) in
-    ap (λ l. get_elem? l n) (sym (got.before before know)) ∙ (it.2 ∙ ap (λ (d : Desk g.row.B.Denot g.row.B-Value.Denot). some d.bench) (same_desk it.0 desk (some-injective (Some (Bench it.0)) (Some (Bench desk)) (sym it.1 ∙ at))))
+    let it = tray_unused g.B.Work.memory g.B.Work.has_room g.B.Work.after g.B.Work.gives c.args.self.now.board.shared.table_id.slots 0 c.load-counter.result c.gather-token.result.me c.load-counter.new.seat.me c.load-counter.ensures.2 (got.unused h) n (omega (arith, low, got.token.same_nodes)) in
+    ap (λ l. get_elem? l n) (sym (got.before before know)) ∙ (it.2 ∙ ap (λ (d : Tray g.row.B.Denot g.row.B-Value.Denot). some d.bench) (same_tray it.0 tray (some-injective (Some (Bench it.0)) (Some (Bench tray)) (sym it.1 ∙ at))))
 
 pub give_back-requires-clause-spent : goal.give_back-requires-clause-spent
 give_back-requires-clause-spent g c κs within =
@@ -56,7 +56,7 @@ give_back-requires-clause-spent g c κs within =
     let empty : (n : ℕ) → n < self.nodes → ⊥ = λ n low. let more = above_unused g.B.Work.memory g.B.Work.has_room g.B.Work.after g.B.Work.gives c.args.self.now.board.shared.table_id.slots 0 c.load-counter.result c.gather-token.result.me c.load-counter.new.seat.me c.load-counter.ensures.2 (got.unused h) (omega (arith, low, got.token.same_nodes)) in omega (arith, more, zero) in
     record {
       benches = λ n low. absurd (empty n low);
-      rooms = λ l desk low at. absurd (empty 0 (let top = self.shape.are.within l no_link low in omega (arith, top)));
+      rooms = λ l tray low at. absurd (empty 0 (let top = self.shape.are.within l no_link low in omega (arith, top)));
       values = λ l low. absurd (empty 0 (let top = self.shape.are.within l no_link low in omega (arith, top)));
     })
     c.requires.over)
@@ -67,7 +67,7 @@ returns-clause-benches g c n low =
     let inside : n < length c.gather-token.result.me.0.duty.before = omega (arith, low, got.token.same_nodes) in
     ⊎_elim
     (λ (h : HavePlayed c.args.self.now.nodes c.args.self.now.seats c.args.seats.now).
-    let it = desk_played g.B.Work.memory g.B.Work.has_room g.B.Work.after g.B.Work.gives c.args.self.now.board.shared.table_id.slots 0 c.load-counter.result c.gather-token.result.me c.load-counter.new.seat.me c.load-counter.ensures.2 (λ k l. got.played h k (omega (arith, l, got.token.same_nodes))) n inside in
+    let it = tray_played g.B.Work.memory g.B.Work.has_room g.B.Work.after g.B.Work.gives c.args.self.now.board.shared.table_id.slots 0 c.load-counter.result c.gather-token.result.me c.load-counter.new.seat.me c.load-counter.ensures.2 (λ k l. got.played h k (omega (arith, l, got.token.same_nodes))) n inside in
     let back = c.give_back.ensures.back n it.0 low it.1 in
     (back.0, back.1, (returned g.B.Work.memory g.B.Work.has_room g.B.Work.after g.B.Work.gives c.args.self.now.board.shared.table_id.slots 0 c.load-counter.result c.gather-token.result.me c.load-counter.new.seat.me c.load-counter.ensures.2 (λ k l. got.played h k (omega (arith, l, got.token.same_nodes))) c.as_slice.result.now c.args.self.now.nodes (got.token.same_links ∙ sym c.as_slice.ensures.value) n it.0 back.0 inside it.1 back.2).1))
     (λ (h : AreUnused c.args.seats.now).
@@ -76,11 +76,11 @@ returns-clause-benches g c n low =
     c.requires.over
 
 pub returns-clause-played : goal.returns-clause-played
-returns-clause-played g c before know h n desk low at =
+returns-clause-played g c before know h n tray low at =
     let got = c.gather-token.ensures in
     let inside : n < length c.gather-token.result.me.0.duty.before = omega (arith, low, got.token.same_nodes) in
-    let it = desk_played g.B.Work.memory g.B.Work.has_room g.B.Work.after g.B.Work.gives c.args.self.now.board.shared.table_id.slots 0 c.load-counter.result c.gather-token.result.me c.load-counter.new.seat.me c.load-counter.ensures.2 (λ k l. got.played h k (omega (arith, l, got.token.same_nodes))) n inside in
+    let it = tray_played g.B.Work.memory g.B.Work.has_room g.B.Work.after g.B.Work.gives c.args.self.now.board.shared.table_id.slots 0 c.load-counter.result c.gather-token.result.me c.load-counter.new.seat.me c.load-counter.ensures.2 (λ k l. got.played h k (omega (arith, l, got.token.same_nodes))) n inside in
     let back = c.give_back.ensures.back n it.0 low it.1 in
-    let is : back.0 ≡ desk = same_desk back.0 desk (some-injective (Some (Bench back.0)) (Some (Bench desk)) (sym back.1 ∙ at)) in
-    subst (λ (z : List Link × List g.row.B.Denot × Desk g.row.B.Denot g.row.B-Value.Denot). IsReturned g.B.Work.memory g.B.Work.has_room g.B.Work.after g.B.Work.gives z.0 z.1 n z.2.bench) (λ i. (c.as_slice.ensures.value i, got.before before know i, is i))
+    let is : back.0 ≡ tray = same_tray back.0 tray (some-injective (Some (Bench back.0)) (Some (Bench tray)) (sym back.1 ∙ at)) in
+    subst (λ (z : List Link × List g.row.B.Denot × Tray g.row.B.Denot g.row.B-Value.Denot). IsReturned g.B.Work.memory g.B.Work.has_room g.B.Work.after g.B.Work.gives z.0 z.1 n z.2.bench) (λ i. (c.as_slice.ensures.value i, got.before before know i, is i))
     (returned g.B.Work.memory g.B.Work.has_room g.B.Work.after g.B.Work.gives c.args.self.now.board.shared.table_id.slots 0 c.load-counter.result c.gather-token.result.me c.load-counter.new.seat.me c.load-counter.ensures.2 (λ k l. got.played h k (omega (arith, l, got.token.same_nodes))) c.as_slice.result.now c.args.self.now.nodes (got.token.same_links ∙ sym c.as_slice.ensures.value) n it.0 back.0 inside it.1 back.2).0

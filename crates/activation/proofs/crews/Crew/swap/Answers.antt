@@ -8,7 +8,7 @@ use Rattle.activation.specs.Plays.{AreClear}
 use Rattle.activation.specs.Rounds.{AreSeats, AreFresh}
 use Rattle.activation.proofs.Alone.{enter_alone}
 use Rattle.activation.proofs.Begun.{laid_out, laid-of}
-use Rattle.activation.proofs.Entered.{is_sole, same_duty, size_is, clear_is, desk_unused, words_unused}
+use Rattle.activation.proofs.Entered.{is_sole, same_duty, size_is, clear_is, tray_unused, words_unused}
 use Rattle.activation.proofs.Gathered.{dealable, seats_dealt}
 use Rattle.activation.proofs.Turning.{same_items}
 use Rattle.activation.proofs.crews.Crew.swap.Goals as goal
@@ -31,7 +31,7 @@ swap_benches-requires-clause-seat g c κs within = (
 pub swap_benches-requires-clause-laid : goal.swap_benches-requires-clause-laid
 swap_benches-requires-clause-laid g c κs within n low =
     let got = c.gather-token.ensures in
-    let it = desk_unused g.B.Work.memory g.B.Work.has_room g.B.Work.after g.B.Work.gives c.args.self.now.board.shared.table_id.slots 0 c.load.result c.gather-token.result.me c.load.new.seat.me c.load.ensures.2 (got.unused c.requires.unused) n (omega (arith, low, c.requires.count, got.token.same_nodes)) in
+    let it = tray_unused g.B.Work.memory g.B.Work.has_room g.B.Work.after g.B.Work.gives c.args.self.now.board.shared.table_id.slots 0 c.load.result c.gather-token.result.me c.load.new.seat.me c.load.ensures.2 (got.unused c.requires.unused) n (omega (arith, low, c.requires.count, got.token.same_nodes)) in
     (it.0, it.1, it.3)
 
 pub open_cycle-requires-clause-laid : goal.open_cycle-requires-clause-laid
@@ -97,5 +97,5 @@ returns-clause-benches g c before know =
     let many : length before ≡ length c.args.benches.now = ap length (sym first) ∙ (got.token.same_nodes ∙ sym c.requires.count) in
     sym (same_items before c.swap_benches.new.benches (many ∙ sym c.swap_benches.ensures.count) (λ n bench e.
     let low = inside before n bench e in
-    let it = desk_unused g.B.Work.memory g.B.Work.has_room g.B.Work.after g.B.Work.gives c.args.self.now.board.shared.table_id.slots 0 c.load.result c.gather-token.result.me c.load.new.seat.me c.load.ensures.2 (got.unused c.requires.unused) n (omega (arith, low, ap length first)) in
+    let it = tray_unused g.B.Work.memory g.B.Work.has_room g.B.Work.after g.B.Work.gives c.args.self.now.board.shared.table_id.slots 0 c.load.result c.gather-token.result.me c.load.new.seat.me c.load.ensures.2 (got.unused c.requires.unused) n (omega (arith, low, ap length first)) in
     c.swap_benches.ensures.taken n it.0 (omega (arith, low, many)) it.1 ∙ (sym it.2 ∙ (ap (λ l. get_elem? l n) first ∙ e))))
