@@ -15,7 +15,7 @@ ghost use Rattle.activation.specs.Rounds.{IsRoomy};
 use crate::making::{Parts, begin, prepare, share};
 use crate::rules::{ComeHome, CrewRule, Fill, Open, Release, Start, Take};
 use crate::takens::{Seat, Taken};
-use crate::views::{Tray, Item, Size, View};
+use crate::views::{Item, Size, Tray, View};
 use crate::work::Work;
 use atomic_table::{Seat as Token, Table};
 use jack_types::Link;

@@ -10,7 +10,7 @@ ghost use Rattle.activation.specs.Takens.{IsUnplayed, with_held, with_left, with
 use crate::crews::Crew;
 use crate::rules::{Leave, Pick, Refill, Take};
 use crate::takens::{Seat, Taken};
-use crate::views::{Tray, Item, View};
+use crate::views::{Item, Tray, View};
 use crate::work::Work;
 use atomic_table::Seat as Token;
 

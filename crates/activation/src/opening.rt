@@ -9,7 +9,7 @@ ghost use Rattle.activation.specs.Plays.{with_items, with_words};
 ghost use Rattle.activation.specs.Seats.{IsSole};
 
 use crate::rules::{CrewRule, LayDown, Lift, Set};
-use crate::views::{Tray, Item, Size, View};
+use crate::views::{Item, Size, Tray, View};
 use crate::work::Work;
 use atomic_table::{Seat as Token, Table};
 use std::alloc::Global;

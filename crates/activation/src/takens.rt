@@ -3,7 +3,7 @@ ghost use Rattle.std.specs.Prelude.{◌≡◌, List, map, Some};
 ghost use Rattle.activation.specs.declared.views.Duty.{Duty};
 ghost use Rattle.activation.specs.Takens.{IsUnplayed, IsPlayed};
 
-use crate::views::{Tray, Item, View};
+use crate::views::{Item, Tray, View};
 use crate::work::Work;
 use atomic_table::Seat as Token;
 

@@ -14,7 +14,7 @@ ghost use Rattle.activation.specs.Returns.{AreSpent, AreBack, BenchAt};
 
 use crate::opening::{put, write};
 use crate::rules::{AddLink, Begin, CrewRule, Unlink};
-use crate::views::{Tray, Item, Size, View};
+use crate::views::{Item, Size, Tray, View};
 use crate::work::Work;
 use atomic_table::{Seat as Token, Table};
 use jack_types::Link;

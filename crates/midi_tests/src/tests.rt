@@ -1,7 +1,7 @@
 ghost use Rattle.std.specs.Prelude.{◌≤◌, length};
 
 use crate::scripts::{ONE_PLAYER, TWO_PLAYERS};
-use crate::session::{Session, Round};
+use crate::session::{Round, Session};
 use jack_types::{Event, Logged, TransportState};
 use std::process::Abort;
 

@@ -10,6 +10,7 @@ ghost use Rattle.jack_types.specs.declared.commands.Command.TheVariants.{Activat
 use crate::kinds::kind;
 use jack_types::{Cause, ClientName, Command, Header, Mode, PortKind, Way};
 use script_words::Words;
+
 fn way(words: &mut Words) -> Result<Way, Cause>
     ensures { Reads result words.new (way words.old) }
 {
@@ -22,6 +23,7 @@ fn way(words: &mut Words) -> Result<Way, Cause>
     }
     Err(Cause::Unknown)
 }
+
 fn port_type(words: &mut Words) -> Result<PortKind, Cause>
     ensures { Reads result words.new (port_type words.old) }
 {
@@ -34,6 +36,7 @@ fn port_type(words: &mut Words) -> Result<PortKind, Cause>
     }
     Err(Cause::Unknown)
 }
+
 fn mode(words: &mut Words) -> Result<Mode, Cause>
     ensures { Reads result words.new (mode words.old) }
 {

@@ -31,6 +31,7 @@ fn number_or(lines: &mut Lines, name: &[u8], least: i64, usual: u32) -> Result<u
         None => Ok(usual),
     }
 }
+
 pub fn optional_lines(lines: &mut Lines, is_new: bool) -> Result<Optional, ScriptFault>
     ensures gives { ReadsLine result lines.new.lines (optional_of is_new lines.old.lines) }
     ensures end { lines.new.end ≡ lines.old.end }

@@ -89,6 +89,7 @@ fn whole_version(words: &mut Words) -> Result<u32, Cause>
     }
     Ok(version)
 }
+
 fn version_line(lines: &mut Lines) -> Result<u32, ScriptFault>
     ensures gives { ReadsLine result lines.new.lines (required lines.old.end (codes "jackd") version lines.old.lines) }
     ensures end { lines.new.end ≡ lines.old.end }
@@ -110,6 +111,7 @@ fn whole_period(words: &mut Words) -> Result<u32, Cause>
     }
     Ok(period)
 }
+
 fn period_line(lines: &mut Lines) -> Result<u32, ScriptFault>
     ensures gives { ReadsLine result lines.new.lines (required lines.old.end (codes "period") period lines.old.lines) }
     ensures most { IfOk result (λ n. n ≤ 4096) }
@@ -131,6 +133,7 @@ fn whole_playback(words: &mut Words) -> Result<(u16, u16), Cause>
     }
     Ok(playback)
 }
+
 fn playback_line(lines: &mut Lines) -> Result<(u16, u16), ScriptFault>
     ensures gives { ReadsLine result lines.new.lines (required lines.old.end (codes "playback") channels_and_bits lines.old.lines) }
     ensures end { lines.new.end ≡ lines.old.end }
@@ -151,6 +154,7 @@ fn whole_mode(words: &mut Words, version: u32) -> Result<(Option<u16>, bool), Ca
     }
     Ok(mode)
 }
+
 fn mode_line(lines: &mut Lines, version: u32) -> Result<(Option<u16>, bool), ScriptFault>
     ensures gives { ReadsLine result lines.new.lines (required lines.old.end (codes "mode") (workers version) lines.old.lines) }
     ensures end { lines.new.end ≡ lines.old.end }
@@ -161,6 +165,7 @@ fn mode_line(lines: &mut Lines, version: u32) -> Result<(Option<u16>, bool), Scr
         Err(cause) => Err(fault(line.number, cause)),
     }
 }
+
 pub fn required_lines(lines: &mut Lines) -> Result<Required, ScriptFault>
     ensures gives { ReadsLine result lines.new.lines (required_of lines.old.end lines.old.lines) }
     ensures period { IfOk result (λ r. r.period ≤ 4096) }
