@@ -9,6 +9,7 @@ ghost use Rattle.activation.specs.Contents.{HasRoomFor, benches_in, from_to};
 ghost use Rattle.activation.specs.Plays.{AreClear};
 ghost use Rattle.activation.specs.Seats.{IsIdle, IsSole, new_duty};
 ghost use Rattle.activation.specs.Returns.{BenchAt};
+ghost use Rattle.activation.specs.Crews.{AreAllOf};
 
 use crate::crews::{Crew, Emptied};
 use crate::indexes::refill;
@@ -70,7 +71,7 @@ impl<B: Work> Crew<B> {
         &self,
         seats: &mut [Seat<B>],
     ) -> Token<Option<Item<B, B::Value>>, View<Option<Item<B, B::Value>>, B>>
-        requires all { AreSeats self.now.board.shared.table_id self.now.links.items self.now.nodes self.now.seats seats.old }
+        requires all { AreAllOf self.now seats.old }
         requires over { HavePlayed self.now.nodes self.now.seats seats.old ⊎ AreUnused seats.old }
         ensures numbers { map (λ seat. seat.number) seats.new ≡ below self.now.seats }
         ensures token { (result.table_id ≡ self.now.board.shared.table_id) × IsSole result.me × (result.me.0.duty.seats ≡ self.now.seats) × (result.me.0.duty.shares ≡ from_to 0 self.now.seats) }

@@ -9,7 +9,7 @@ ghost use Rattle.session_model.specs.Activation.{AreLinks, link_at, incoming, ou
 ghost use Rattle.session_model.specs.Samples.{below};
 ghost use Rattle.activation.specs.Contents.{IsFull, IsDone, HasRoomFor, IsValueOf, AreValuesOf, most_links};
 ghost use Rattle.activation.specs.Takens.{IsUnplayed, IsPlayed, with_started, with_held, with_released, with_home};
-ghost use Rattle.activation.specs.Seats.{IsIdle, IsAt, Sits, IsShape, new_duty};
+ghost use Rattle.activation.specs.Seats.{IsIdle, IsShape, new_duty};
 ghost use Rattle.activation.specs.Rounds.{IsRoomy};
 
 use crate::making::{Parts, begin, prepare, share};
@@ -55,6 +55,7 @@ pub struct Crew<B: Work> {
 }
 
 impl<B: Work> Crew<B> {
+    ghost use Rattle.activation.specs.Crews.{IsOf, TakesPart};
     ghost use Rattle.activation.specs.Rounds.{AreSeats, AreFresh};
 
     /// A crew over these benches, one a node, with its seats.
@@ -172,9 +173,9 @@ impl<B: Work> Crew<B> {
         seat: &mut Token<Option<Item<B, B::Value>>, View<Option<Item<B, B::Value>>, B>>,
         node: u32,
     ) -> Tray<B, B::Value>
-        requires seat { IsAt self.now.board.shared.table_id self.now.links.items self.now.nodes seat.old }
+        requires seat { IsOf self.now seat.old }
         requires node { (has seat.old.me.0.duty.held node ≡ true) × (seat.old.me.0.hand.node ≡ node) × (seat.old.me.0.hand.floor ≤ node) × (node < self.now.nodes) }
-        ensures seat { IsAt self.now.board.shared.table_id self.now.links.items self.now.nodes seat.new × (seat.new.me.0 ≡ open_after seat.old.me.0 node) }
+        ensures seat { IsOf self.now seat.new × (seat.new.me.0 ≡ open_after seat.old.me.0 node) }
         ensures bench { (get_elem? seat.old.me.0.duty.before node ≡ some result.bench) × HasRoomFor result }
     {
         match self.lift(seat, node as usize) {
@@ -189,9 +190,9 @@ impl<B: Work> Crew<B> {
         seat: &mut Token<Option<Item<B, B::Value>>, View<Option<Item<B, B::Value>>, B>>,
         link: u32,
     ) -> B::Value
-        requires seat { IsAt self.now.board.shared.table_id self.now.links.items self.now.nodes seat.old }
+        requires seat { IsOf self.now seat.old }
         requires link { (link < length self.now.links.items) × (has seat.old.me.0.duty.held (link_at self.now.links.items link).to ≡ true) × (seat.old.me.0.hand.node ≡ (link_at self.now.links.items link).to) × (seat.old.me.0.hand.floor ≤ self.now.nodes + link) }
-        ensures seat { IsAt self.now.board.shared.table_id self.now.links.items self.now.nodes seat.new × (seat.new.me.0 ≡ open_after seat.old.me.0 (self.now.nodes + link)) }
+        ensures seat { IsOf self.now seat.new × (seat.new.me.0 ≡ open_after seat.old.me.0 (self.now.nodes + link)) }
         ensures value { IsValueOf B.memory B.has_room B.after B.gives self.now.links.items seat.old.me.0.duty.before link result }
     {
         match self.lift(seat, self.nodes + link as usize) {
@@ -207,10 +208,10 @@ impl<B: Work> Crew<B> {
         node: u32,
         given: &mut Vec<Option<B::Value>>,
     )
-        requires seat { IsAt self.now.board.shared.table_id self.now.links.items self.now.nodes seat.old }
+        requires seat { IsOf self.now seat.old }
         requires node { (has seat.old.me.0.duty.held node ≡ true) × (seat.old.me.0.hand.node ≡ node) × (seat.old.me.0.hand.floor ≤ self.now.nodes) × (node < self.now.nodes) }
         requires room { (given.old.items ≡ []) × (most_links ≤ vec_capacity given.old) }
-        ensures seat { IsAt self.now.board.shared.table_id self.now.links.items self.now.nodes seat.new × (seat.new.me.0.duty ≡ seat.old.me.0.duty) }
+        ensures seat { IsOf self.now seat.new × (seat.new.me.0.duty ≡ seat.old.me.0.duty) }
         ensures given { AreValuesOf B.memory B.has_room B.after B.gives self.now.links.items seat.old.me.0.duty.before (incoming self.now.links.items node) given.new.items }
         ensures room { vec_capacity given.new ≡ vec_capacity given.old }
     {
@@ -226,10 +227,10 @@ impl<B: Work> Crew<B> {
         seat: &mut Token<Option<Item<B, B::Value>>, View<Option<Item<B, B::Value>>, B>>,
         node: u32,
     ) -> Taken<B>
-        requires seat { IsAt self.now.board.shared.table_id self.now.links.items self.now.nodes seat.old }
+        requires seat { IsOf self.now seat.old }
         requires node { (has seat.old.me.0.duty.held node ≡ true) × (seat.old.me.0.hand.node ≡ node) × (seat.old.me.0.hand.floor ≡ 0) × (node < self.now.nodes) }
         requires unreleased { (l : ℕ) → l < length self.now.links.items → (link_at self.now.links.items l).from ≡ node → has seat.old.me.0.duty.released l ≡ false }
-        ensures seat { IsAt self.now.board.shared.table_id self.now.links.items self.now.nodes seat.new × (seat.new.me.0.duty ≡ seat.old.me.0.duty) }
+        ensures seat { IsOf self.now seat.new × (seat.new.me.0.duty ≡ seat.old.me.0.duty) }
         ensures taken { (result.node ≡ node) × IsUnplayed B.memory B.has_room B.value_at B.after B.gives seat.old.me.0.duty node result.tray }
     {
         let mut tray = self.lift_bench(seat, node);
@@ -241,9 +242,9 @@ impl<B: Work> Crew<B> {
     ///
     /// The answer is the node, where this left its counter at zero. One decrement of one word.
     pub fn start(&self, seat: &mut Seat<B>, node: u32) -> Option<Taken<B>>
-        requires seat { Sits self.now.board.shared.table_id self.now.links.items self.now.nodes self.now.seats seat.old.number seat.old.token }
+        requires seat { TakesPart self.now seat.old }
         requires node { (node < self.now.nodes) × (node % self.now.seats ≡ seat.old.number) × (has seat.old.token.me.0.duty.started node ≡ false) }
-        ensures seat { (seat.new.number ≡ seat.old.number) × Sits self.now.board.shared.table_id self.now.links.items self.now.nodes self.now.seats seat.new.number seat.new.token }
+        ensures seat { (seat.new.number ≡ seat.old.number) × TakesPart self.now seat.new }
         ensures none { IsNone result → seat.new.token.me.0.duty ≡ with_started seat.old.token.me.0.duty node }
         ensures some { IfSome result (λ taken. (taken.node ≡ node) × (has seat.old.token.me.0.duty.held node ≡ false) × (seat.new.token.me.0.duty ≡ with_held (with_started seat.old.token.me.0.duty node) node) × IsUnplayed B.memory B.has_room B.value_at B.after B.gives seat.new.token.me.0.duty node taken.tray) }
     {
@@ -265,7 +266,7 @@ impl<B: Work> Crew<B> {
         link: usize,
         value: B::Value,
     )
-        requires seat { IsAt self.now.board.shared.table_id self.now.links.items self.now.nodes seat.old }
+        requires seat { IsOf self.now seat.old }
         requires link { (link < length self.now.links.items) × (has seat.old.me.0.duty.held (link_at self.now.links.items link).from ≡ true) × (has seat.old.me.0.duty.released link ≡ false) }
         ensures seat { (seat.new.table_id ≡ seat.old.table_id) × (seat.new.me ≡ (out_after seat.old.me.0 (self.now.nodes + link), (self.now.nodes + link, Some (Value value)) ∷ [])) }
     {
@@ -277,10 +278,10 @@ impl<B: Work> Crew<B> {
 
     // Gives the slot of a link back with its value, and lowers the counter of the link's target.
     fn pass_on(&self, seat: &mut Seat<B>, link: usize, to: u32, value: B::Value) -> Option<Taken<B>>
-        requires seat { Sits self.now.board.shared.table_id self.now.links.items self.now.nodes self.now.seats seat.old.number seat.old.token }
+        requires seat { TakesPart self.now seat.old }
         requires link { (link < length self.now.links.items) × ((link_at self.now.links.items link).to ≡ to) × (has seat.old.token.me.0.duty.held (link_at self.now.links.items link).from ≡ true) × (has seat.old.token.me.0.duty.released link ≡ false) }
         requires value { IsValueOf B.memory B.has_room B.after B.gives self.now.links.items seat.old.token.me.0.duty.before link value }
-        ensures seat { (seat.new.number ≡ seat.old.number) × Sits self.now.board.shared.table_id self.now.links.items self.now.nodes self.now.seats seat.new.number seat.new.token }
+        ensures seat { (seat.new.number ≡ seat.old.number) × TakesPart self.now seat.new }
         ensures duty { (seat.new.token.me.0.duty.links ≡ seat.old.token.me.0.duty.links) × (seat.new.token.me.0.duty.before ≡ seat.old.token.me.0.duty.before) × (seat.new.token.me.0.duty.released ≡ link ∷ seat.old.token.me.0.duty.released) × ((n : ℕ) → has seat.old.token.me.0.duty.held n ≡ true → has seat.new.token.me.0.duty.held n ≡ true) }
         ensures none { IsNone result → seat.new.token.me.0.duty ≡ with_released seat.old.token.me.0.duty link }
         ensures some { IfSome result (λ taken. (taken.node ≡ to) × (has seat.old.token.me.0.duty.held to ≡ false) × (seat.new.token.me.0.duty ≡ with_held (with_released seat.old.token.me.0.duty link) to) × IsUnplayed B.memory B.has_room B.value_at B.after B.gives seat.new.token.me.0.duty to taken.tray) }
@@ -302,11 +303,11 @@ impl<B: Work> Crew<B> {
     ///
     /// The answer is the link's target, where this left its counter at zero. One decrement of one word.
     pub fn release(&self, seat: &mut Seat<B>, taken: &mut Taken<B>, link: u32) -> Option<Taken<B>>
-        requires seat { Sits self.now.board.shared.table_id self.now.links.items self.now.nodes self.now.seats seat.old.number seat.old.token }
+        requires seat { TakesPart self.now seat.old }
         requires taken { IsPlayed B.memory B.has_room B.value_at B.after B.gives seat.old.token.me.0.duty taken.old.node taken.old.tray }
         requires link { (link < length self.now.links.items) × ((link_at self.now.links.items link).from ≡ taken.old.node) × (has seat.old.token.me.0.duty.released link ≡ false) }
         requires room { B.has_room taken.old.tray.bench (place_among self.now.links.items link) ≡ true }
-        ensures seat { (seat.new.number ≡ seat.old.number) × Sits self.now.board.shared.table_id self.now.links.items self.now.nodes self.now.seats seat.new.number seat.new.token }
+        ensures seat { (seat.new.number ≡ seat.old.number) × TakesPart self.now seat.new }
         ensures taken { (taken.new.node ≡ taken.old.node) × IsPlayed B.memory B.has_room B.value_at B.after B.gives seat.new.token.me.0.duty taken.new.node taken.new.tray }
         ensures none { IsNone result → seat.new.token.me.0.duty ≡ with_released seat.old.token.me.0.duty link }
         ensures some { IfSome result (λ next. (next.node ≡ (link_at self.now.links.items link).to) × (has seat.old.token.me.0.duty.held next.node ≡ false) × (seat.new.token.me.0.duty ≡ with_held (with_released seat.old.token.me.0.duty link) next.node) × IsUnplayed B.memory B.has_room B.value_at B.after B.gives seat.new.token.me.0.duty next.node next.tray) }
@@ -323,10 +324,10 @@ impl<B: Work> Crew<B> {
         node: u32,
         given: &mut Vec<Option<B::Value>>,
     )
-        requires seat { IsAt self.now.board.shared.table_id self.now.links.items self.now.nodes seat.old }
+        requires seat { IsOf self.now seat.old }
         requires node { (has seat.old.me.0.duty.held node ≡ true) × (node < self.now.nodes) }
         requires given { (values : List B.Value) × (given.old.items ≡ map Some values) × (length values ≡ length (incoming self.now.links.items node)) }
-        ensures seat { IsAt self.now.board.shared.table_id self.now.links.items self.now.nodes seat.new × (seat.new.me.0.duty ≡ seat.old.me.0.duty) }
+        ensures seat { IsOf self.now seat.new × (seat.new.me.0.duty ≡ seat.old.me.0.duty) }
         ensures ready { (l : ℕ) → l < length self.now.links.items → (link_at self.now.links.items l).to ≡ node → has seat.new.me.0.hand.ready (self.now.nodes + l) ≡ true }
         ensures room { vec_capacity given.new ≡ vec_capacity given.old }
     {
@@ -342,10 +343,10 @@ impl<B: Work> Crew<B> {
     ///
     /// One decrement of one word.
     pub fn home(&self, seat: &mut Seat<B>, taken: Taken<B>)
-        requires seat { Sits self.now.board.shared.table_id self.now.links.items self.now.nodes self.now.seats seat.old.number seat.old.token }
+        requires seat { TakesPart self.now seat.old }
         requires taken { IsPlayed B.memory B.has_room B.value_at B.after B.gives seat.old.token.me.0.duty taken.node taken.tray }
         requires released { (l : ℕ) → l < length self.now.links.items → (link_at self.now.links.items l).from ≡ taken.node → has seat.old.token.me.0.duty.released l ≡ true }
-        ensures seat { (seat.new.number ≡ seat.old.number) × Sits self.now.board.shared.table_id self.now.links.items self.now.nodes self.now.seats seat.new.number seat.new.token }
+        ensures seat { (seat.new.number ≡ seat.old.number) × TakesPart self.now seat.new }
         ensures home { seat.new.token.me.0.duty ≡ with_home seat.old.token.me.0.duty taken.node }
     {
         let Taken { node, tray } = taken;

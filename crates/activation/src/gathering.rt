@@ -3,6 +3,7 @@ ghost use Rattle.std.specs.Prelude.{◌≡◌, ◌<◌, ◌≤◌, ◌+◌, ℕ,
 ghost use Rattle.session_model.specs.Samples.{below};
 ghost use Rattle.activation.specs.Contents.{from_to};
 ghost use Rattle.activation.specs.Seats.{IsIdle, IsAt, IsShare, new_duty};
+ghost use Rattle.activation.specs.Crews.{AreAllOf};
 
 use crate::crews::Crew;
 use crate::rules::{Husks, Shares};
@@ -14,7 +15,7 @@ use std::mem;
 
 impl<B: Work> Crew<B> {
     ghost use Rattle.activation.specs.Rule.{has};
-    ghost use Rattle.activation.specs.Rounds.{AreSeats, HavePlayed, AreUnused, Know};
+    ghost use Rattle.activation.specs.Rounds.{HavePlayed, AreUnused, Know};
 
     // Takes the seat's token, and leaves a spent one behind.
     fn part(
@@ -33,7 +34,7 @@ impl<B: Work> Crew<B> {
         &self,
         seats: &mut [Seat<B>],
     ) -> Token<Option<Item<B, B::Value>>, View<Option<Item<B, B::Value>>, B>>
-        requires { AreSeats self.now.board.shared.table_id self.now.links.items self.now.nodes self.now.seats seats.old }
+        requires { AreAllOf self.now seats.old }
         ensures numbers { map (λ seat. seat.number) seats.new ≡ below self.now.seats }
         ensures token { IsAt self.now.board.shared.table_id self.now.links.items self.now.nodes result }
         ensures duty { (result.me.0.duty.seats ≡ self.now.seats) × (result.me.0.duty.shares ≡ from_to 0 self.now.seats) × (result.me.0.duty.held ≡ []) × (result.me.0.duty.left ≡ []) }

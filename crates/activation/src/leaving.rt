@@ -4,8 +4,9 @@ ghost use Rattle.session_model.specs.Activation.{link_at, incoming};
 ghost use Rattle.activation.specs.Rule.{has};
 ghost use Rattle.activation.specs.Plays.{Owns, refill_after};
 ghost use Rattle.activation.specs.Contents.{IsFull, AreValuesOf};
-ghost use Rattle.activation.specs.Seats.{IsIdle, IsAt, Sits};
+ghost use Rattle.activation.specs.Seats.{IsIdle};
 ghost use Rattle.activation.specs.Takens.{IsUnplayed, with_held, with_left, with_looked};
+ghost use Rattle.activation.specs.Crews.{IsOf, TakesPart};
 
 use crate::crews::Crew;
 use crate::rules::{Leave, Pick, Refill, Take};
@@ -40,10 +41,10 @@ impl<B: Work> Crew<B> {
         node: u32,
         given: &mut Vec<Option<B::Value>>,
     )
-        requires seat { IsAt self.now.board.shared.table_id self.now.links.items self.now.nodes seat.old }
+        requires seat { IsOf self.now seat.old }
         requires node { (has seat.old.me.0.duty.held node ≡ true) × (node < self.now.nodes) }
         requires given { AreValuesOf B.memory B.has_room B.after B.gives self.now.links.items seat.old.me.0.duty.before (incoming self.now.links.items node) given.old.items }
-        ensures seat { IsAt self.now.board.shared.table_id self.now.links.items self.now.nodes seat.new × (seat.new.me.0.duty ≡ seat.old.me.0.duty) }
+        ensures seat { IsOf self.now seat.new × (seat.new.me.0.duty ≡ seat.old.me.0.duty) }
         ensures back { (l : ℕ) → l < length self.now.links.items → (link_at self.now.links.items l).to ≡ node → has seat.new.me.0.hand.back (self.now.nodes + l) ≡ true }
         ensures room { vec_capacity given.new ≡ vec_capacity given.old }
     {
@@ -68,9 +69,9 @@ impl<B: Work> Crew<B> {
     ///
     /// One store of one word.
     pub fn leave(&self, seat: &mut Seat<B>, taken: Taken<B>)
-        requires seat { Sits self.now.board.shared.table_id self.now.links.items self.now.nodes self.now.seats seat.old.number seat.old.token }
+        requires seat { TakesPart self.now seat.old }
         requires taken { IsUnplayed B.memory B.has_room B.value_at B.after B.gives seat.old.token.me.0.duty taken.node taken.tray }
-        ensures seat { (seat.new.number ≡ seat.old.number) × Sits self.now.board.shared.table_id self.now.links.items self.now.nodes self.now.seats seat.new.number seat.new.token }
+        ensures seat { (seat.new.number ≡ seat.old.number) × TakesPart self.now seat.new }
         ensures left { seat.new.token.me.0.duty ≡ with_left seat.old.token.me.0.duty taken.node }
     {
         let Taken { node, tray } = taken;
@@ -90,9 +91,9 @@ impl<B: Work> Crew<B> {
     ///
     /// The answer is the node, where it was left until now. One exchange of one word.
     pub fn pick(&self, seat: &mut Seat<B>, node: u32) -> Option<Taken<B>>
-        requires seat { Sits self.now.board.shared.table_id self.now.links.items self.now.nodes self.now.seats seat.old.number seat.old.token }
+        requires seat { TakesPart self.now seat.old }
         requires node { node < self.now.nodes }
-        ensures seat { (seat.new.number ≡ seat.old.number) × Sits self.now.board.shared.table_id self.now.links.items self.now.nodes self.now.seats seat.new.number seat.new.token }
+        ensures seat { (seat.new.number ≡ seat.old.number) × TakesPart self.now seat.new }
         ensures none { IsNone result → seat.new.token.me.0.duty ≡ with_looked seat.old.token.me.0.duty node }
         ensures some { IfSome result (λ taken. (taken.node ≡ node) × (has seat.old.token.me.0.duty.held node ≡ false) × (seat.new.token.me.0.duty ≡ with_held (with_looked seat.old.token.me.0.duty node) node) × IsUnplayed B.memory B.has_room B.value_at B.after B.gives seat.new.token.me.0.duty node taken.tray) }
     {
