@@ -51,11 +51,11 @@ impl<B: Work> Crew<B> {
     ///
     /// It takes all seats, and no node was started since the crew was made or reset.
     pub fn swap(&mut self, seats: &mut [Seat<B>], benches: &mut [B])
-        requires all { AreSeats self.old.board.shared.table_id self.old.links.items self.old.nodes self.old.seats seats.old }
+        requires all { AreAllOf self.old seats.old }
         requires unused { AreUnused seats.old }
         requires count { length benches.old ≡ self.old.nodes }
         ensures crew { self.new ≡ self.old }
-        ensures seats { AreSeats self.new.board.shared.table_id self.new.links.items self.new.nodes self.new.seats seats.new }
+        ensures seats { AreAllOf self.new seats.new }
         ensures fresh { AreFresh self.new.links.items benches.old self.new.seats seats.new }
         ensures benches { (before : List B) → Know before seats.old → benches.new ≡ before }
     {
@@ -119,7 +119,7 @@ impl<B: Work> Crew<B> {
     /// It takes all seats; every node is home, or none was started since the crew was made or reset. Each
     /// bench has the memory that it had, and gets the values back that it handed.
     pub fn reset(&mut self, seats: &mut [Seat<B>], links: &[Link])
-        requires all { AreSeats self.old.board.shared.table_id self.old.links.items self.old.nodes self.old.seats seats.old }
+        requires all { AreAllOf self.old seats.old }
         requires over { HavePlayed self.old.nodes self.old.seats seats.old ⊎ AreUnused seats.old }
         requires links { AreLinks self.old.nodes links.now × (length links.now ≤ 512) }
         ensures crew { (self.new.board ≡ self.old.board) × (self.new.nodes ≡ self.old.nodes) × (self.new.seats ≡ self.old.seats) × (self.new.links.items ≡ links.now) }
@@ -145,7 +145,7 @@ impl<B: Work> Crew<B> {
     /// It takes all seats; every node is home, or none was started since the crew was made or reset.
     /// Values that are left in links' slots are dropped.
     pub fn close(self, mut seats: Vec<Seat<B>>) -> Vec<B>
-        requires all { AreSeats self.board.shared.table_id self.links.items self.nodes self.seats seats.items }
+        requires all { AreAllOf self seats.items }
         requires over { HavePlayed self.nodes self.seats seats.items ⊎ AreUnused seats.items }
         ensures count { length result.items ≡ self.nodes }
         ensures played { (before : List B) → Know before seats.items → HavePlayed self.nodes self.seats seats.items → ArePlayed B.memory B.has_room B.after B.gives self.links.items before result.items }
