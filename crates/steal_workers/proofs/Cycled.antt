@@ -1,25 +1,30 @@
 -- What a whole cycle makes of the seats.
+--     AreSeated .. all old new      the seats that may begin a cycle took their places
+--     HaveWorked .. all old mid new      the threads have played
+--     HaveRisen .. all back old mid new      the seats came back in their order
+--     HaveCycled crew all end      the cycle is over
 use Rattle.std.proofs.Common.{◌≡◌, ℕ, ◌%◌, ◌<◌, ◌≤◌, Bool, true, List, [], ◌∷◌, length, get_or, All, IfSome, None, sym, ap, ◌∙◌, subst, arith}
-use Rattle.std.specs.Global.{Global}
-use Rattle.std.proofs.lemmas.List.{get_or_default}
-use Rattle.atomic_table.specs.Seated.{TableId}
+use Rattle.std.specs.Global.{Global, Vec}
+use Rattle.std.proofs.lemmas.List.{get_or_default, length-map}
 use Rattle.crossbeam_deque.specs.Handles.{Pass, IsPassOf}
-use Rattle.jack_types.specs.declared.ports.Link.{Link}
 use Rattle.activation.specs.declared.takens.Seat.{Seat}
 use Rattle.activation.specs.Rule.{has}
 use Rattle.activation.specs.Rounds.{AreSeats, HavePlayed, Know, AreFresh}
-use Rattle.activation.specs.Seats.{Sits, new_duty}
+use Rattle.activation.specs.Seats.{new_duty}
 use Rattle.cycle_workers.specs.Runs.{HaveRoom}
-use Rattle.cycle_workers.proofs.Going.{mapped_same}
+use Rattle.cycle_workers.proofs.Going.{long_as, mapped_same}
 use Rattle.steal_workers.specs.declared.tallies.Tally.{Tally}
 use Rattle.steal_workers.specs.declared.ends.Stealer.{Stealer}
 use Rattle.steal_workers.specs.declared.places.Place.{Place}
 use Rattle.steal_workers.specs.declared.places.Thief.{Thief}
+use Rattle.steal_workers.specs.Crews.{CrewFacts, IsSeatOf}
 use Rattle.steal_workers.specs.Tallies.{HasAll}
 use Rattle.steal_workers.specs.Deques.{tally_of, SameDeque, LeadsTo, IsPassFor}
 use Rattle.steal_workers.specs.Places.{Paired, IsPassAt, thief_of, TakesPlace, MayLeave}
-use Rattle.steal_workers.specs.Works.{IsReady, HasPlayedOn, MaySweep, Sweeps}
+use Rattle.steal_workers.specs.Thefts.{AreAtRest, tallies_of}
+use Rattle.steal_workers.specs.Works.{IsReady, IsUnderWay, IsAtWork, WorksOn, MaySweep, Sweeps}
 use Rattle.steal_workers.proofs.Changing.{any_of}
+use Rattle.steal_workers.proofs.Working.{at_work, worked_on}
 
 module _ {B Y M : Type 0} where
   abbrev pub Reach : List Stealer → List (Place B Y M) → Type 0
@@ -69,115 +74,216 @@ module _ {B Y M : Type 0} where
         subst (λ (p : Place B Y M). SameDeque (get_or old k x).deque p.deque) (get_or_default new k x y (omega (arith, low, long))) (took k x seat low).deque,
   )
 
-  module _ (id : TableId) (links : List Link) (nodes seats : ℕ) (stealers : List Stealer) where
-    pub ready : (has_room : B → ℕ → Bool) (before : List B) (all : List (Seat B Y M)) (old new : List (Place B Y M)) → AreSeats id links nodes seats all → AreFresh links before seats all → HaveRoom has_room links before
-        → Reach stealers old → All (λ (p : Place B Y M). HasAll (tally_of p.deque) × (p.thief ≡ None)) old → length old ≤ 16 → length all ≡ length old → length new ≡ length old → Taken all old new
-        → (k : ℕ) (d : Place B Y M) → k < length new → IsReady has_room id links nodes seats stealers (get_or new k d)
-    ready has_room before all old new are fresh room reach rest few many long took k d low =
-        let low' : k < length old = omega (arith, low, long) in
-        let inside : k < length all = omega (arith, low', many) in
-        let s = any_of all k inside in
-        let it = took k d s low' in
-        let e = fresh k s inside in record {
-          thief = thief_of (get_or all k s) it.passes;
-          there = it.there;
-          sits = (are.each k s inside).0;
-          fresh = e ∙ (λ j. new_duty links (ap (λ x. x.before) (sym e) j) seats ((get_or all k s).number ∷ []));
-          room = subst (HaveRoom has_room links) (sym (ap (λ x. x.before) e)) room;
-          passes = passes_for stealers new it.passes.items (reach_stays stealers old new (same_taken all old new many long took) reach) it.each;
-          part = let parts = it.parts in let whole = (rest k d low').0 in omega (arith, parts, whole, few, long);
-        }
+  -- no seat sits there, and the deque has all its parts
+  abbrev pub IsAtRest : Place B Y M → Type 0
+  IsAtRest place = HasAll (tally_of place.deque) × (place.thief ≡ None)
 
-    -- each place changed as its seat's work says
-    abbrev pub Played : List (Place B Y M) → List (Place B Y M) → Type 0
-    Played old new = (k : ℕ) (d : Place B Y M) → k < length old → HasPlayedOn id links nodes seats stealers (get_or old k d) (get_or new k d)
+  -- as many seats as places, where there are as many deques as seats
+  pub as_many : (crew : CrewFacts) (all : List (Seat B Y M)) (kept old : List (Place B Y M)) → AreSeats crew.id crew.links crew.nodes crew.seats all → old ≡ kept → length (tallies_of kept) ≡ crew.seats → length all ≡ length old
+  as_many crew all kept old are there deques = long_as (λ (s : Seat B Y M). s.number) all crew.seats are.numbers ∙ (sym deques ∙ (length-map kept (λ (p : Place B Y M). tally_of p.deque) ∙ sym (ap length there)))
 
-    same_played : (old new : List (Place B Y M)) → length new ≡ length old → Played old new → SameDeques old new
-    same_played old new long played = (long, λ k x y low. subst (λ (p : Place B Y M). SameDeque (get_or old k x).deque p.deque) (get_or_default new k x y (omega (arith, low, long))) (played k x low).deque.same)
+  module _ (has_room : B → ℕ → Bool) (crew : CrewFacts) (stealers : List Stealer) where
+    -- behind `begin`
+    pub record AreSeated (all : List (Seat B Y M)) (old new : List (Place B Y M)) : Type 0 where
+      pub are : AreSeats crew.id crew.links crew.nodes crew.seats all
+      pub before : List B
+      pub fresh : AreFresh crew.links before crew.seats all
+      pub room : HaveRoom has_room crew.links before
+      pub few : length old ≤ 16
+      pub reach : Reach stealers old
+      pub rest : All IsAtRest old
+      pub many : length all ≡ length old
+      pub long : length new ≡ length old
+      pub took : Taken all old new
 
-    -- the deques are the same from before the cycle on
-    pub reach_on : (all : List (Seat B Y M)) (old mid new : List (Place B Y M)) → length all ≡ length old → length mid ≡ length old → length new ≡ length mid → Taken all old mid → Played mid new → Reach stealers old → Reach stealers new
-    reach_on all old mid new many long long' took played reach = reach_stays stealers mid new (same_played mid new long' played) (reach_stays stealers old mid (same_taken all old mid many long took) reach)
+    -- behind the threads
+    pub record HaveWorked (all : List (Seat B Y M)) (old mid new : List (Place B Y M)) : Type 0 where
+      pub seated : AreSeated all old mid
+      pub long : length new ≡ length mid
+      pub played : (k : ℕ) (d : Place B Y M) → k < length mid → IsUnderWay crew stealers (get_or mid k d) (get_or new k d)
 
-    pub may_leave : (all : List (Seat B Y M)) (old mid new : List (Place B Y M)) → Reach stealers old → All (λ (p : Place B Y M). HasAll (tally_of p.deque) × (p.thief ≡ None)) old → length all ≡ length old → length mid ≡ length old → length new ≡ length mid → Taken all old mid → Played mid new
-        → (k : ℕ) (d : Place B Y M) → k < length new → MayLeave new (get_or new k d)
-    may_leave all old mid new reach rest many long long' took played k d low =
-        let low' : k < length mid = omega (arith, low, long') in
-        let low'' : k < length old = omega (arith, low', long) in
-        let s = any_of all k (omega (arith, low'', many)) in
-        let it = took k d s low'' in
-        let on = played k d low' in
-        let behind = on.behind (thief_of (get_or all k s) it.passes) it.there in record {
-          parts = let kept = on.deque.parts in let parts = it.parts in let whole = (rest k d low'').0 in omega (arith, kept, parts, whole, long, long');
-          thief = on.thief;
-          there = on.there;
-          each = passes_at stealers new on.thief.passes.items (reach_on all old mid new many long long' took played reach) behind.passes;
-          room = let kept = behind.room in let room = it.room in omega (arith, kept, room, long');
-        }
+    -- behind `end`
+    pub record HaveRisen (all back : List (Seat B Y M)) (old mid new : List (Place B Y M)) : Type 0 where
+      pub worked : HaveWorked all old mid new
+      pub long : length back ≡ length new
+      pub order : (k : ℕ) (place : Place B Y M) (seat : Seat B Y M) → k < length new → IfSome (get_or new k place).thief (λ thief. get_or back k seat ≡ thief.seat)
 
-    -- the seats came back in their order
-    abbrev pub InOrder : List (Place B Y M) → List (Seat B Y M) → Type 0
-    InOrder places back = (k : ℕ) (place : Place B Y M) (seat : Seat B Y M) → k < length places → IfSome (get_or places k place).thief (λ thief. get_or back k seat ≡ thief.seat)
+    pub seated : (all : List (Seat B Y M)) (kept old new : List (Place B Y M)) (passes : List (Vec (Pass ℕ Tally Global))) → AreAtRest stealers kept passes → old ≡ kept → length (tallies_of kept) ≡ crew.seats
+        → AreSeats crew.id crew.links crew.nodes crew.seats all → (before : List B) × AreFresh crew.links before crew.seats all × HaveRoom has_room crew.links before
+        → length new ≡ length old → Taken all old new → AreSeated all old new
+    seated all kept old new passes at_rest there deques are fresh long took = record {
+      are = are;
+      before = fresh.0;
+      fresh = fresh.1;
+      room = fresh.2;
+      few = subst (λ (ps : List (Place B Y M)). length ps ≤ 16) (sym there) at_rest.few;
+      reach = subst (λ (ps : List (Place B Y M)). Reach stealers ps) (sym there) at_rest.reached;
+      rest = subst (λ (ps : List (Place B Y M)). All IsAtRest ps) (sym there) at_rest.at_rest;
+      many = as_many crew all kept old are there deques;
+      long = long;
+      took = took;
+    }
 
-    pub may_sweep : (has_room : B → ℕ → Bool) (before : List B) (all back : List (Seat B Y M)) (old mid new : List (Place B Y M)) → AreFresh links before seats all → HaveRoom has_room links before → length all ≡ length old → length mid ≡ length old → length new ≡ length mid → length back ≡ length new → Taken all old mid → Played mid new → InOrder new back
-        → (k : ℕ) (d : Seat B Y M) → k < length back → MaySweep has_room id links nodes seats (get_or back k d)
-    may_sweep has_room before all back old mid new fresh room many long long' risen took played order k d low =
-        let low' : k < length new = omega (arith, low, risen) in
-        let low'' : k < length mid = omega (arith, low', long') in
-        let low''' : k < length old = omega (arith, low'', long) in
-        let inside : k < length all = omega (arith, low''', many) in
-        let p = any_of new k low' in
-        let s = any_of all k inside in
-        let it = took k p s low''' in
-        let on = played k p low'' in
-        let behind = on.behind (thief_of (get_or all k s) it.passes) it.there in
-        let is : get_or back k d ≡ on.thief.seat = subst (λ o. IfSome o (λ (thief : Thief B Y M). get_or back k d ≡ thief.seat)) on.there (order k p d low') in
-        subst (MaySweep has_room id links nodes seats) (sym is) record {
-          sits = behind.sits;
-          room = subst (HaveRoom has_room links) (sym (behind.worked.before_stays ∙ ap (λ x. x.before) (fresh k s inside))) room;
-          none_held = behind.worked.none_held;
-          left = behind.worked.left;
-        }
+  module _ {has_room : B → ℕ → Bool} {crew : CrewFacts} {stealers : List Stealer} {all : List (Seat B Y M)} {old mid : List (Place B Y M)} where
+    module _ (h : AreSeated has_room crew stealers all old mid) where
+      ready : All (IsReady has_room crew stealers) mid
+      ready k d low =
+          let long = h.long in
+          let many = h.many in
+          let few = h.few in
+          let low' : k < length old = omega (arith, low, long) in
+          let inside : k < length all = omega (arith, low', many) in
+          let s = any_of all k inside in
+          let it = h.took k d s low' in
+          let e = h.fresh k s inside in record {
+            thief = thief_of (get_or all k s) it.passes;
+            there = it.there;
+            sits = (h.are.each k s inside).0;
+            fresh = e ∙ (λ j. new_duty crew.links (ap (λ x. x.before) (sym e) j) crew.seats ((get_or all k s).number ∷ []));
+            room = subst (HaveRoom has_room crew.links) (sym (ap (λ x. x.before) e)) h.room;
+            passes = passes_for stealers mid it.passes.items (reach_stays stealers old mid (same_taken all old mid many long h.took) h.reach) it.each;
+            part = let parts = it.parts in let whole = (h.rest k d low').0 in omega (arith, parts, whole, few, long);
+          }
 
+      pub are_ready : (slice : List Stealer) → slice ≡ stealers → All (IsReady has_room crew slice) mid
+      are_ready slice is = subst (λ (ss : List Stealer). All (IsReady has_room crew ss) mid) (sym is) ready
+
+      module _ (slice : List Stealer) (is : slice ≡ stealers) (started : List (Place B Y M)) (begun : Paired (IsUnderWay crew slice) mid started) where
+        under_way : Paired (IsUnderWay crew stealers) mid started
+        under_way = subst (λ (ss : List Stealer). Paired (IsUnderWay crew ss) mid started) is begun
+
+        pub are_at_work : All (IsAtWork has_room crew stealers) started
+        are_at_work k d low =
+            let long = begun.0 in
+            let low' : k < length mid = omega (arith, low, long) in
+            at_work crew stealers has_room (get_or mid k d) (get_or started k d) (ready k d low') (under_way.1 k d d low')
+
+        pub worked : (new : List (Place B Y M)) → length new ≡ length started → ((k : ℕ) (d : Place B Y M) → k < length started → WorksOn crew stealers (get_or started k d) (get_or new k d)) → HaveWorked has_room crew stealers all old mid new
+        worked new long went =
+            let long' = begun.0 in record {
+              seated = h;
+              long = long ∙ long';
+              played = λ k d low. worked_on crew stealers (get_or mid k d) (get_or started k d) (get_or new k d) (under_way.1 k d d low) (went k d (omega (arith, low, long')));
+            }
+
+    module _ {new : List (Place B Y M)} where
+      module _ (h : HaveWorked has_room crew stealers all old mid new) where
+        same_worked : SameDeques mid new
+        same_worked =
+            let long = h.long in
+            (long, λ k x y low. subst (λ (p : Place B Y M). SameDeque (get_or mid k x).deque p.deque) (get_or_default new k x y (omega (arith, low, long))) (h.played k x low).deque.same)
+
+        -- the deques are the same from before the cycle on
+        pub reach_on : Reach stealers new
+        reach_on =
+            let s = h.seated in
+            reach_stays stealers mid new same_worked (reach_stays stealers old mid (same_taken all old mid s.many s.long s.took) s.reach)
+
+        pub may_leave : All (MayLeave new) new
+        may_leave k d low =
+            let s = h.seated in
+            let long = s.long in
+            let long' = h.long in
+            let many = s.many in
+            let low' : k < length mid = omega (arith, low, long') in
+            let low'' : k < length old = omega (arith, low', long) in
+            let seat = any_of all k (omega (arith, low'', many)) in
+            let it = s.took k d seat low'' in
+            let on = h.played k d low' in
+            let behind = on.behind (thief_of (get_or all k seat) it.passes) it.there in record {
+              parts = let kept = on.deque.parts in let parts = it.parts in let whole = (s.rest k d low'').0 in omega (arith, kept, parts, whole, long, long');
+              thief = on.thief;
+              there = on.there;
+              each = passes_at stealers new on.thief.passes.items reach_on behind.passes;
+              room = let kept = behind.room in let room = it.room in omega (arith, kept, room, long');
+            }
+
+      module _ {back : List (Seat B Y M)} (h : HaveRisen has_room crew stealers all back old mid new) where
+        may : All (MaySweep has_room crew) back
+        may k d low =
+            let s = h.worked.seated in
+            let long = s.long in
+            let long' = h.worked.long in
+            let risen = h.long in
+            let many = s.many in
+            let low' : k < length new = omega (arith, low, risen) in
+            let low'' : k < length mid = omega (arith, low', long') in
+            let low''' : k < length old = omega (arith, low'', long) in
+            let inside : k < length all = omega (arith, low''', many) in
+            let p = any_of new k low' in
+            let seat = any_of all k inside in
+            let it = s.took k p seat low''' in
+            let on = h.worked.played k p low'' in
+            let behind = on.behind (thief_of (get_or all k seat) it.passes) it.there in
+            let is : get_or back k d ≡ on.thief.seat = subst (λ o. IfSome o (λ (thief : Thief B Y M). get_or back k d ≡ thief.seat)) on.there (h.order k p d low') in
+            subst (MaySweep has_room crew) (sym is) record {
+              sits = behind.sits;
+              room = subst (HaveRoom has_room crew.links) (sym (behind.worked.before_stays ∙ ap (λ x. x.before) (s.fresh k seat inside))) s.room;
+              none_held = behind.worked.none_held;
+              left = behind.worked.left;
+            }
+
+        pub may_sweep : (slice : List (Seat B Y M)) → slice ≡ back → All (MaySweep has_room crew) slice
+        may_sweep slice is = subst (λ (seats : List (Seat B Y M)). All (MaySweep has_room crew) seats) (sym is) may
+
+  module _ (crew : CrewFacts) where
     pub record HasCycled (old new : Seat B Y M) : Type 0 where
       pub number : new.number ≡ old.number
-      pub sits : Sits id links nodes seats new.number new.token
+      pub sits : IsSeatOf crew new
       pub before_stays : new.token.me.0.duty.before ≡ old.token.me.0.duty.before
-      pub started_all : (n : ℕ) → n < nodes → n % seats ≡ new.number → has new.token.me.0.duty.started n ≡ true
+      pub started_all : (n : ℕ) → n < crew.nodes → n % crew.seats ≡ new.number → has new.token.me.0.duty.started n ≡ true
       pub none_held : new.token.me.0.duty.held ≡ []
       pub none_left : new.token.me.0.duty.left ≡ []
 
-    pub cycled : (all back end : List (Seat B Y M)) (old mid new : List (Place B Y M)) → length all ≡ length old → length mid ≡ length old → length new ≡ length mid → length back ≡ length new → Taken all old mid → Played mid new → InOrder new back → Paired (Sweeps id links nodes seats) back end
-        → (k : ℕ) (d : Seat B Y M) → k < length all → HasCycled (get_or all k d) (get_or end k d)
-    cycled all back end old mid new many long long' risen took played order swept k d inside =
-        let low''' : k < length old = omega (arith, inside, many) in
-        let low'' : k < length mid = omega (arith, low''', long) in
-        let low' : k < length new = omega (arith, low'', long') in
-        let low : k < length back = omega (arith, low', risen) in
-        let p = any_of new k low' in
-        let it = took k p d low''' in
-        let on = played k p low'' in
-        let behind = on.behind (thief_of (get_or all k d) it.passes) it.there in
-        let is : get_or back k d ≡ on.thief.seat = subst (λ o. IfSome o (λ (thief : Thief B Y M). get_or back k d ≡ thief.seat)) on.there (order k p d low') in
-        let s = swept.1 k d d low in
-        let number : (get_or end k d).number ≡ on.thief.seat.number = s.number ∙ ap (λ (x : Seat B Y M). x.number) is in record {
-          number = number ∙ behind.number;
-          sits = s.sits;
-          before_stays = s.swept.before_stays ∙ (ap (λ (x : Seat B Y M). x.token.me.0.duty.before) is ∙ behind.worked.before_stays);
-          started_all = λ n low mine. ap (λ l. has l n) (s.swept.started_stay ∙ ap (λ (x : Seat B Y M). x.token.me.0.duty.started) is) ∙ behind.worked.started_all n low (mine ∙ number);
-          none_held = s.swept.none_held;
-          none_left = s.swept.none_left;
-        }
+    -- behind `sweep_all`
+    pub record HaveCycled (old new : List (Seat B Y M)) : Type 0 where
+      pub long : length new ≡ length old
+      pub each : (k : ℕ) (d : Seat B Y M) → k < length old → HasCycled (get_or old k d) (get_or new k d)
 
-    module _ (all end : List (Seat B Y M)) (long : length end ≡ length all) (each : (k : ℕ) (d : Seat B Y M) → k < length all → HasCycled (get_or all k d) (get_or end k d)) where
-      pub are_seats : AreSeats id links nodes seats all → AreSeats id links nodes seats end
-      are_seats are = record {
-        numbers = mapped_same (λ (s : Seat B Y M). s.number) all end long (λ k d low. (each k d low).number) ∙ are.numbers;
-        each = λ k d low. let it = each k d (omega (arith, low, long)) in (it.sits, it.none_held, it.none_left);
+  pub cycled : {has_room : B → ℕ → Bool} {crew : CrewFacts} {stealers : List Stealer} {all back : List (Seat B Y M)} {old mid new : List (Place B Y M)} → HaveRisen has_room crew stealers all back old mid new
+      → (slice swept : List (Seat B Y M)) → slice ≡ back → Paired (Sweeps crew) slice swept → HaveCycled crew all swept
+  cycled {all = all} {back = back} {old = old} {mid = mid} {new = new} h slice end same went =
+      let s = h.worked.seated in
+      let long = s.long in
+      let long' = h.worked.long in
+      let risen = h.long in
+      let many = s.many in
+      let sliced = ap length same in record {
+        long = went.0 ∙ (sliced ∙ (risen ∙ (long' ∙ (long ∙ sym many))));
+        each = λ k d inside.
+            let low''' : k < length old = omega (arith, inside, many) in
+            let low'' : k < length mid = omega (arith, low''', long) in
+            let low' : k < length new = omega (arith, low'', long') in
+            let low : k < length slice = omega (arith, low', risen, sliced) in
+            let p = any_of new k low' in
+            let it = s.took k p d low''' in
+            let on = h.worked.played k p low'' in
+            let behind = on.behind (thief_of (get_or all k d) it.passes) it.there in
+            let rose : get_or back k d ≡ on.thief.seat = subst (λ o. IfSome o (λ (thief : Thief B Y M). get_or back k d ≡ thief.seat)) on.there (h.order k p d low') in
+            let is : get_or slice k d ≡ on.thief.seat = ap (λ (seats : List (Seat B Y M)). get_or seats k d) same ∙ rose in
+            let sweeps = went.1 k d d low in
+            let number : (get_or end k d).number ≡ on.thief.seat.number = sweeps.number ∙ ap (λ (x : Seat B Y M). x.number) is in record {
+              number = number ∙ behind.number;
+              sits = sweeps.sits;
+              before_stays = sweeps.swept.before_stays ∙ (ap (λ (x : Seat B Y M). x.token.me.0.duty.before) is ∙ behind.worked.before_stays);
+              started_all = λ n low mine. ap (λ l. has l n) (sweeps.swept.started_stay ∙ ap (λ (x : Seat B Y M). x.token.me.0.duty.started) is) ∙ behind.worked.started_all n low (mine ∙ number);
+              none_held = sweeps.swept.none_held;
+              none_left = sweeps.swept.none_left;
+            };
       }
 
-      pub have_played : HavePlayed nodes seats end
-      have_played k d low n inside mine = (each k d (omega (arith, low, long))).started_all n inside mine
+  module _ {crew : CrewFacts} {old new : List (Seat B Y M)} (h : HaveCycled crew old new) where
+    pub are_seats : AreSeats crew.id crew.links crew.nodes crew.seats old → AreSeats crew.id crew.links crew.nodes crew.seats new
+    are_seats are = record {
+      numbers = mapped_same (λ (s : Seat B Y M). s.number) old new h.long (λ k d low. (h.each k d low).number) ∙ are.numbers;
+      each = λ k d low. let long = h.long in let it = h.each k d (omega (arith, low, long)) in (it.sits, it.none_held, it.none_left);
+    }
 
-      pub know_still : (before : List B) → Know before all → Know before end
-      know_still before know k d low = let low' : k < length all = omega (arith, low, long) in (each k d low').before_stays ∙ know k d low'
+    pub have_played : HavePlayed crew.nodes crew.seats new
+    have_played k d low n inside mine = let long = h.long in (h.each k d (omega (arith, low, long))).started_all n inside mine
+
+    pub know_still : (before : List B) → Know before old → Know before new
+    know_still before know k d low =
+        let long = h.long in
+        let low' : k < length old = omega (arith, low, long) in
+        (h.each k d low').before_stays ∙ know k d low'

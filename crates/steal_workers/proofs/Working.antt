@@ -1,31 +1,28 @@
 -- A seat that has started its share, and goes on with its work.
 use Rattle.std.proofs.Common.{arith, ◌≡◌, ◌<◌, ℕ, Bool, List, length, get_or, sym, ap, ◌∙◌, subst}
-use Rattle.atomic_table.specs.Seated.{TableId}
-use Rattle.jack_types.specs.declared.ports.Link.{Link}
 use Rattle.activation.specs.Rule.{has}
 use Rattle.cycle_workers.specs.Runs.{HaveRoom}
 use Rattle.steal_workers.specs.declared.ends.Stealer.{Stealer}
 use Rattle.steal_workers.specs.declared.places.Place.{Place}
-use Rattle.steal_workers.specs.Places.{Paired}
-use Rattle.steal_workers.specs.Works.{IsReady, HasPlayedOn, IsAtWork, WorksOn}
+use Rattle.steal_workers.specs.Crews.{CrewFacts}
+use Rattle.steal_workers.specs.Works.{IsReady, IsUnderWay, IsAtWork, WorksOn}
 use Rattle.steal_workers.proofs.Offered.{deque_stays}
-use Rattle.steal_workers.proofs.Cycled.{Played}
 
-module _ {B Y M : Type 0} (id : TableId) (links : List Link) (nodes seats : ℕ) (stealers : List Stealer) where
-  pub at_work : (has_room : B → ℕ → Bool) (old new : Place B Y M) → IsReady has_room id links nodes seats stealers old → HasPlayedOn id links nodes seats stealers old new → IsAtWork has_room id links nodes seats stealers new
+module _ {B Y M : Type 0} (crew : CrewFacts) (stealers : List Stealer) where
+  pub at_work : (has_room : B → ℕ → Bool) (old new : Place B Y M) → IsReady has_room crew stealers old → IsUnderWay crew stealers old new → IsAtWork has_room crew stealers new
   at_work has_room old new ready on =
       let behind = on.behind ready.thief ready.there in record {
         thief = on.thief;
         there = on.there;
         sits = behind.sits;
-        room = subst (HaveRoom has_room links) (sym behind.worked.before_stays) ready.room;
+        room = subst (HaveRoom has_room crew.links) (sym behind.worked.before_stays) ready.room;
         none_held = behind.worked.none_held;
         left = behind.worked.left;
         passes = behind.passes;
         part = subst (λ (n : ℕ). 0 < n) (sym on.deque.parts) ready.part;
       }
 
-  pub worked_on : (old mid new : Place B Y M) → HasPlayedOn id links nodes seats stealers old mid → WorksOn id links nodes seats stealers mid new → HasPlayedOn id links nodes seats stealers old new
+  pub worked_on : (old mid new : Place B Y M) → IsUnderWay crew stealers old mid → WorksOn crew stealers mid new → IsUnderWay crew stealers old new
   worked_on old mid new on more =
       let further = more.behind on.thief on.there in record {
         thief = more.thief;
@@ -45,13 +42,3 @@ module _ {B Y M : Type 0} (id : TableId) (links : List Link) (nodes seats : ℕ)
           room = further.room ∙ b.room;
         };
       }
-
-  -- each seat started its share
-  abbrev pub Begun : List (Place B Y M) → List (Place B Y M) → Type 0
-  Begun old new = Paired (HasPlayedOn id links nodes seats stealers) old new
-
-  -- and played on
-  pub played_on : (old mid new : List (Place B Y M)) → Begun old mid → ((k : ℕ) (d : Place B Y M) → k < length mid → WorksOn id links nodes seats stealers (get_or mid k d) (get_or new k d)) → Played id links nodes seats stealers old new
-  played_on old mid new begun went k d low =
-      let long = begun.0 in
-      worked_on (get_or old k d) (get_or mid k d) (get_or new k d) (begun.1 k d d low) (went k d (omega (arith, low, long)))

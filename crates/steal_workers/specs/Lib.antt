@@ -1,3 +1,4 @@
+pub mod Crews
 pub mod Tallies
 pub mod Deques
 pub mod Places

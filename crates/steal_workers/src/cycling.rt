@@ -3,6 +3,7 @@ ghost use Rattle.std.specs.Prelude.{◌≡◌, ◌≤◌, List, length, All, vec
 ghost use Rattle.activation.specs.Ends.{AreEnded};
 ghost use Rattle.activation.specs.Rounds.{AreSeats, HavePlayed, Know, AreFresh};
 ghost use Rattle.cycle_workers.specs.Runs.{HaveRoom};
+ghost use Rattle.steal_workers.specs.Crews.{facts_of};
 ghost use Rattle.steal_workers.specs.Thefts.{AreEmpty};
 ghost use Rattle.steal_workers.specs.Works.{IsAtWork, WorksOn};
 
@@ -46,8 +47,8 @@ pub fn steal_cycle<B: Work + Send, G: Gate, T: Threads + Sync>(
     start_all(crew, places, stealers.as_slice(), gate);
     let count = places.len();
     let step = |_index: usize, place: &mut Place<B>|
-        requires { IsAtWork B.has_room crew.now.board.shared.table_id crew.now.links.items crew.now.nodes crew.now.seats stealers.now.items place.old }
-        ensures { WorksOn crew.entry.now.board.shared.table_id crew.entry.now.links.items crew.entry.now.nodes crew.entry.now.seats stealers.entry.now.items place.entry.now place.exit.now }
+        requires { IsAtWork B.has_room (facts_of crew.now) stealers.now.items place.old }
+        ensures { WorksOn (facts_of crew.entry.now) stealers.entry.now.items place.entry.now place.exit.now }
     { work(crew, place, stealers.as_slice(), gate) };
     thread::for_each_mut(threads, places, count, &step);
     end(places, seats, &mut thieves.passes);

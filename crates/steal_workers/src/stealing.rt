@@ -2,14 +2,15 @@
 ghost use Rattle.std.specs.Prelude.{◌≡◌, ◌<◌, ◌≤◌, ◌⊎◌, ℕ, List, [], ◌∷◌, length, All, true, vec_capacity};
 ghost use Rattle.activation.specs.Rule.{has};
 ghost use Rattle.activation.specs.Plays.{without};
-ghost use Rattle.activation.specs.Seats.{Sits, new_duty};
+ghost use Rattle.activation.specs.Seats.{new_duty};
 ghost use Rattle.activation.specs.Takens.{IsUnplayed, AreBetween};
 ghost use Rattle.cycle_workers.specs.Runs.{HaveRoom};
+ghost use Rattle.steal_workers.specs.Crews.{facts_of, IsSeatOf};
 ghost use Rattle.steal_workers.specs.Tallies.{with_pushed};
 ghost use Rattle.steal_workers.specs.Deques.{tally_of, IsPassFor};
 ghost use Rattle.steal_workers.specs.Places.{Paired};
 ghost use Rattle.steal_workers.specs.Steals.{KeepsDeque, IsOffered, LeavesAbove, IsPicked, HasWorked, HasSwept};
-ghost use Rattle.steal_workers.specs.Works.{IsReady, HasPlayedOn, IsAtWork, WorksOn, MaySweep, Sweeps};
+ghost use Rattle.steal_workers.specs.Works.{IsReady, IsUnderWay, IsAtWork, WorksOn, MaySweep, Sweeps};
 
 use crate::ends::{Deque, Pass, Stealer};
 use crate::places::{Place, Thief};
@@ -26,10 +27,10 @@ fn offer<B: Work, G: Gate>(
     gate: &G,
     taken: Taken<B>,
 )
-    requires seat { Sits crew.now.board.shared.table_id crew.now.links.items crew.now.nodes crew.now.seats seat.old.number seat.old.token }
+    requires seat { IsSeatOf (facts_of crew.now) seat.old }
     requires taken { IsUnplayed B.memory B.has_room B.value_at B.after B.gives seat.old.token.me.0.duty taken.node taken.tray }
     requires room { HaveRoom B.has_room crew.now.links.items seat.old.token.me.0.duty.before }
-    ensures seat { (seat.new.number ≡ seat.old.number) × Sits crew.now.board.shared.table_id crew.now.links.items crew.now.nodes crew.now.seats seat.new.number seat.new.token }
+    ensures seat { (seat.new.number ≡ seat.old.number) × IsSeatOf (facts_of crew.now) seat.new }
     ensures deque { KeepsDeque deque.old deque.new }
     ensures offered { IsOffered crew.now.links.items taken.node seat.old.token.me.0.duty seat.new.token.me.0.duty }
     ensures left { ((tally_of deque.new ≡ with_pushed (tally_of deque.old) (taken.node ∷ [])) × (seat.new.token.me.0.duty.left ≡ taken.node ∷ seat.old.token.me.0.duty.left))
@@ -53,10 +54,10 @@ fn play<B: Work, G: Gate>(
     gate: &G,
     mut taken: Taken<B>,
 )
-    requires seat { Sits crew.now.board.shared.table_id crew.now.links.items crew.now.nodes crew.now.seats seat.old.number seat.old.token }
+    requires seat { IsSeatOf (facts_of crew.now) seat.old }
     requires taken { IsUnplayed B.memory B.has_room B.value_at B.after B.gives seat.old.token.me.0.duty taken.node taken.tray }
     requires room { HaveRoom B.has_room crew.now.links.items seat.old.token.me.0.duty.before }
-    ensures seat { (seat.new.number ≡ seat.old.number) × Sits crew.now.board.shared.table_id crew.now.links.items crew.now.nodes crew.now.seats seat.new.number seat.new.token }
+    ensures seat { (seat.new.number ≡ seat.old.number) × IsSeatOf (facts_of crew.now) seat.new }
     ensures deque { KeepsDeque deque.old deque.new }
     ensures played { IsOffered crew.now.links.items taken.node seat.old.token.me.0.duty seat.new.token.me.0.duty }
     ensures left { LeavesAbove taken.node crew.now.nodes seat.old.token.me.0.duty.left seat.new.token.me.0.duty.left }
@@ -81,10 +82,10 @@ fn pick<B: Work, G: Gate>(
     gate: &G,
     node: u32,
 )
-    requires seat { Sits crew.now.board.shared.table_id crew.now.links.items crew.now.nodes crew.now.seats seat.old.number seat.old.token }
+    requires seat { IsSeatOf (facts_of crew.now) seat.old }
     requires node { node < crew.now.nodes }
     requires room { HaveRoom B.has_room crew.now.links.items seat.old.token.me.0.duty.before }
-    ensures seat { (seat.new.number ≡ seat.old.number) × Sits crew.now.board.shared.table_id crew.now.links.items crew.now.nodes crew.now.seats seat.new.number seat.new.token }
+    ensures seat { (seat.new.number ≡ seat.old.number) × IsSeatOf (facts_of crew.now) seat.new }
     ensures deque { KeepsDeque deque.old deque.new }
     ensures picked { IsPicked node crew.now.nodes seat.old.token.me.0.duty seat.new.token.me.0.duty }
 {
@@ -101,11 +102,11 @@ fn start<B: Work, G: Gate>(
     gate: &G,
     count: u32,
 )
-    requires seat { Sits crew.now.board.shared.table_id crew.now.links.items crew.now.nodes crew.now.seats seat.old.number seat.old.token }
+    requires seat { IsSeatOf (facts_of crew.now) seat.old }
     requires count { count ≡ crew.now.seats }
     requires fresh { seat.old.token.me.0.duty ≡ new_duty crew.now.links.items seat.old.token.me.0.duty.before count (seat.old.number ∷ []) }
     requires room { HaveRoom B.has_room crew.now.links.items seat.old.token.me.0.duty.before }
-    ensures seat { (seat.new.number ≡ seat.old.number) × Sits crew.now.board.shared.table_id crew.now.links.items crew.now.nodes crew.now.seats seat.new.number seat.new.token }
+    ensures seat { (seat.new.number ≡ seat.old.number) × IsSeatOf (facts_of crew.now) seat.new }
     ensures deque { KeepsDeque deque.old deque.new }
     ensures worked { HasWorked crew.now.nodes count seat.new.number seat.old.token.me.0.duty seat.new.token.me.0.duty }
 {
@@ -125,9 +126,9 @@ fn start_here<B: Work, G: Gate>(
     stealers: &[Stealer],
     gate: &G,
 )
-    requires ready { IsReady B.has_room crew.now.board.shared.table_id crew.now.links.items crew.now.nodes crew.now.seats stealers.now place.old }
+    requires ready { IsReady B.has_room (facts_of crew.now) stealers.now place.old }
     requires count { length stealers.now ≡ crew.now.seats }
-    ensures { HasPlayedOn crew.now.board.shared.table_id crew.now.links.items crew.now.nodes crew.now.seats stealers.now place.old place.new }
+    ensures { IsUnderWay (facts_of crew.now) stealers.now place.old place.new }
 {
     let Place { deque, thief } = place;
     if let Some(thief) = thief {
@@ -142,9 +143,9 @@ pub(crate) fn start_all<B: Work, G: Gate>(
     stealers: &[Stealer],
     gate: &G,
 )
-    requires ready { All (λ place. IsReady B.has_room crew.now.board.shared.table_id crew.now.links.items crew.now.nodes crew.now.seats stealers.now place) places.old }
+    requires ready { All (λ place. IsReady B.has_room (facts_of crew.now) stealers.now place) places.old }
     requires count { length stealers.now ≡ crew.now.seats }
-    ensures { Paired (HasPlayedOn crew.now.board.shared.table_id crew.now.links.items crew.now.nodes crew.now.seats stealers.now) places.old places.new }
+    ensures { Paired (IsUnderWay (facts_of crew.now) stealers.now) places.old places.new }
 {
     for place in places.iter_mut() {
         start_here(crew, place, stealers, gate);
@@ -188,8 +189,8 @@ pub(crate) fn work<B: Work, G: Gate>(
     stealers: &[Stealer],
     gate: &G,
 )
-    requires ready { IsAtWork B.has_room crew.now.board.shared.table_id crew.now.links.items crew.now.nodes crew.now.seats stealers.now place.old }
-    ensures { WorksOn crew.now.board.shared.table_id crew.now.links.items crew.now.nodes crew.now.seats stealers.now place.old place.new }
+    requires ready { IsAtWork B.has_room (facts_of crew.now) stealers.now place.old }
+    ensures { WorksOn (facts_of crew.now) stealers.now place.old place.new }
 {
     let Place { deque, thief } = place;
     let Some(thief) = thief else {
@@ -209,11 +210,11 @@ pub(crate) fn work<B: Work, G: Gate>(
 
 // Picks every node, and runs those that were left.
 fn sweep<B: Work, G: Gate>(crew: &Crew<B>, seat: &mut Seat<B>, gate: &G)
-    requires seat { Sits crew.now.board.shared.table_id crew.now.links.items crew.now.nodes crew.now.seats seat.old.number seat.old.token }
+    requires seat { IsSeatOf (facts_of crew.now) seat.old }
     requires room { HaveRoom B.has_room crew.now.links.items seat.old.token.me.0.duty.before }
     requires none_held { seat.old.token.me.0.duty.held ≡ [] }
     requires left { AreBetween 0 crew.now.nodes seat.old.token.me.0.duty.left }
-    ensures seat { (seat.new.number ≡ seat.old.number) × Sits crew.now.board.shared.table_id crew.now.links.items crew.now.nodes crew.now.seats seat.new.number seat.new.token }
+    ensures seat { (seat.new.number ≡ seat.old.number) × IsSeatOf (facts_of crew.now) seat.new }
     ensures swept { HasSwept seat.old.token.me.0.duty seat.new.token.me.0.duty }
 {
     for node in 0..crew.nodes() {
@@ -225,8 +226,8 @@ fn sweep<B: Work, G: Gate>(crew: &Crew<B>, seat: &mut Seat<B>, gate: &G)
 
 /// Lets each seat pick every node, and run those that were left.
 pub(crate) fn sweep_all<B: Work, G: Gate>(crew: &Crew<B>, seats: &mut [Seat<B>], gate: &G)
-    requires seats { All (λ seat. MaySweep B.has_room crew.now.board.shared.table_id crew.now.links.items crew.now.nodes crew.now.seats seat) seats.old }
-    ensures { Paired (Sweeps crew.now.board.shared.table_id crew.now.links.items crew.now.nodes crew.now.seats) seats.old seats.new }
+    requires seats { All (λ seat. MaySweep B.has_room (facts_of crew.now) seat) seats.old }
+    ensures { Paired (Sweeps (facts_of crew.now)) seats.old seats.new }
 {
     for seat in seats.iter_mut() {
         sweep(crew, seat, gate);
