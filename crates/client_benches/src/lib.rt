@@ -15,8 +15,6 @@ mod passes;
 mod playing;
 mod reading;
 mod setting;
-#[cfg(test)]
-mod tests;
 mod values;
 mod wires;
 

@@ -1,6 +1,5 @@
 mod DepthLemmas
 mod JoinLemmas
 mod PortLemmas
-mod RowLemmas
 mod SweepLemmas
 mod WiringLemmas

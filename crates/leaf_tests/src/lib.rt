@@ -1,4 +1,4 @@
-//! Tests of plain data, tempos, the transport and mixes.
+//! Tests of plain data, samples and their sums, tempos, the transport and mixes.
 #![tactic(auto)]
 
 #[cfg(test)]
@@ -6,6 +6,10 @@ mod mixes;
 #[cfg(test)]
 mod plain;
 #[cfg(test)]
+mod sums;
+#[cfg(test)]
 mod tempos;
 #[cfg(test)]
 mod transports;
+#[cfg(test)]
+mod widths;

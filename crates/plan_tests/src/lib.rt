@@ -10,4 +10,6 @@ mod session;
 #[cfg(test)]
 mod sketch;
 #[cfg(test)]
+mod stepping;
+#[cfg(test)]
 mod tests;

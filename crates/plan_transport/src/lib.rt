@@ -5,8 +5,6 @@ mod adopting;
 mod laws;
 mod slowness;
 mod stepping;
-#[cfg(test)]
-mod tests;
 mod transports;
 
 pub use laws::calls_have_targets;

@@ -2,7 +2,5 @@
 #![tactic(auto)]
 
 mod notes;
-#[cfg(test)]
-mod tests;
 
 pub use notes::{MOST_NOTED, Notes, Refused};

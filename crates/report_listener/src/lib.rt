@@ -2,7 +2,5 @@
 #![tactic(auto)]
 
 mod listening;
-#[cfg(test)]
-mod tests;
 
 pub use listening::ListeningSink;

@@ -4,8 +4,6 @@
 mod kernels;
 mod scaling;
 mod sums;
-#[cfg(test)]
-mod tests;
 
 pub use scaling::{from_bytes, to_bytes};
 pub use sums::{add_into, clamp64, set_to, settle};

@@ -1,6 +1,6 @@
-use crate::{PlanTransport, step_by_plan};
 use cycle_plan::Plan;
 use jack_types::TransportState;
+use plan_transport::{PlanTransport, step_by_plan};
 use std::test::Fail;
 
 #[test]

@@ -1,32 +1,87 @@
-ghost use Rattle.std.specs.Prelude.{◌≤◌, length};
+ghost use Rattle.std.specs.Prelude.{◌≡◌, ◌≤◌, [], IfOk, length};
+ghost use Rattle.jack_types.specs.declared.kinds.Kind.TheVariants.{Pass};
 
-use crate::mixing::mix_inputs;
-use crate::{Room, Source, Wire};
+use activation::Work;
+use client_benches::{ClientBench, Room};
 use client_kinds::Shape;
-use port_mixer::Mixer;
+use guests::HoldGuest;
+use jack_types::{Kind, Memory, Moment, TransportState};
 use std::alloc::Global;
 use std::process::Abort;
 use std::test::Fail;
 
-/// Two inputs of twenty frames, the first of which gets one part.
+type Bench = ClientBench<HoldGuest>;
+
+const MOMENT: Moment = Moment {
+    cycle: 1,
+    state: TransportState::Stopped,
+    frame: 0,
+    rate: 48_000,
+    bbt: None,
+};
+
+/// One input of forty frames, where the two of `PORTS` lie in the next cycle.
+const LONG: Shape = Shape {
+    inputs: 1,
+    outputs: 0,
+    period: 40,
+};
+
+/// Two inputs of twenty frames, the second of which gets the parts.
 const PORTS: Shape = Shape {
     inputs: 2,
     outputs: 0,
     period: 20,
 };
 
-/// A wire from a room with so many samples of this value.
-fn wire_of(alloc: Global, input: u16, samples: u8, value: i32) -> Result<Wire, Fail> {
+/// A room with so many samples of this value.
+fn room_of(alloc: Global, samples: u8, value: i32) -> Result<Room, Fail> {
     let part = vec![in alloc; value; usize::from(samples)]?;
     let mut room = Room::new(alloc)?;
     room.fill(&part);
-    Ok(Wire {
-        input,
-        source: Source::Kept(room),
-    })
+    Ok(room)
+}
+
+/// A bench that never played.
+fn new_bench(alloc: Global) -> Result<Bench, Memory>
+    ensures standing { IfOk result (λ bench. (bench.kept.standing.kind ≡ Pass) × (bench.kept.standing.period ≡ 40) × (bench.kept.standing.memory.fed ≡ [])) }
+    ensures lists { IfOk result (λ bench. (bench.kept.wires ≡ []) × (bench.kept.routes ≡ [])) }
+{
+    ClientBench::new(alloc, Kind::Pass, 40)
+}
+
+/// Lets these parts, each of so many samples of one value, go into the second input.
+fn hear_parts(alloc: Global, bench: &mut Bench, parts: &[(u8, i32)]) -> Result<(), Fail>
+    requires parts { length parts.now ≤ 9 }
+    requires wires { bench.old.kept.wires ≡ [] }
+    ensures standing { bench.new.kept.standing ≡ bench.old.kept.standing }
+    ensures routes { bench.new.kept.routes ≡ bench.old.kept.routes }
+    ensures wires { length bench.new.kept.wires ≤ 9 }
+{
+    for (samples, value) in parts {
+        bench.hear_kept(1, room_of(alloc, *samples, *value)?);
+    }
+    Ok(())
+}
+
+/// Plays a cycle of these ports.
+fn play(bench: &mut Bench, ports: Shape)
+    requires kind { bench.old.kept.standing.kind ≡ Pass }
+    requires fed { bench.old.kept.standing.memory.fed ≡ [] }
+    requires routes { bench.old.kept.routes ≡ [] }
+    requires ports { (ports.inputs ≤ 16) × (ports.outputs ≤ 16) }
+    requires period { (ports.period ≤ bench.old.kept.standing.period) × (ports.period ≤ 4096) }
+    ensures kind { bench.new.kept.standing.kind ≡ Pass }
+    ensures fed { bench.new.kept.standing.memory.fed ≡ [] }
+    ensures routes { bench.new.kept.routes ≡ [] }
+    ensures period { bench.new.kept.standing.period ≡ bench.old.kept.standing.period }
+{
+    bench.begin(&MOMENT, ports, 0);
+    bench.play(&[]);
 }
 
 /// Mixes these parts, each of so many samples of one value, and looks for these runs of frames of one value.
+/// In the cycle before, the first input's samples lay where these go.
 fn mixes(
     rt: &impl Abort,
     alloc: Global,
@@ -35,17 +90,16 @@ fn mixes(
 ) -> Result<(), Fail>
     requires { length parts.now ≤ 9 }
 {
-    let mut wires = vec![in alloc]?;
-    for (samples, value) in parts {
-        wires.push(wire_of(alloc, 1, *samples, *value)?)?;
-    }
-    wires.push(wire_of(alloc, 0, 20, 9)?)?;
-    let mut mixer = Mixer::new(alloc, 20)?;
-    let mut padded = vec![in alloc; 0; 20]?;
-    let mut inputs = vec![in alloc; 1; 40]?;
-    mix_inputs(&mut mixer, &mut padded, &wires, &[], PORTS, &mut inputs);
-    assert!(rt; inputs[..20].iter().all(|x| *x == 9));
-    let mut rest = &inputs[20..];
+    let mut bench = new_bench(alloc)?;
+    hear_parts(alloc, &mut bench, parts)?;
+    bench.hear_kept(0, room_of(alloc, 40, 9)?);
+    play(&mut bench, LONG);
+    assert_eq!(rt; bench.sound(0).len(), 40);
+    assert!(rt; bench.sound(0).iter().all(|x| *x == 9));
+    play(&mut bench, PORTS);
+    assert_eq!(rt; bench.sound(0).len(), 20);
+    assert!(rt; bench.sound(0).iter().all(|x| *x == 9));
+    let mut rest = bench.sound(1);
     for (frames, value) in heard {
         assert!(rt; *frames <= rest.len());
         assert!(rt; rest[..*frames].iter().all(|x| *x == *value));

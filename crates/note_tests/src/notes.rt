@@ -1,5 +1,5 @@
-use crate::Notes;
 use jack_types::Refusal;
+use refused_calls::Notes;
 
 #[test]
 fn refused_calls_are_noted_among_all(rt: HostRuntime) {

@@ -3,8 +3,8 @@ use Rattle.jack_types.specs.declared.ports.Edge.{Edge}
 use Rattle.jack_types.specs.declared.ports.Node.TheVariants.{Capture, Playback, Client}
 use Rattle.jack_types.specs.declared.ports.Port.{Port}
 use Rattle.latency_ranges.specs.Graphs.{IsGraph}
-use Rattle.latency_ranges.proofs.RowLemmas.{row_edges, row_graph, row_port, row_ports}
-use Rattle.latency_ranges.proofs.tests.row.Goals as goal
+use Rattle.port_tests.proofs.RowLemmas.{row_edges, row_graph, row_port, row_ports}
+use Rattle.port_tests.proofs.latencies.row.Goals as goal
 
 pub ranges-requires-clause-graph : goal.ranges-requires-clause-graph
 ranges-requires-clause-graph g c =

@@ -1,6 +1,6 @@
-use crate::ListeningSink;
 use jack_host::{MemorySink, Sink};
 use jack_types::Refusal;
+use report_listener::ListeningSink;
 
 #[test]
 fn calls_are_noted_up_to_the_first_line_of_another_kind(rt: HostRuntime) {

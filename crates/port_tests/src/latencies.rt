@@ -2,10 +2,11 @@ ghost use Rattle.std.specs.Prelude.{◌≡◌, true};
 ghost use Rattle.jack_types.specs.declared.ports.Mark.TheVariants.{Direct};
 ghost use Rattle.jack_types.specs.declared.ports.PortKind.TheVariants.{Audio};
 
-use super::*;
 use jack_types::{
-    ClientId, Edge, Mark, Node, Port, PortFlags, PortId, PortKind, PortName, Range, Way,
+    ClientId, Delay, Edge, Mark, Mode, Node, Port, PortFlags, PortId, PortKind, PortName, Range,
+    Way,
 };
+use latency_ranges::ranges;
 use std::process::Abort;
 
 /// An audio port.

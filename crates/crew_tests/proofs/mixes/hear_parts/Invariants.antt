@@ -1,0 +1,5 @@
+use Rattle.std.proofs.Common.{◌≡◌, ◌≤◌, length}
+use Rattle.crew_tests.proofs.mixes.hear_parts.Given as goal
+
+abbrev pub invariant-loop-samples : goal.invariant-loop-samples
+invariant-loop-samples g l = length l.bench.kept.wires ≤ l.samples-index
