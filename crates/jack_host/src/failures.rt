@@ -1,6 +1,6 @@
 //! What is kept of a failure of the system.
 
-ghost use Rattle.std.specs.Prelude.{◌≡◌, ◌↔◌, ◌+◌, ◌≤◌, Ok, IfOk, IsErr, IsNone, OnErr, OnOk};
+ghost use Rattle.std.specs.Prelude.{◌≡◌, ◌↔◌, ◌+◌, ◌≤◌, Ok, IfOk, IfSome, IsErr, IsNone, OnErr, OnOk, option_map, string_bytes};
 ghost use Rattle.jack_host.specs.Causes.{Adds, IsCounted};
 
 use crate::Failed;
@@ -59,22 +59,33 @@ pub struct Failure<'a> {
 }
 
 impl<'a> Failure<'a> {
-    pub(crate) fn new(name: &'a str, reason: Reason) -> Failure<'a> {
+    pub(crate) fn new(name: &'a str, reason: Reason) -> Failure<'a>
+        ensures name { result.name ≡ name.entry }
+        ensures reason { result.reason ≡ reason }
+    {
         Failure { name, reason }
     }
 
     /// What the call was about.
-    pub fn kind(&self) -> FailureKind {
+    pub fn kind(&self) -> FailureKind
+        ensures { result ≡ self.now.reason.kind }
+    {
         self.reason.kind
     }
 
     /// The name that the file was opened or made by. It is empty where it has more than 4096 bytes.
-    pub fn name(&self) -> &'a str {
+    pub fn name(&self) -> &'a str
+        ensures { result ≡ self.now.name }
+    {
         self.name
     }
 
     /// Why it failed, in the system's words, or in this crate's where the host refused it.
-    pub fn reason(&self) -> io::Error {
+    ///
+    /// No clause speaks of the words, since the system gives them.
+    pub fn reason(&self) -> io::Error
+        ensures { result ≡ self.now.reason.error }
+    {
         self.reason.error
     }
 }
@@ -153,7 +164,9 @@ impl NamedFaults {
 
     /// The last failure, where there was one.
     pub(crate) fn last(&self) -> Option<Failure<'_>>
-        ensures { IsNone result ↔ (self.now.faults.count ≡ 0) }
+        ensures told { IsNone result ↔ (self.now.faults.count ≡ 0) }
+        ensures reason { option_map (λ failure. failure.reason) result ≡ self.now.faults.last }
+        ensures name { IfSome result (λ failure. failure.name.now ≡ string_bytes self.now.name) }
     {
         match self.faults.last {
             Some(reason) => Some(Failure::new(&self.name, reason)),

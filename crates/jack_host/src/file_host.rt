@@ -1,4 +1,4 @@
-ghost use Rattle.std.specs.Prelude.{None, ◌≡◌, ◌↔◌, IfOk, IsNone, length};
+ghost use Rattle.std.specs.Prelude.{None, ◌≡◌, ◌↔◌, IfOk, IfSome, IsNone, length, option_map, string_bytes};
 
 use crate::failures::{Failure, NamedFaults, Reason, about};
 use crate::identities::{Identities, Identity, identity_of};
@@ -91,14 +91,18 @@ impl<'a, R: Files<File = File>> FileHost<'a, R> {
 
     /// The last failure of an opening or a read, where one has failed.
     pub fn last_read_failure(&self) -> Option<Failure<'_>>
-        ensures { IsNone result ↔ (self.now.reads.faults.count ≡ 0) }
+        ensures told { IsNone result ↔ (self.now.reads.faults.count ≡ 0) }
+        ensures reason { option_map (λ failure. failure.reason) result ≡ self.now.reads.faults.last }
+        ensures name { IfSome result (λ failure. failure.name.now ≡ string_bytes self.now.reads.name) }
     {
         self.reads.last()
     }
 
     /// The last failure of a making, a write or a closing, where one has failed.
     pub fn last_write_failure(&self) -> Option<Failure<'_>>
-        ensures { IsNone result ↔ (self.now.writes.faults.count ≡ 0) }
+        ensures told { IsNone result ↔ (self.now.writes.faults.count ≡ 0) }
+        ensures reason { option_map (λ failure. failure.reason) result ≡ self.now.writes.faults.last }
+        ensures name { IfSome result (λ failure. failure.name.now ≡ string_bytes self.now.writes.name) }
     {
         self.writes.last()
     }

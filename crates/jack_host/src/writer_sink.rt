@@ -1,4 +1,4 @@
-ghost use Rattle.std.specs.Prelude.{None, ◌≡◌, ◌↔◌, IsNone};
+ghost use Rattle.std.specs.Prelude.{None, ◌≡◌, ◌↔◌, IsNone, option_map};
 
 use crate::failures::{Faults, about};
 use crate::{Failed, FailureKind, Sink};
@@ -25,7 +25,8 @@ impl<W> WriterSink<W> {
 
     /// Why the last put that failed did, where one has failed.
     pub fn last_failure(&self) -> Option<io::Error>
-        ensures { IsNone result ↔ (self.now.faults.count ≡ 0) }
+        ensures told { IsNone result ↔ (self.now.faults.count ≡ 0) }
+        ensures reason { result ≡ option_map (λ reason. reason.error) self.now.faults.last }
     {
         match self.faults.last {
             Some(reason) => Some(reason.error),
