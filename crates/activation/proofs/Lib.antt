@@ -28,4 +28,3 @@ mod Turning
 mod Entered
 pub mod Ended
 mod Sharing
-mod Diamonds

@@ -16,8 +16,6 @@ mod opening;
 mod rules;
 mod stands;
 mod takens;
-#[cfg(test)]
-mod tests;
 mod turns;
 mod views;
 mod work;

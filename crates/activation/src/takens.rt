@@ -38,6 +38,13 @@ impl<B: Work> Taken<B> {
         self.node
     }
 
+    /// The node's bench.
+    pub fn bench(&self) -> &B
+        ensures { result.now ≡ self.now.tray.bench }
+    {
+        &self.tray.bench
+    }
+
     /// Plays the bench on the values of its incoming links. It is played once.
     pub fn play(&mut self)
         requires given { (values : List B.Value) × (self.old.tray.given.items ≡ map Some values) }

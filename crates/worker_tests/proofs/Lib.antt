@@ -1,1 +1,2 @@
 mod Hashing
+mod Stepping

@@ -1,1 +1,2 @@
+pub mod Diamonds
 pub mod Hashes

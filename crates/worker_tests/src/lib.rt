@@ -1,8 +1,10 @@
-//! Tests of crews whose nodes are played by threads.
+//! Tests of crews, whose nodes are played by threads or step by step.
 #![tactic(auto)]
 
 #[cfg(test)]
 mod benches;
+#[cfg(test)]
+mod diamonds;
 #[cfg(test)]
 mod graphs;
 #[cfg(test)]

@@ -1,38 +1,18 @@
-use Rattle.std.proofs.Common.{rules, arith, ◌≡◌, ◌<◌, ◌+◌, ◌%◌, ◌^◌, ℕ, Bool, List, [], ◌∷◌, true, false, All, replicate, ap, ◌∙◌, sym, subst}
-use Rattle.std.specs.Prelude.{slice_index_or}
-use Rattle.std.proofs.lemmas.List.{get_or-replicate}
-use Rattle.activation.specs.declared.tests.Counter.{Counter}
+use Rattle.std.proofs.Common.{rules, arith, ◌≡◌, ℕ, List, [], ◌∷◌, ap, ◌∙◌, sym, subst}
+use Rattle.worker_tests.specs.declared.benches.Hasher.{Hasher}
 use Rattle.activation.specs.declared.views.Duty.{Duty}
-use Rattle.activation.specs.Diamonds.{diamond}
+use Rattle.worker_tests.specs.Diamonds.{diamond}
 use Rattle.activation.specs.Rule.{has}
 use Rattle.activation.specs.Seats.{new_duty}
 use Rattle.activation.specs.Takens.{IsUnplayed, IsPlayed, with_started, with_held, with_released, with_left, with_looked}
-use Rattle.activation.proofs.Diamonds.{room_of}
-use Rattle.activation.proofs.tests.leaves_and_picks.Goals as goal
-
-abbrev memory : Counter → ℕ
-memory b = b.plays
-
-abbrev has_room : Counter → ℕ → Bool
-has_room b place = slice_index_or b.room place false
-
-abbrev value_at : Counter → ℕ → ℕ
-value_at b place = place
-
-abbrev after : ℕ → List ℕ → ℕ
-after m given = (m + 1) % 2 ^ 64
-
-abbrev gives : ℕ → List ℕ → ℕ → ℕ
-gives m given place = place
-
-rooms : (before : List Counter) → All (λ (b : Counter). b.room ≡ replicate 64 true) before → All (λ (b : Counter). (place : ℕ) → place < 64 → has_room b place ≡ true) before
-rooms before all k d low place few = ap (λ r. slice_index_or r place false) (all k d low) ∙ get_or-replicate 64 place true false few
+use Rattle.worker_tests.proofs.Stepping.{memory, has_room, value_at, after, gives, rooms, room_of}
+use Rattle.worker_tests.proofs.diamonds.leaves_and_picks.Goals as goal
 
 -- behind both starts, and behind the release of link 1
-abbrev started : List Counter → Duty Counter
+abbrev started : List Hasher → Duty Hasher
 started before = with_held (with_started (with_started (new_duty diamond before 1 (0 ∷ [])) 2) 0) 0
 
-abbrev picked : List Counter → ℕ → ℕ → Duty Counter
+abbrev picked : List Hasher → ℕ → ℕ → Duty Hasher
 picked before second left = with_held (with_looked (with_left (with_held (with_released (started before) 1) second) left) 2) 2
 
 pub release-requires-clause-room : goal.release-requires-clause-room

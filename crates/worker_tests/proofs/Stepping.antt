@@ -1,16 +1,39 @@
 -- For the tests: what the one seat of a diamond knows step by step.
-use Rattle.std.proofs.Common.{◌≡◌, ◌<◌, ℕ, Bool, true, false, List, [], ◌∷◌, All, sym, ◌∙◌, ap}
+use Rattle.std.proofs.Common.{◌≡◌, ◌<◌, ◌+◌, ◌%◌, ◌^◌, ℕ, Bool, true, false, List, [], ◌∷◌, All, replicate, sym, ◌∙◌, ap}
+use Rattle.std.specs.Prelude.{slice_index_or}
+use Rattle.std.proofs.lemmas.List.{get_or-replicate}
 use lib.ListN.{get_elem?}
 use Rattle.jack_types.specs.declared.ports.Link.{Link}
 use Rattle.session_model.specs.Activation.{link_at, place_among}
 use Rattle.activation.specs.declared.views.Tray.{Tray}
 use Rattle.activation.specs.declared.views.Duty.{Duty}
-use Rattle.activation.specs.Diamonds.{diamond}
 use Rattle.activation.specs.Rule.{has}
 use Rattle.activation.specs.Seats.{new_duty}
 use Rattle.activation.specs.Takens.{IsPlayed, IsUnplayed, with_started, with_held, with_released}
 use Rattle.activation.proofs.Listed.{one_of}
 use Rattle.activation.proofs.Waiting.{unplayed_same, has_room_at}
+use Rattle.worker_tests.specs.declared.benches.Hasher.{Hasher}
+use Rattle.worker_tests.specs.Diamonds.{diamond}
+use Rattle.worker_tests.specs.Hashes.{hashed}
+
+-- what contracts see of a bench
+abbrev pub memory : Hasher → ℕ
+memory b = b.hash
+
+abbrev pub has_room : Hasher → ℕ → Bool
+has_room b place = slice_index_or b.room place false
+
+abbrev pub value_at : Hasher → ℕ → ℕ
+value_at b place = (b.hash + place) % 2 ^ 64
+
+abbrev pub after : ℕ → List ℕ → ℕ
+after m given = hashed m given
+
+abbrev pub gives : ℕ → List ℕ → ℕ → ℕ
+gives m given place = (hashed m given + place) % 2 ^ 64
+
+pub rooms : (before : List Hasher) → All (λ (b : Hasher). b.room ≡ replicate 64 true) before → All (λ (b : Hasher). (place : ℕ) → place < 64 → has_room b place ≡ true) before
+rooms before all k d low place few = ap (λ r. slice_index_or r place false) (all k d low) ∙ get_or-replicate 64 place true false few
 
 module _ {B : Type 0} (before : List B) where
   -- behind the start of node 0; behind all starts; and behind the releases of the links 0 and 1

@@ -1,31 +1,11 @@
-use Rattle.std.proofs.Common.{rules, arith, ◌≡◌, ◌≢◌, ◌<◌, ◌+◌, ◌%◌, ◌^◌, ℕ, Bool, List, true, false, All, replicate, ap, ◌∙◌, sym, subst}
-use Rattle.std.specs.Prelude.{slice_index_or}
-use Rattle.std.proofs.lemmas.List.{get_or-replicate}
+use Rattle.std.proofs.Common.{rules, arith, ◌≡◌, ◌≢◌, ℕ, List, ap, ◌∙◌, sym, subst}
 use Rattle.session_model.specs.Activation.{link_at}
-use Rattle.activation.specs.declared.tests.Counter.{Counter}
+use Rattle.worker_tests.specs.declared.benches.Hasher.{Hasher}
 use Rattle.activation.specs.Rule.{has}
 use Rattle.activation.specs.Takens.{IsUnplayed, IsPlayed, with_released}
-use Rattle.activation.proofs.Diamonds.{one_started, all_started, one_released, two_released, first_waits, room_of}
+use Rattle.worker_tests.proofs.Stepping.{memory, has_room, value_at, after, gives, rooms, one_started, all_started, one_released, two_released, first_waits, room_of}
 use Rattle.activation.proofs.Waiting.{unplayed_at_taken, unplayed_at_released}
-use Rattle.activation.proofs.tests.takes_a_diamond.Goals as goal
-
-abbrev memory : Counter → ℕ
-memory b = b.plays
-
-abbrev has_room : Counter → ℕ → Bool
-has_room b place = slice_index_or b.room place false
-
-abbrev value_at : Counter → ℕ → ℕ
-value_at b place = place
-
-abbrev after : ℕ → List ℕ → ℕ
-after m given = (m + 1) % 2 ^ 64
-
-abbrev gives : ℕ → List ℕ → ℕ → ℕ
-gives m given place = place
-
-rooms : (before : List Counter) → All (λ (b : Counter). b.room ≡ replicate 64 true) before → All (λ (b : Counter). (place : ℕ) → place < 64 → has_room b place ≡ true) before
-rooms before all k d low place few = ap (λ r. slice_index_or r place false) (all k d low) ∙ get_or-replicate 64 place true false few
+use Rattle.worker_tests.proofs.diamonds.takes_a_diamond.Goals as goal
 
 pub release-requires-clause-room : goal.release-requires-clause-room
 release-requires-clause-room c κs =

@@ -1,8 +1,10 @@
-ghost use Rattle.std.specs.Prelude.{◌≡◌, ◌≤◌, List, [], ◌∷◌, length, map, true, All, IfOk, replicate};
-ghost use Rattle.activation.specs.Diamonds.{diamond};
+//! The steps of a crew over a diamond, each seat's by itself.
+ghost use Rattle.std.specs.Prelude.{◌≡◌, List, [], ◌∷◌, true, All, replicate};
 ghost use Rattle.activation.specs.Seats.{Sits, new_duty};
+ghost use Rattle.worker_tests.specs.Diamonds.{diamond};
 
-use crate::{Core, Crew, Seat, Step, Work};
+use crate::benches::{Hasher, hashers};
+use activation::{Core, Crew, Seat, Step};
 use jack_types::Link;
 use std::alloc::{AllocError, Global};
 use std::test::Fail;
@@ -35,49 +37,11 @@ fn a_diamond_takes_its_last_node_once(rt: HostRuntime) -> Result<(), Fail> {
     Ok(())
 }
 
-/// Counts its plays, and hands the place of each link.
-#[derive(Drop)]
-struct Counter {
-    plays: u64,
-    room: [bool; 64],
-}
-
-impl Work for Counter {
-    type Value = u64;
-
-    type Memory = u64;
-
-    ghost use Rattle.std.specs.Prelude.{slice_index_or, false, ◌+◌, ◌%◌, ◌^◌};
-
-    ghost memory = { λ b. b.plays };
-
-    ghost has_room = { λ b place. slice_index_or b.room place false };
-
-    ghost value_at = { λ b place. place };
-
-    ghost after = { λ m given. (m + 1) % 2 ^ 64 };
-
-    ghost gives = { λ m given place. place };
-
-    fn play(&mut self, _given: &[Option<u64>]) {
-        self.plays = self.plays.wrapping_add(1);
-    }
-
-    fn hand(&mut self, place: u32) -> u64 {
-        self.room[place as usize] = false;
-        u64::from(place)
-    }
-
-    fn back(&mut self, place: u32, _value: u64) {
-        self.room[place as usize] = true;
-    }
-}
-
 // The steps of one seat over a diamond: whether each took the node that it is to take.
-fn takes_a_diamond(crew: &Crew<Counter>, seat: &mut Seat<Counter>) -> bool
+fn takes_a_diamond(crew: &Crew<Hasher>, seat: &mut Seat<Hasher>) -> bool
     requires crew { (crew.now.links.items ≡ diamond) × (crew.now.nodes ≡ 4) × (crew.now.seats ≡ 1) }
     requires seat { Sits crew.now.board.shared.table_id diamond 4 1 0 seat.old.token × (seat.old.number ≡ 0) }
-    requires fresh { (before : List Counter) × (seat.old.token.me.0.duty ≡ new_duty diamond before 1 (0 ∷ [])) × All (λ b. b.room ≡ replicate 64 true) before }
+    requires fresh { (before : List Hasher) × (seat.old.token.me.0.duty ≡ new_duty diamond before 1 (0 ∷ [])) × All (λ b. b.room ≡ replicate 64 true) before }
 {
     let Some(mut first) = crew.start(seat, 0) else {
         return false;
@@ -110,10 +74,12 @@ fn takes_a_diamond(crew: &Crew<Counter>, seat: &mut Seat<Counter>) -> bool
 }
 
 // One seat leaves a node of a diamond and picks it: whether each call gave what it is to give.
-fn leaves_and_picks(crew: &Crew<Counter>, seat: &mut Seat<Counter>) -> bool
+//
+// Node 0 stays at 10 and hands 10 and 11; so node 2 makes 12 · 31 + 11 of the 12 that it begins with.
+fn leaves_and_picks(crew: &Crew<Hasher>, seat: &mut Seat<Hasher>) -> bool
     requires crew { (crew.now.links.items ≡ diamond) × (crew.now.nodes ≡ 4) × (crew.now.seats ≡ 1) }
     requires seat { Sits crew.now.board.shared.table_id diamond 4 1 0 seat.old.token × (seat.old.number ≡ 0) }
-    requires fresh { (before : List Counter) × (seat.old.token.me.0.duty ≡ new_duty diamond before 1 (0 ∷ [])) × All (λ b. b.room ≡ replicate 64 true) before }
+    requires fresh { (before : List Hasher) × (seat.old.token.me.0.duty ≡ new_duty diamond before 1 (0 ∷ [])) × All (λ b. b.room ≡ replicate 64 true) before }
 {
     if crew.start(seat, 2).is_some() {
         return false;
@@ -129,9 +95,7 @@ fn leaves_and_picks(crew: &Crew<Counter>, seat: &mut Seat<Counter>) -> bool
     let Some(mut second) = crew.pick(seat, 2) else {
         return false;
     };
-    let is_as_it_was = second.node() == 2
-        && second.tray.bench.plays == 12
-        && second.tray.given.as_slice() == [Some(1)].as_slice();
+    let is_as_it_was = second.node() == 2 && second.bench().hash == 12;
     second.play();
     if crew.release(seat, &mut second, 3).is_some() {
         return false;
@@ -142,11 +106,11 @@ fn leaves_and_picks(crew: &Crew<Counter>, seat: &mut Seat<Counter>) -> bool
     if crew.pick(seat, 3).is_some() {
         return false;
     }
-    is_as_it_was && second.tray.bench.plays == 13
+    is_as_it_was && second.bench().hash == 383
 }
 
 // One seat leaves a node of a diamond, and another one picks it: whether each call gave what it is to give.
-fn hands_over(crew: &Crew<Counter>, giver: &mut Seat<Counter>, taker: &mut Seat<Counter>) -> bool
+fn hands_over(crew: &Crew<Hasher>, giver: &mut Seat<Hasher>, taker: &mut Seat<Hasher>) -> bool
     requires crew { (crew.now.links.items ≡ diamond) × (crew.now.nodes ≡ 4) × (crew.now.seats ≡ 2) }
     requires giver { Sits crew.now.board.shared.table_id diamond 4 2 0 giver.old.token × (giver.old.number ≡ 0) × (giver.old.token.me.0.duty.started ≡ []) }
     requires taker { Sits crew.now.board.shared.table_id diamond 4 2 1 taker.old.token × (taker.old.number ≡ 1) }
@@ -161,26 +125,12 @@ fn hands_over(crew: &Crew<Counter>, giver: &mut Seat<Counter>, taker: &mut Seat<
     if crew.pick(giver, 0).is_some() {
         return false;
     }
-    picked.node() == 0 && picked.tray.bench.plays == 10
-}
-
-// Benches of four nodes, with all their room, of which the one of node n begins with n + 10.
-fn counters(alloc: Global) -> Result<Vec<Counter>, AllocError>
-    ensures { IfOk result (λ all. (length all.items ≡ 4) × All (λ b. b.room ≡ replicate 64 true) all.items) }
-{
-    let mut all = Vec::with_capacity(alloc, 4)?;
-    for node in 0..4u64 {
-        all.push_reserved(Counter {
-            plays: node + 10,
-            room: [true; 64],
-        });
-    }
-    Ok(all)
+    picked.node() == 0 && picked.bench().hash == 10
 }
 
 // A crew of one seat over a diamond, played by that seat.
 fn plays_a_diamond(alloc: Global) -> Result<bool, AllocError> {
-    let benches = counters(alloc)?;
+    let benches = hashers(alloc, 4, 10)?;
     let (crew, mut seats) = match Crew::new(alloc, &links_of_a_diamond(), benches, 1) {
         Ok(made) => made,
         Err((_, error)) => return Err(error),
@@ -196,7 +146,7 @@ fn a_crew_takes_the_nodes_of_a_diamond_in_turn(rt: HostRuntime) -> Result<(), Fa
 
 // A crew of one seat over a diamond, which leaves a node and picks it.
 fn leaves_a_node(alloc: Global) -> Result<bool, AllocError> {
-    let benches = counters(alloc)?;
+    let benches = hashers(alloc, 4, 10)?;
     let (crew, mut seats) = match Crew::new(alloc, &links_of_a_diamond(), benches, 1) {
         Ok(made) => made,
         Err((_, error)) => return Err(error),
@@ -212,7 +162,7 @@ fn a_picked_node_is_as_it_was_left(rt: HostRuntime) -> Result<(), Fail> {
 
 // A crew of two seats over a diamond, of which one leaves a node to the other.
 fn hands_a_node_over(alloc: Global) -> Result<bool, AllocError> {
-    let benches = counters(alloc)?;
+    let benches = hashers(alloc, 4, 10)?;
     let (crew, mut seats) = match Crew::new(alloc, &links_of_a_diamond(), benches, 2) {
         Ok(made) => made,
         Err((_, error)) => return Err(error),
