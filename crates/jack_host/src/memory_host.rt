@@ -52,6 +52,7 @@ impl MemoryHost {
     }
 
     /// Adds a file of a new name.
+    #[tactic(auto, using(crate::proofs::ListedLemmas::bytes_under_updates))]
     pub fn add(&mut self, name: &str, bytes: &[u8]) -> Result<(), Memory>
         requires { IsNone (bytes_under (host_files self.old) name.now) }
         ensures ok { OnOk result (Replaces (Some (host_files self.old)) (Some (host_files self.new)) name.now bytes.now) }
@@ -100,6 +101,7 @@ impl MemoryHost {
 }
 
 // Puts a file of these bytes under a name.
+#[tactic(auto, using(crate::proofs::ListedLemmas::bytes_under_updates))]
 fn put_file(
     alloc: Global,
     files: &mut BTreeMap<String, Vec<u8>>,
@@ -116,6 +118,7 @@ fn put_file(
 }
 
 // Puts an empty file of this name in place of what was there, and gives its store.
+#[tactic(auto, using(crate::proofs::ListedLemmas::bytes_under_updates))]
 fn make_empty(
     alloc: Global,
     files: &mut BTreeMap<String, Vec<u8>>,
@@ -183,6 +186,7 @@ impl Host for MemoryHost {
     ghost use Rattle.jack_host.specs.Memory.{source_left, source_faults, source_refused, source_next, store_name, store_bytes, store_faults, store_wants, store_refused, store_next};
     ghost use Rattle.jack_host.specs.MemoryHost.{host_files, host_refused, host_closing_refused, host_read_faults, host_write_faults, host_lent, host_wants, SameRefusals};
 
+    #[tactic(auto, using(crate::proofs::ListedLemmas::bytes_under_listed))]
     fn open_in(&mut self, name: &str) -> Result<MemorySource, Failed>
         requires { host_lent self.old < 1000 }
         ensures there { OnOk result (IsThere (Some (host_files self.old)) name.now) }
@@ -206,7 +210,7 @@ impl Host for MemoryHost {
         ensures input_next { IfOk result (λ input. source_next input ≡ 1) }
         ensures refusals { SameRefusals self.old self.new }
     {
-        let Some(bytes) = self.file(name) else {
+        let Some(bytes) = self.files.get(name) else {
             return Err(Failed);
         };
         let refused = refused_calls(&self.refusals, name);
