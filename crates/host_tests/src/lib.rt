@@ -1,4 +1,4 @@
-//! Tests of sources, stores, sinks and hosts, in memory and real.
+//! Tests of sources, stores, sinks and a host in memory, and of the gate that holds nobody.
 #![tactic(auto)]
 
 #[cfg(test)]

@@ -1,0 +1,11 @@
+//! Tests of files of the system: what is read, written, made and kept there.
+#![tactic(auto)]
+
+#[cfg(test)]
+mod kept;
+#[cfg(test)]
+mod refused;
+#[cfg(test)]
+mod steps;
+#[cfg(test)]
+mod written;
