@@ -1,11 +1,12 @@
 //! Words that are no command.
 
 ghost use Rattle.std.specs.Prelude.{IfOk};
-ghost use Rattle.told_reasons.specs.Reasons.{IsReason};
+ghost use Rattle.reason_text.specs.Reasons.{IsReason};
 
 use crate::forms::{GRAPH_OPTIONS, OPTIONS, PROGRAM};
 use crate::nearest::nearest;
-use crate::reason::Reason;
+use reason_text::Piece::{Number, Quoted, Shown, Text};
+use reason_text::Reason;
 use script_words::Words;
 use std::alloc::{AllocError, Global};
 
@@ -39,10 +40,12 @@ pub fn of_foreign_word(alloc: Global, number: u64, word: &[u8]) -> Result<Reason
     ensures { IfOk result IsReason }
 {
     let mut reason = Reason::new(alloc)?;
-    reason.say("word ")?;
-    reason.number(number)?;
-    reason.say(" is no UTF-8: ")?;
-    reason.show(word)?;
+    reason.tell(&[
+        Text("word "),
+        Number(number),
+        Text(" is no UTF-8: "),
+        Shown(word),
+    ])?;
     end_by_help(&mut reason)?;
     Ok(reason)
 }
@@ -67,9 +70,7 @@ fn say_meant(
     forms: &[&str],
 ) -> Result<(), AllocError> {
     if let Some(name) = nearest(alloc, word, forms)? {
-        reason.say("; is ")?;
-        reason.quote(name)?;
-        reason.say(" meant?")?;
+        reason.tell(&[Text("; is "), Quoted(name), Text(" meant?")])?;
     }
     Ok(())
 }
@@ -93,8 +94,7 @@ fn say_no_command(alloc: Global, reason: &mut Reason, word: &String) -> Result<(
     } else {
         "no command "
     };
-    reason.say(kind)?;
-    reason.quote(word.as_bytes())?;
+    reason.tell(&[Text(kind), Quoted(word.as_bytes())])?;
     say_meant(alloc, reason, word.as_bytes(), &PROGRAM)
 }
 
@@ -102,52 +102,69 @@ fn say_no_command(alloc: Global, reason: &mut Reason, word: &String) -> Result<(
 fn say_rehearsal(reason: &mut Reason, words: &[String]) -> Result<(), AllocError> {
     match words {
         [] => reason.say("rehearse needs a NUMBER from 0 to 4294967295"),
-        [number] => {
-            reason.quote(number.as_bytes())?;
-            reason.say(" is no number of one to ten digits, 4294967295 at most")
-        }
+        [number] => reason.tell(&[
+            Quoted(number.as_bytes()),
+            Text(" is no number of one to ten digits, 4294967295 at most"),
+        ]),
         [_, more, ..] => say_one_too_many(reason, more, 1),
     }
 }
 
 // Why the words behind `graph` ask for no graph. Where they do, the script has no such cycle.
 fn say_graph(alloc: Global, reason: &mut Reason, words: &[String]) -> Result<(), AllocError> {
-    for place in 0..SHOWN.len() {
-        if place >= words.len() {
-            reason.say("graph needs SCRIPT, REPORT and CYCLE; ")?;
-            reason.say(SHOWN[place])?;
-            return reason.say(" is missing");
-        }
-        let word = &words[place];
-        if word.as_str() == "--dot" {
-            return reason.say("\"--dot\" comes behind SCRIPT, REPORT and CYCLE");
-        }
-        if place + 1 < SHOWN.len() && say_name(reason, word, place)? {
-            return Ok(());
-        }
+    if say_shown(reason, words)? {
+        return Ok(());
     }
     match words {
-        [script, report, ..] if script == report => {
-            reason.say("words 2 and 3 name one file: ")?;
-            reason.show(script.as_bytes())
-        }
-        [_, _, cycle, ..] if !is_cycle(cycle.as_bytes()) => {
-            reason.quote(cycle.as_bytes())?;
-            reason.say(" is no cycle: a number from 1 to 4294967295 of one to ten digits")
-        }
-        [_, _, _, option, more, ..] if option.as_str() == "--dot" => {
-            say_one_too_many(reason, more, 4)
-        }
+        [script, report, ..] if script == report => reason.tell(&[
+            Text("words 2 and 3 name one file: "),
+            Shown(script.as_bytes()),
+        ]),
+        [_, _, cycle, ..] if !is_cycle(cycle.as_bytes()) => reason.tell(&[
+            Quoted(cycle.as_bytes()),
+            Text(" is no cycle: a number from 1 to 4294967295 of one to ten digits"),
+        ]),
         [_, _, _, option, ..] if option.as_str() != "--dot" => {
             say_no_graph_option(alloc, reason, option)
         }
-        [script, _, cycle, ..] => {
-            reason.show(script.as_bytes())?;
-            reason.say(": has no cycle ")?;
-            reason.show(cycle.as_bytes())
-        }
+        [_, _, _, _, more, ..] => say_one_too_many(reason, more, 4),
+        [script, _, cycle, ..] => reason.tell(&[
+            Shown(script.as_bytes()),
+            Text(": has no cycle "),
+            Shown(cycle.as_bytes()),
+        ]),
         _ => Ok(()),
     }
+}
+
+// Tells what is wrong of the words of a graph before its option, each by itself, if something is.
+fn say_shown(reason: &mut Reason, words: &[String]) -> Result<bool, AllocError> {
+    for place in 0..SHOWN.len() {
+        if place >= words.len() {
+            reason.tell(&[
+                Text("graph needs SCRIPT, REPORT and CYCLE; "),
+                Text(SHOWN[place]),
+                Text(" is missing"),
+            ])?;
+            return Ok(true);
+        }
+        if say_shown_word(reason, &words[place], place)? {
+            return Ok(true);
+        }
+    }
+    Ok(false)
+}
+
+// Tells what is wrong of such a word, if something is. The last of them names no file.
+fn say_shown_word(reason: &mut Reason, word: &String, place: usize) -> Result<bool, AllocError> {
+    if word.as_str() == "--dot" {
+        reason.say("\"--dot\" comes behind SCRIPT, REPORT and CYCLE")?;
+        return Ok(true);
+    }
+    if place >= SHOWN.len() - 1 {
+        return Ok(false);
+    }
+    say_name(reason, word, place)
 }
 
 fn is_cycle(word: &[u8]) -> bool {
@@ -163,8 +180,7 @@ fn say_no_graph_option(
     word: &String,
 ) -> Result<(), AllocError> {
     if word.as_bytes().first() == Some(&b'-') {
-        reason.say("no option ")?;
-        reason.quote(word.as_bytes())?;
+        reason.tell(&[Text("no option "), Quoted(word.as_bytes())])?;
     } else {
         say_one_too_many(reason, word, 3)?;
     }
@@ -175,9 +191,11 @@ fn say_no_graph_option(
 fn say_play(alloc: Global, reason: &mut Reason, words: &[String]) -> Result<(), AllocError> {
     for place in 0..NAMED.len() {
         if place >= words.len() {
-            reason.say("play needs SCRIPT, CAPTURE and PLAYBACK; ")?;
-            reason.say(NAMED[place])?;
-            return reason.say(" is missing");
+            return reason.tell(&[
+                Text("play needs SCRIPT, CAPTURE and PLAYBACK; "),
+                Text(NAMED[place]),
+                Text(" is missing"),
+            ]);
         }
         if say_name(reason, &words[place], place)? {
             return Ok(());
@@ -192,34 +210,31 @@ fn say_play(alloc: Global, reason: &mut Reason, words: &[String]) -> Result<(), 
 // Tells why a word is no name of a file, if it is none.
 fn say_name(reason: &mut Reason, word: &String, place: usize) -> Result<bool, AllocError> {
     match word.as_bytes() {
-        [] => {
-            reason.say("word ")?;
-            reason.number(number_of(place))?;
-            reason.say(" is empty, and names no file")?;
-            Ok(true)
-        }
-        [b'-', ..] => {
-            if is_option(word) {
-                say_early_option(reason, word, place)?;
-                return Ok(true);
-            }
-            reason.say("word ")?;
-            reason.number(number_of(place))?;
-            reason.say(" begins with \"-\"; a file is named ./")?;
-            reason.show(word.as_bytes())?;
-            Ok(true)
-        }
-        _ => Ok(false),
+        [] => reason.tell(&[
+            Text("word "),
+            Number(number_of(place)),
+            Text(" is empty, and names no file"),
+        ])?,
+        [b'-', ..] if is_option(word) => say_early_option(reason, word, place)?,
+        [b'-', ..] => reason.tell(&[
+            Text("word "),
+            Number(number_of(place)),
+            Text(" begins with \"-\"; a file is named ./"),
+            Shown(word.as_bytes()),
+        ])?,
+        _ => return Ok(false),
     }
+    Ok(true)
 }
 
 // Tells of an option where a name is expected.
 fn say_early_option(reason: &mut Reason, word: &String, place: usize) -> Result<(), AllocError> {
-    reason.quote(word.as_bytes())?;
-    if place < NAMED.len() {
-        return reason.say(" comes behind SCRIPT, CAPTURE and PLAYBACK");
-    }
-    reason.say(" stands where a path is needed")
+    let wrong = if place < NAMED.len() {
+        " comes behind SCRIPT, CAPTURE and PLAYBACK"
+    } else {
+        " stands where a path is needed"
+    };
+    reason.tell(&[Quoted(word.as_bytes()), Text(wrong)])
 }
 
 fn is_option(word: &String) -> bool {
@@ -231,6 +246,18 @@ fn is_option(word: &String) -> bool {
 struct Met {
     records: usize,
     disks: usize,
+}
+
+impl Met {
+    // Counts an option, and answers whether its kind was met no more than four times.
+    fn takes(&mut self, is_disk: bool) -> bool {
+        if is_disk {
+            self.disks = self.disks.saturating_add(1);
+        } else {
+            self.records = self.records.saturating_add(1);
+        }
+        self.disks <= MOST_FILES && self.records <= MOST_FILES
+    }
 }
 
 // Tells what is wrong of the options and their paths, if something is.
@@ -263,29 +290,19 @@ fn say_pair(
     is_last: bool,
     met: &mut Met,
 ) -> Result<bool, AllocError> {
+    let is_disk = option.as_str() == "--disk";
     if !is_option(option) {
         say_no_option(alloc, reason, option, place)?;
-        return Ok(true);
-    }
-    if is_last {
-        reason.quote(option.as_bytes())?;
-        reason.say(" needs a path")?;
-        return Ok(true);
-    }
-    if option.as_str() == "--disk" {
-        met.disks = met.disks.saturating_add(1);
-    } else if met.disks > 0 {
+    } else if is_last {
+        reason.tell(&[Quoted(option.as_bytes()), Text(" needs a path")])?;
+    } else if met.disks > 0 && !is_disk {
         reason.say("\"--record\" stands before \"--disk\"")?;
-        return Ok(true);
+    } else if !met.takes(is_disk) {
+        reason.tell(&[Quoted(option.as_bytes()), Text(" stands more than 4 times")])?;
     } else {
-        met.records = met.records.saturating_add(1);
+        return Ok(false);
     }
-    if met.records > MOST_FILES || met.disks > MOST_FILES {
-        reason.quote(option.as_bytes())?;
-        reason.say(" stands more than 4 times")?;
-        return Ok(true);
-    }
-    Ok(false)
+    Ok(true)
 }
 
 // Tells of a word that is no option of a play.
@@ -296,43 +313,54 @@ fn say_no_option(
     place: usize,
 ) -> Result<(), AllocError> {
     if word.as_bytes().first() == Some(&b'-') {
-        reason.say("no option ")?;
-        reason.quote(word.as_bytes())?;
-        return say_meant(alloc, reason, word.as_bytes(), &OPTIONS);
+        reason.tell(&[Text("no option "), Quoted(word.as_bytes())])?;
+    } else {
+        say_one_too_many(reason, word, place)?;
     }
-    say_one_too_many(reason, word, place)?;
     say_meant(alloc, reason, word.as_bytes(), &OPTIONS)
 }
 
 // Tells of a word behind the last one.
 fn say_one_too_many(reason: &mut Reason, word: &String, place: usize) -> Result<(), AllocError> {
-    reason.say("word ")?;
-    reason.number(number_of(place))?;
-    reason.say(" is one too many: ")?;
-    reason.quote(word.as_bytes())
+    reason.tell(&[
+        Text("word "),
+        Number(number_of(place)),
+        Text(" is one too many: "),
+        Quoted(word.as_bytes()),
+    ])
 }
 
 // Tells which two words name one file.
 fn say_same(reason: &mut Reason, words: &[String]) -> Result<(), AllocError> {
     for second in 0..words.len() {
-        for first in 0..second {
-            if is_named_at(words.len(), first)
-                && is_named_at(words.len(), second)
-                && words[first] == words[second]
-            {
-                reason.say("words ")?;
-                reason.number(number_of(first))?;
-                reason.say(" and ")?;
-                reason.number(number_of(second))?;
-                reason.say(" name one file: ")?;
-                return reason.show(words[first].as_bytes());
-            }
+        if let Some(first) = same_before(words, second) {
+            return reason.tell(&[
+                Text("words "),
+                Number(number_of(first)),
+                Text(" and "),
+                Number(number_of(second)),
+                Text(" name one file: "),
+                Shown(words[second].as_bytes()),
+            ]);
         }
     }
     reason.say("these words are no command")
 }
 
+// The place of the first word that names the file of a later one.
+fn same_before(words: &[String], place: usize) -> Option<usize> {
+    if place >= words.len() || !is_name(place) {
+        return None;
+    }
+    for first in 0..place {
+        if is_name(first) && words[first] == words[place] {
+            return Some(first);
+        }
+    }
+    None
+}
+
 // Whether the word at a place behind `play` is a name, and no option.
-fn is_named_at(count: usize, place: usize) -> bool {
-    place < count && (place < NAMED.len() || place % 2 == 0)
+fn is_name(place: usize) -> bool {
+    place < NAMED.len() || place % 2 == 0
 }

@@ -2,10 +2,11 @@
 
 ghost use Rattle.std.specs.Prelude.{◌≡◌, ◌+◌, ◌≤◌, IfOk, length};
 ghost use Rattle.session_model.specs.WaveFiles.{u16_at as u16_number, u32_at as u32_number};
-ghost use Rattle.told_reasons.specs.Reasons.{IsReason};
+ghost use Rattle.reason_text.specs.Reasons.{IsReason};
 ghost use Rattle.told_reasons.specs.Standings.{frames_in, is_unfinished};
 
-use crate::reason::Reason;
+use reason_text::Piece::{Counted, Shown, Text};
+use reason_text::Reason;
 use std::alloc::{AllocError, Global};
 use std::io;
 
@@ -20,7 +21,7 @@ fn say_file(reason: &mut Reason, name: &str) -> Result<(), AllocError> {
     if name.is_empty() {
         return reason.say("a name of more than 4096 bytes");
     }
-    reason.show(name.as_bytes())
+    reason.tell(&[Shown(name.as_bytes())])
 }
 
 // The system's reason, without its number.
@@ -28,8 +29,8 @@ fn say_system(alloc: Global, reason: &mut Reason, error: io::Error) -> Result<()
     let text = format!(in alloc; "{error}")?;
     let bytes = text.as_bytes();
     match text.as_str().find(" (os error ") {
-        Some(end) if end <= bytes.len() => reason.show(&bytes[..end]),
-        _ => reason.show(bytes),
+        Some(end) if end <= bytes.len() => reason.tell(&[Shown(&bytes[..end])]),
+        _ => reason.tell(&[Shown(bytes)]),
     }
 }
 
@@ -71,14 +72,20 @@ pub fn standing_in(front: &[u8], bytes: u64) -> Option<u64>
     Some(bytes.saturating_sub(44) / u64::from(u16_at(front, 32)))
 }
 
-/// Why a file could not be read.
-pub fn of_input(alloc: Global, name: &str, error: io::Error) -> Result<Reason, AllocError>
-    ensures { IfOk result IsReason }
-{
+// A file's name and the system's reason, in a line that goes on.
+fn of_file(alloc: Global, name: &str, error: io::Error) -> Result<Reason, AllocError> {
     let mut reason = Reason::new(alloc)?;
     say_file(&mut reason, name)?;
     reason.say(": ")?;
     say_system(alloc, &mut reason, error)?;
+    Ok(reason)
+}
+
+/// Why a file could not be read.
+pub fn of_input(alloc: Global, name: &str, error: io::Error) -> Result<Reason, AllocError>
+    ensures { IfOk result IsReason }
+{
+    let mut reason = of_file(alloc, name, error)?;
     reason.end_line()?;
     Ok(reason)
 }
@@ -92,14 +99,13 @@ pub fn of_writing(
 ) -> Result<Reason, AllocError>
     ensures { IfOk result IsReason }
 {
-    let mut reason = Reason::new(alloc)?;
-    say_file(&mut reason, name)?;
-    reason.say(": ")?;
-    say_system(alloc, &mut reason, error)?;
+    let mut reason = of_file(alloc, name, error)?;
     if let Some(frames) = standing {
-        reason.say("; ")?;
-        reason.counted(frames, "frame stands", "frames stand")?;
-        reason.say(", sizes unset (sox --ignore-length reads it)")?;
+        reason.tell(&[
+            Text("; "),
+            Counted(frames, "frame stands", "frames stand"),
+            Text(", sizes unset (sox --ignore-length reads it)"),
+        ])?;
     }
     reason.end_line()?;
     Ok(reason)
@@ -109,33 +115,32 @@ pub fn of_writing(
 pub fn of_making(alloc: Global, name: &str, error: io::Error) -> Result<Reason, AllocError>
     ensures { IfOk result IsReason }
 {
-    let mut reason = Reason::new(alloc)?;
-    say_file(&mut reason, name)?;
-    reason.say(": ")?;
-    say_system(alloc, &mut reason, error)?;
+    let mut reason = of_file(alloc, name, error)?;
     reason.say("; nothing was written")?;
     reason.end_line()?;
     Ok(reason)
 }
 
 /// Why a file is not made in place of one that is open: `what` it is, and the name by which it was opened.
-pub fn of_open_output(
+pub fn of_open_output<'a>(
     alloc: Global,
-    name: &str,
-    what: &str,
-    other: &str,
+    name: &'a str,
+    what: &'a str,
+    other: &'a str,
 ) -> Result<Reason, AllocError>
     ensures { IfOk result IsReason }
 {
-    let mut reason = Reason::new(alloc)?;
-    reason.show(name.as_bytes())?;
-    reason.say(": is the ")?;
-    reason.say(what)?;
-    reason.say(" ")?;
-    reason.show(other.as_bytes())?;
-    reason.say("; nothing was written")?;
-    reason.end_line()?;
-    Ok(reason)
+    Reason::line(
+        alloc,
+        &[
+            Shown(name.as_bytes()),
+            Text(": is the "),
+            Text(what),
+            Text(" "),
+            Shown(other.as_bytes()),
+            Text("; nothing was written"),
+        ],
+    )
 }
 
 /// Why the report could not be put out, where all files were written.
@@ -166,8 +171,7 @@ fn of_sink(alloc: Global, error: io::Error, end: &str) -> Result<Reason, AllocEr
     let mut reason = Reason::new(alloc)?;
     reason.say("standard output: ")?;
     say_system(alloc, &mut reason, error)?;
-    reason.say("; ")?;
-    reason.say(end)?;
+    reason.tell(&[Text("; "), Text(end)])?;
     reason.end_line()?;
     Ok(reason)
 }

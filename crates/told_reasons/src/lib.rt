@@ -8,12 +8,9 @@ mod forms;
 mod graphs;
 mod lines;
 mod nearest;
-mod reason;
 mod refusals;
 mod rereading;
 mod scripts;
-#[cfg(test)]
-mod tests;
 mod walking;
 mod waves;
 
@@ -23,7 +20,7 @@ pub use failures::{
     of_graph, of_input, of_making, of_open_output, of_report, of_summary, of_writing, standing_in,
 };
 pub use graphs::of_wrong;
-pub use reason::Reason;
+pub use reason_text::Reason;
 pub use refusals::of_refusals;
 pub use rereading::read_again;
 pub use scripts::of_script;

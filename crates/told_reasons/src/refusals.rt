@@ -1,11 +1,12 @@
 //! Calls of a session that were refused.
 
 ghost use Rattle.std.specs.Prelude.{IfOk};
-ghost use Rattle.told_reasons.specs.Reasons.{IsReason};
+ghost use Rattle.reason_text.specs.Reasons.{IsReason};
 
 use crate::lines::{behind, call_at, line_at, readable, word_at};
-use crate::reason::Reason;
 use jack_types::Refusal;
+use reason_text::Piece::{Counted, Number, Shown, Text};
+use reason_text::Reason;
 use refused_calls::{Notes, Refused};
 use std::alloc::{AllocError, Global};
 
@@ -25,15 +26,17 @@ pub fn of_refusals(
         reason.end_line()?;
         reason.begin_line()?;
     }
-    reason.number(notes.refused())?;
-    reason.say(" of ")?;
-    reason.counted(notes.calls(), "call", "calls")?;
     let rest = if notes.refused() == 1 {
         " was refused"
     } else {
         " were refused"
     };
-    reason.say(rest)?;
+    reason.tell(&[
+        Number(notes.refused()),
+        Text(" of "),
+        Counted(notes.calls(), "call", "calls"),
+        Text(rest),
+    ])?;
     reason.end_line()?;
     Ok(reason)
 }
@@ -44,30 +47,47 @@ fn say_call(
     text: &[u8],
     call: &Refused,
 ) -> Result<(), AllocError> {
-    reason.show(script.as_bytes())?;
-    let mut command = &text[..0];
-    if let Some((number, words)) = call_at(text, call.lane, call.index) {
-        command = behind(line_at(text, number), words);
-        reason.say(":")?;
-        reason.number(u64::from(number))?;
-        reason.say(": ")?;
-        reason.show(command)?;
-    } else {
-        reason.say(": call ")?;
-        reason.number(call.index)?;
-        reason.say(" of lane ")?;
-        reason.number(call.lane)?;
+    let command = say_command(reason, script, text, call)?;
+    reason.tell(&[
+        Text(": refused "),
+        Number(u64::from(call.refusal.number())),
+        Text(" "),
+        Text(call.refusal.name()),
+    ])?;
+    if command.is_empty() {
+        return Ok(());
     }
-    reason.say(": refused ")?;
-    reason.number(u64::from(call.refusal.number()))?;
-    reason.say(" ")?;
-    reason.say(call.refusal.name())?;
-    if !command.is_empty() {
-        reason.say(" (")?;
-        say_why(reason, command, call.refusal)?;
-        reason.say(")")?;
-    }
-    Ok(())
+    reason.say(" (")?;
+    say_why(reason, command, call.refusal)?;
+    reason.say(")")
+}
+
+// Which call it is. The answer is its command; it is empty where the script has no such line.
+fn say_command<'a>(
+    reason: &mut Reason,
+    script: &'a str,
+    text: &'a [u8],
+    call: &Refused,
+) -> Result<&'a [u8], AllocError> {
+    let Some((number, words)) = call_at(text, call.lane, call.index) else {
+        reason.tell(&[
+            Shown(script.as_bytes()),
+            Text(": call "),
+            Number(call.index),
+            Text(" of lane "),
+            Number(call.lane),
+        ])?;
+        return Ok(&text[..0]);
+    };
+    let command = behind(line_at(text, number), words);
+    reason.tell(&[
+        Shown(script.as_bytes()),
+        Text(":"),
+        Number(u64::from(number)),
+        Text(": "),
+        Shown(command),
+    ])?;
+    Ok(command)
 }
 
 // The client of a name, or of a port's name.
@@ -90,87 +110,64 @@ fn say_why(reason: &mut Reason, command: &[u8], refusal: Refusal) -> Result<(), 
     let second = word_at(command, 2);
     let client = client_of(first);
     match refusal {
-        Refusal::NoClient => {
-            reason.say("no client ")?;
-            reason.show(client)?;
-            reason.say(" is open")
-        }
-        Refusal::NoPort => {
-            reason.say("there is no port ")?;
-            reason.show(if word_at(command, 0) == b"latency".as_slice() {
-                second
-            } else {
-                first
-            })
-        }
-        Refusal::IsOpen => {
-            reason.show(client)?;
-            reason.say(" is open already")
-        }
+        Refusal::NoClient => reason.tell(&[Text("no client "), Shown(client), Text(" is open")]),
+        Refusal::NoPort => reason.tell(&[Text("there is no port "), Shown(port_of(command))]),
+        Refusal::IsOpen => reason.tell(&[Shown(client), Text(" is open already")]),
         Refusal::IsSystem => reason.say("system is not a client that a call changes"),
         Refusal::NameTaken => {
-            reason.say("there is a port ")?;
-            reason.show(first)?;
-            reason.say(" already")
+            reason.tell(&[Text("there is a port "), Shown(first), Text(" already")])
         }
-        Refusal::AlreadyActive => {
-            reason.show(client)?;
-            reason.say(" is active already")
-        }
-        Refusal::NotActive => {
-            reason.show(client)?;
-            reason.say(" is not active")
-        }
+        Refusal::AlreadyActive => reason.tell(&[Shown(client), Text(" is active already")]),
+        Refusal::NotActive => reason.tell(&[Shown(client), Text(" is not active")]),
         Refusal::ClientsFull => reason.say("64 clients are open"),
         Refusal::PortsFull => {
-            reason.show(client)?;
-            reason.say(" has 16 ports of this direction")
+            reason.tell(&[Shown(client), Text(" has 16 ports of this direction")])
         }
-        Refusal::NoSource => {
-            reason.say("there is no port ")?;
-            reason.show(first)
-        }
-        Refusal::NoDestination => {
-            reason.say("there is no port ")?;
-            reason.show(second)
-        }
-        Refusal::NotOutput => {
-            reason.show(first)?;
-            reason.say(" is an input")
-        }
-        Refusal::NotInput => {
-            reason.show(second)?;
-            reason.say(" is an output")
-        }
+        Refusal::NoSource => reason.tell(&[Text("there is no port "), Shown(first)]),
+        Refusal::NoDestination => reason.tell(&[Text("there is no port "), Shown(second)]),
+        Refusal::NotOutput => reason.tell(&[Shown(first), Text(" is an input")]),
+        Refusal::NotInput => reason.tell(&[Shown(second), Text(" is an output")]),
         Refusal::TypeDiffers => reason.say("one is audio, the other midi"),
         Refusal::Inactive => say_inactive(reason, client, client_of(second)),
         Refusal::Exists => reason.say("they are connected already"),
         Refusal::Full => reason.say("there are 512 connections"),
         Refusal::NotConnected => reason.say("they are not connected"),
         Refusal::Busy => reason.say("another client is the master"),
-        Refusal::NotMaster => {
-            reason.show(client)?;
-            reason.say(" is not the master")
-        }
-        Refusal::InUse => {
-            reason.show(second)?;
-            reason.say(" ")?;
-            reason.show(word_at(command, 3))?;
-            reason.say(" belongs to another open client")
-        }
+        Refusal::NotMaster => reason.tell(&[Shown(client), Text(" is not the master")]),
+        Refusal::InUse => reason.tell(&[
+            Shown(second),
+            Text(" "),
+            Shown(word_at(command, 3)),
+            Text(" belongs to another open client"),
+        ]),
+    }
+}
+
+// The port that a command names, where it names one.
+fn port_of(command: &[u8]) -> &[u8] {
+    if word_at(command, 0) == b"latency".as_slice() {
+        word_at(command, 2)
+    } else {
+        word_at(command, 1)
     }
 }
 
 // Which client is not active, as far as the names tell: the system is always.
-fn say_inactive(reason: &mut Reason, source: &[u8], destination: &[u8]) -> Result<(), AllocError> {
+fn say_inactive<'a>(
+    reason: &mut Reason,
+    source: &'a [u8],
+    destination: &'a [u8],
+) -> Result<(), AllocError> {
     if is_system(source) || source == destination {
-        reason.show(destination)?;
-        return reason.say(" is not active");
+        return reason.tell(&[Shown(destination), Text(" is not active")]);
     }
-    reason.show(source)?;
-    if !is_system(destination) {
-        reason.say(" or ")?;
-        reason.show(destination)?;
+    if is_system(destination) {
+        return reason.tell(&[Shown(source), Text(" is not active")]);
     }
-    reason.say(" is not active")
+    reason.tell(&[
+        Shown(source),
+        Text(" or "),
+        Shown(destination),
+        Text(" is not active"),
+    ])
 }

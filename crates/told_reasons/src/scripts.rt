@@ -1,14 +1,15 @@
 //! Scripts that are not played.
 
 ghost use Rattle.std.specs.Prelude.{IfOk};
-ghost use Rattle.told_reasons.specs.Reasons.{IsReason};
+ghost use Rattle.reason_text.specs.Reasons.{IsReason};
 
 use crate::forms::{HEADER, KINDS, LINES, MODES};
 use crate::lines::{line_at, readable, said_before, word_at};
 use crate::nearest::{name_of, nearest};
-use crate::reason::Reason;
 use crate::walking::{Choice, Departure, departure_of};
 use jack_types::{Cause, Many, NameFault, ScriptFault};
+use reason_text::Piece::{Number, Quoted, Shown, Signed, Text};
+use reason_text::Reason;
 use std::alloc::{AllocError, Global};
 
 // What stands before a text of another encoding, or of this one by some programs.
@@ -45,10 +46,9 @@ pub fn of_script(
         is_marked: is_marked(text),
     };
     let mut reason = Reason::new(alloc)?;
-    reason.show(name.as_bytes())?;
+    reason.tell(&[Shown(name.as_bytes())])?;
     if fault.line > 0 {
-        reason.say(":")?;
-        reason.number(u64::from(fault.line))?;
+        reason.tell(&[Text(":"), Number(u64::from(fault.line))])?;
     }
     reason.say(": ")?;
     say_cause(alloc, &mut reason, fault, &faulty)?;
@@ -92,49 +92,50 @@ fn say_header(reason: &mut Reason, faulty: &Faulty<'_>, line: u32) -> Result<(),
     if faulty.place >= HEADER.len() {
         return reason.say("a line of the header is expected here");
     }
-    reason.quote(name_of(HEADER[faulty.place]))?;
-    reason.say(" is expected here")
+    reason.tell(&[
+        Quoted(name_of(HEADER[faulty.place])),
+        Text(" is expected here"),
+    ])
 }
 
 // What a word of this choice is called where it is unknown.
-fn say_no(reason: &mut Reason, choice: Choice) -> Result<(), AllocError> {
+fn unknown(choice: Choice) -> &'static str {
     match choice {
-        Choice::Line => reason.say("no line "),
-        Choice::Command => reason.say("no command "),
-        Choice::Kind => reason.say("no kind "),
-        Choice::Mode => reason.say("no mode "),
-        Choice::Word => reason.say("no word "),
+        Choice::Line => "no line ",
+        Choice::Command => "no command ",
+        Choice::Kind => "no kind ",
+        Choice::Mode => "no mode ",
+        Choice::Word => "no word ",
     }
 }
 
 // The names of forms, with `or` before the last.
 fn say_names(reason: &mut Reason, forms: &[&str]) -> Result<(), AllocError> {
     for place in 0..forms.len() {
-        if place > 0 && place + 1 == forms.len() {
-            reason.say(" or ")?;
-        } else if place > 0 {
-            reason.say(", ")?;
-        }
-        reason.show(name_of(forms[place]))?;
+        let before = if place == 0 {
+            ""
+        } else if place + 1 == forms.len() {
+            " or "
+        } else {
+            ", "
+        };
+        reason.tell(&[Text(before), Shown(name_of(forms[place]))])?;
     }
     Ok(())
 }
 
 // A word is none of those that may stand there.
 fn say_unknown(alloc: Global, reason: &mut Reason, faulty: &Faulty<'_>) -> Result<(), AllocError> {
-    if let Departure::Unknown(choice, word, known) = departure_of(faulty.line, faulty.place) {
-        say_no(reason, choice)?;
-        reason.quote(word)?;
-        if let Some(name) = nearest(alloc, word, known)? {
-            reason.say("; is ")?;
-            reason.quote(name)?;
-            return reason.say(" meant?");
-        }
-        reason.say("; ")?;
-        say_names(reason, known)?;
-        return reason.say(" is expected");
+    let Departure::Unknown(choice, word, known) = departure_of(faulty.line, faulty.place) else {
+        return say_elsewhere(reason, faulty);
+    };
+    reason.tell(&[Text(unknown(choice)), Quoted(word)])?;
+    if let Some(name) = nearest(alloc, word, known)? {
+        return reason.tell(&[Text("; is "), Quoted(name), Text(" meant?")]);
     }
-    say_elsewhere(reason, faulty)
+    reason.say("; ")?;
+    say_names(reason, known)?;
+    reason.say(" is expected")
 }
 
 // A word is one that stands elsewhere, or in another version.
@@ -144,8 +145,10 @@ fn say_elsewhere(reason: &mut Reason, faulty: &Faulty<'_>) -> Result<(), AllocEr
     }
     let name = word_at(faulty.line, 0);
     if is_optional(name) {
-        reason.quote(name)?;
-        return reason.say(" is a line of the header, and not in this place or version");
+        return reason.tell(&[
+            Quoted(name),
+            Text(" is a line of the header, and not in this place or version"),
+        ]);
     }
     if name == b"period".as_slice() {
         return reason.say("\"period\" stands in the body from version 2 on, without disks");
@@ -164,9 +167,7 @@ fn is_optional(name: &[u8]) -> bool {
 
 fn say_new_mode(reason: &mut Reason, mode: &[u8]) -> Result<(), AllocError> {
     if name_of(MODES[2]) == mode {
-        reason.say("mode ")?;
-        reason.quote(mode)?;
-        return reason.say(" is of version 3");
+        return reason.tell(&[Text("mode "), Quoted(mode), Text(" is of version 3")]);
     }
     reason.say("a word is not known here")
 }
@@ -174,28 +175,28 @@ fn say_new_mode(reason: &mut Reason, mode: &[u8]) -> Result<(), AllocError> {
 fn say_new_kind(reason: &mut Reason, line: &[u8]) -> Result<(), AllocError> {
     for place in 0..9 {
         let word = word_at(line, place);
-        for form in &KINDS[9..] {
-            if name_of(form) == word {
-                reason.say("kind ")?;
-                reason.quote(word)?;
-                return reason.say(" is of version 3");
-            }
+        if is_new_kind(word) {
+            return reason.tell(&[Text("kind "), Quoted(word), Text(" is of version 3")]);
         }
     }
     reason.say("a word is not known here")
 }
 
+fn is_new_kind(word: &[u8]) -> bool {
+    for form in &KINDS[9..] {
+        if name_of(form) == word {
+            return true;
+        }
+    }
+    false
+}
+
 // A word is missing or left over.
 fn say_count(reason: &mut Reason, faulty: &Faulty<'_>) -> Result<(), AllocError> {
     match departure_of(faulty.line, faulty.place) {
-        Departure::Missing(form) => {
-            reason.say("a word is missing: ")?;
-            reason.say(form)
-        }
+        Departure::Missing(form) => { reason.tell(&[Text("a word is missing: "), Text(form)]) }
         Departure::LeftOver(word, form) => {
-            reason.quote(word)?;
-            reason.say(" is left over: ")?;
-            reason.say(form)
+            reason.tell(&[Quoted(word), Text(" is left over: "), Text(form)])
         }
         _ => reason.say("a word is missing or left over"),
     }
@@ -205,8 +206,7 @@ fn say_count(reason: &mut Reason, faulty: &Faulty<'_>) -> Result<(), AllocError>
 fn say_no_number(reason: &mut Reason, faulty: &Faulty<'_>) -> Result<(), AllocError> {
     match departure_of(faulty.line, faulty.place) {
         Departure::NoNumber(word) => {
-            reason.quote(word)?;
-            reason.say(" is no number of 1 to 10 digits")
+            reason.tell(&[Quoted(word), Text(" is no number of 1 to 10 digits")])
         }
         _ if word_at(faulty.line, 0) == b"event".as_slice() => {
             reason.say("an event is 1 to 16 bytes, each two lower-case hexadecimal digits")
@@ -217,15 +217,21 @@ fn say_no_number(reason: &mut Reason, faulty: &Faulty<'_>) -> Result<(), AllocEr
 
 // A number is outside its range.
 fn say_range(reason: &mut Reason, given: i64, least: i64, most: i64) -> Result<(), AllocError> {
-    reason.say("\"")?;
-    reason.signed(given)?;
     if most < least {
-        return reason.say("\" is the number of none: the header has no such line");
+        return reason.tell(&[
+            Text("\""),
+            Signed(given),
+            Text("\" is the number of none: the header has no such line"),
+        ]);
     }
-    reason.say("\" is outside ")?;
-    reason.signed(least)?;
-    reason.say(" to ")?;
-    reason.signed(most)
+    reason.tell(&[
+        Text("\""),
+        Signed(given),
+        Text("\" is outside "),
+        Signed(least),
+        Text(" to "),
+        Signed(most),
+    ])
 }
 
 // A name is refused.
@@ -242,22 +248,25 @@ fn say_name(reason: &mut Reason, faulty: &Faulty<'_>, fault: NameFault) -> Resul
 fn say_choice(reason: &mut Reason, faulty: &Faulty<'_>, given: u64) -> Result<(), AllocError> {
     let name = word_at(faulty.line, 0);
     if name == b"jackd".as_slice() {
-        reason.say("version ")?;
-        reason.number(given)?;
-        if given == 3 {
-            return reason.say(" is not played yet; 1 and 2 are");
-        }
-        return reason.say(" is none; 1, 2 and 3 are");
+        return say_version(reason, given);
     }
     if name == b"period".as_slice() {
-        reason.number(given)?;
-        return reason.say(" is no power of two");
+        return reason.tell(&[Number(given), Text(" is no power of two")]);
     }
     if name == b"event".as_slice() {
         return reason.say("an event's first byte is 80 to ff");
     }
-    reason.number(given)?;
-    reason.say(" bits are not 8, 16, 24 or 32")
+    reason.tell(&[Number(given), Text(" bits are not 8, 16, 24 or 32")])
+}
+
+// The version is another one than those that are played.
+fn say_version(reason: &mut Reason, given: u64) -> Result<(), AllocError> {
+    let wrong = if given == 3 {
+        " is not played yet; 1 and 2 are"
+    } else {
+        " is none; 1, 2 and 3 are"
+    };
+    reason.tell(&[Text("version "), Number(given), Text(wrong)])
 }
 
 // A lane's call asks for fewer cycles than the one before it, or has no segment.
@@ -270,28 +279,29 @@ fn say_lane(
     if before == 0 {
         return reason.say("no \"run\" or \"freewheel\" line is open before this call of a lane");
     }
-    reason.say("cycle ")?;
-    reason.number(given)?;
-    reason.say(" falls behind ")?;
-    reason.number(u64::from(before))?;
-    reason.say(", the call before of lane ")?;
-    reason.show(word_at(faulty.line, 1))
+    reason.tell(&[
+        Text("cycle "),
+        Number(given),
+        Text(" falls behind "),
+        Number(u64::from(before)),
+        Text(", the call before of lane "),
+        Shown(word_at(faulty.line, 1)),
+    ])
 }
 
 // The line is one too many.
 fn say_many(reason: &mut Reason, what: Many, limit: u32) -> Result<(), AllocError> {
-    reason.say("more than ")?;
-    reason.number(u64::from(limit))?;
-    match what {
-        Many::Calls => reason.say(" calls"),
-        Many::Opens => reason.say(" calls of open"),
-        Many::Segments => reason.say(" segments"),
-        Many::Periods => reason.say(" period lines in the body"),
-        Many::Recorders => reason.say(" recorders"),
-        Many::Events => reason.say(" events"),
-        Many::Disks => reason.say(" disk files"),
-        Many::Cycles => reason.say(" cycles in all"),
-    }
+    let things = match what {
+        Many::Calls => " calls",
+        Many::Opens => " calls of open",
+        Many::Segments => " segments",
+        Many::Periods => " period lines in the body",
+        Many::Recorders => " recorders",
+        Many::Events => " events",
+        Many::Disks => " disk files",
+        Many::Cycles => " cycles in all",
+    };
+    reason.tell(&[Text("more than "), Number(u64::from(limit)), Text(things)])
 }
 
 // The script, or what it plays, is too long.

@@ -1,10 +1,11 @@
 //! Files that are no WAVE files that are read.
 
 ghost use Rattle.std.specs.Prelude.{IfOk};
-ghost use Rattle.told_reasons.specs.Reasons.{IsReason};
+ghost use Rattle.reason_text.specs.Reasons.{IsReason};
 
-use crate::reason::Reason;
 use jack_types::{Field, WaveFault};
+use reason_text::Piece::{Counted, Number, Path, Quoted, Shown, Text};
+use reason_text::Reason;
 use std::alloc::{AllocError, Global};
 
 // How many first bytes tell what a file is.
@@ -31,39 +32,50 @@ pub fn of_wave(
     ensures { IfOk result IsReason }
 {
     let mut reason = Reason::new(alloc)?;
-    reason.show(name.as_bytes())?;
-    reason.say(": ")?;
-    match fault {
-        WaveFault::NotRiff => say_begin(&mut reason, front)?,
-        WaveFault::NotWave => reason.say("a RIFF file, whose form is not WAVE")?,
-        WaveFault::NoFormat => reason.say("no \"fmt \" chunk stands before the samples")?,
-        WaveFault::BadFormat(field, value) => say_format(&mut reason, name, field, value)?,
-        WaveFault::NoData => reason.say("the file ends without a \"data\" chunk")?,
-        WaveFault::Ends(bytes) => say_end(&mut reason, bytes)?,
-        WaveFault::Read => reason.say("it could not be read")?,
-        WaveFault::TooManyChunks => reason.say("4096 chunks stand before its samples")?,
-    }
+    reason.tell(&[Shown(name.as_bytes()), Text(": ")])?;
+    say_fault(&mut reason, name, fault, front)?;
     reason.end_line()?;
     Ok(reason)
 }
 
-fn say_begin(reason: &mut Reason, front: &[u8]) -> Result<(), AllocError> {
-    reason.say("no RIFF WAVE file")?;
-    if front.is_empty() {
-        return Ok(());
+fn say_fault(
+    reason: &mut Reason,
+    name: &str,
+    fault: WaveFault,
+    front: &[u8],
+) -> Result<(), AllocError> {
+    match fault {
+        WaveFault::NotRiff => say_begin(reason, front),
+        WaveFault::NotWave => reason.say("a RIFF file, whose form is not WAVE"),
+        WaveFault::NoFormat => reason.say("no \"fmt \" chunk stands before the samples"),
+        WaveFault::BadFormat(field, value) => say_format(reason, name, field, value),
+        WaveFault::NoData => reason.say("the file ends without a \"data\" chunk"),
+        WaveFault::Ends(bytes) => say_end(reason, bytes),
+        WaveFault::Read => reason.say("it could not be read"),
+        WaveFault::TooManyChunks => reason.say("4096 chunks stand before its samples"),
     }
-    reason.say(" (begins ")?;
-    reason.quote(&front[..front.len().min(MARK)])?;
-    reason.say(")")
+}
+
+fn say_begin(reason: &mut Reason, front: &[u8]) -> Result<(), AllocError> {
+    if front.is_empty() {
+        return reason.say("no RIFF WAVE file");
+    }
+    reason.tell(&[
+        Text("no RIFF WAVE file (begins "),
+        Quoted(&front[..front.len().min(MARK)]),
+        Text(")"),
+    ])
 }
 
 fn say_end(reason: &mut Reason, bytes: u64) -> Result<(), AllocError> {
     if bytes == 0 {
         return reason.say("the file is empty");
     }
-    reason.say("the file ends after ")?;
-    reason.counted(bytes, "byte", "bytes")?;
-    reason.say(", within its header")
+    reason.tell(&[
+        Text("the file ends after "),
+        Counted(bytes, "byte", "bytes"),
+        Text(", within its header"),
+    ])
 }
 
 // What the format of a tag is called.
@@ -78,62 +90,81 @@ fn name_of_tag(tag: u32) -> Option<&'static str> {
 
 // How another program makes a file that is read.
 fn say_convert(reason: &mut Reason, name: &str) -> Result<(), AllocError> {
-    reason.say(": sox ")?;
-    reason.path(name)?;
-    reason.say(" -e signed-integer -b 24 new.wav")
+    reason.tell(&[
+        Text(": sox "),
+        Path(name),
+        Text(" -e signed-integer -b 24 new.wav"),
+    ])
+}
+
+// A format by its tag, which stands behind a word of its own.
+fn say_tag(reason: &mut Reason, name: &str, word: &str, tag: u32) -> Result<(), AllocError> {
+    if let Some(known) = name_of_tag(tag) {
+        reason.tell(&[Text(known), Text(" ")])?;
+    }
+    reason.tell(&[
+        Text("samples ("),
+        Text(word),
+        Text(" "),
+        Number(u64::from(tag)),
+        Text(") are not read"),
+    ])?;
+    say_convert(reason, name)
+}
+
+// A count of bytes, between what has them and what is wrong of them.
+fn say_bytes<'a>(
+    reason: &mut Reason,
+    before: &'a str,
+    bytes: u32,
+    wrong: &'a str,
+) -> Result<(), AllocError> {
+    reason.tell(&[
+        Text(before),
+        Counted(u64::from(bytes), "byte", "bytes"),
+        Text(wrong),
+    ])
 }
 
 fn say_format(reason: &mut Reason, name: &str, field: Field, value: u32) -> Result<(), AllocError> {
     match field {
-        Field::Tag => {
-            if let Some(known) = name_of_tag(value) {
-                reason.say(known)?;
-                reason.say(" ")?;
-            }
-            reason.say("samples (tag ")?;
-            reason.number(u64::from(value))?;
-            reason.say(") are not read")?;
-            say_convert(reason, name)
-        }
-        Field::Guid => {
-            if let Some(known) = name_of_tag(value) {
-                reason.say(known)?;
-                reason.say(" ")?;
-            }
-            reason.say("samples (subformat ")?;
-            reason.number(u64::from(value))?;
-            reason.say(") are not read")?;
-            say_convert(reason, name)
-        }
-        Field::Channels => {
-            reason.counted(u64::from(value), "channel is", "channels are")?;
-            reason.say(" not read: 1 to 16 are")
-        }
+        Field::Tag => say_tag(reason, name, "tag", value),
+        Field::Guid => say_tag(reason, name, "subformat", value),
+        Field::Channels => reason.tell(&[
+            Counted(u64::from(value), "channel is", "channels are"),
+            Text(" not read: 1 to 16 are"),
+        ]),
         Field::Rate => reason.say("its rate is 0 frames a second"),
         Field::Bits => {
-            reason.number(u64::from(value))?;
-            reason.say(" bits a sample are not read: 8, 16, 24 and 32 are")?;
+            reason.tell(&[
+                Number(u64::from(value)),
+                Text(" bits a sample are not read: 8, 16, 24 and 32 are"),
+            ])?;
             say_convert(reason, name)
         }
-        Field::Align => {
-            reason.say("a frame has ")?;
-            reason.counted(u64::from(value), "byte", "bytes")?;
-            reason.say(", which its channels and bits do not give")
-        }
-        Field::Size => {
-            reason.say("its \"fmt \" chunk has ")?;
-            reason.counted(u64::from(value), "byte", "bytes")?;
-            reason.say(", at least 16 are needed")
-        }
-        Field::Extended => {
-            reason.say("its extended \"fmt \" chunk has ")?;
-            reason.counted(u64::from(value), "byte", "bytes")?;
-            reason.say(", at least 40 are needed")
-        }
-        Field::Extra => {
-            reason.say("its \"fmt \" chunk is extended by ")?;
-            reason.counted(u64::from(value), "byte", "bytes")?;
-            reason.say(", at least 22 are needed")
-        }
+        Field::Align => say_bytes(
+            reason,
+            "a frame has ",
+            value,
+            ", which its channels and bits do not give",
+        ),
+        Field::Size => say_bytes(
+            reason,
+            "its \"fmt \" chunk has ",
+            value,
+            ", at least 16 are needed",
+        ),
+        Field::Extended => say_bytes(
+            reason,
+            "its extended \"fmt \" chunk has ",
+            value,
+            ", at least 40 are needed",
+        ),
+        Field::Extra => say_bytes(
+            reason,
+            "its \"fmt \" chunk is extended by ",
+            value,
+            ", at least 22 are needed",
+        ),
     }
 }
