@@ -1,6 +1,6 @@
 //! The event lines.
 
-ghost use Rattle.std.specs.Prelude.{◌≡◌, ◌+◌, ◌<◌, ◌≤◌, All, Bool, IfOk, ℕ, List, [], codes, length, pos, slice_index, true};
+ghost use Rattle.std.specs.Prelude.{◌≡◌, ◌+◌, ◌<◌, ◌≤◌, All, Bool, IfOk, ℕ, List, [], codes, length, pos, slice_index};
 ghost use Rattle.jack_types.specs.declared.scripts.Many.TheVariants.{Events as TheEvents};
 ghost use Rattle.script_words.specs.Reads.{Reads};
 ghost use Rattle.session_model.specs.Reading.{at_line, event, several};

@@ -1,6 +1,6 @@
 //! The lines of recorders and disks.
 
-ghost use Rattle.std.specs.Prelude.{◌≡◌, ◌+◌, ◌≤◌, Bool, List, [], codes, length, pos, true};
+ghost use Rattle.std.specs.Prelude.{◌≡◌, ◌+◌, ◌≤◌, Bool, List, [], codes, length, pos};
 ghost use Rattle.jack_types.specs.declared.scripts.Many.TheVariants.{Disks as TheDisks, Recorders as TheRecorders};
 ghost use Rattle.session_model.specs.Reading.{at_line, number, recorder, several};
 ghost use Rattle.script_header.specs.Fronts.{disks_of};

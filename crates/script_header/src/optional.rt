@@ -1,6 +1,6 @@
 //! The header lines that may be left out.
 
-ghost use Rattle.std.specs.Prelude.{◌≡◌, ◌≤◌, ◌≤ℤ◌, Bool, IfOk, codes, pos, true};
+ghost use Rattle.std.specs.Prelude.{◌≡◌, ◌≤◌, ◌≤ℤ◌, Bool, IfOk, codes, pos};
 ghost use Rattle.session_model.specs.Reading.{number_up_to, optional};
 ghost use Rattle.script_header.specs.Fronts.{fill_of, optional_of};
 ghost use Rattle.script_header.specs.LineReads.{ReadsLine};

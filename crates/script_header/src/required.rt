@@ -1,6 +1,6 @@
 //! The header lines that are always there.
 
-ghost use Rattle.std.specs.Prelude.{◌≡◌, ◌≤◌, ◌≤ℤ◌, IfErr, IfOk, None, Some, codes, pos, true};
+ghost use Rattle.std.specs.Prelude.{◌≡◌, ◌≤◌, ◌≤ℤ◌, IfErr, IfOk, None, Some, codes, pos};
 ghost use Rattle.jack_types.specs.declared.scripts.Cause.TheVariants.{Header as NotHeader};
 ghost use Rattle.script_words.specs.Remaining.{begun_line, place};
 ghost use Rattle.session_model.specs.Reading.{at_line, channels_and_bits, number_up_to, period, required, version, workers};

@@ -1,6 +1,6 @@
 //! The lines of a text that are said.
 
-ghost use Rattle.std.specs.Prelude.{◌≡◌, ◌+◌, ◌≤◌, ◌∷◌, [], IfNone, IfSome, MatchOption, None, Some, length, true};
+ghost use Rattle.std.specs.Prelude.{◌≡◌, ◌+◌, ◌≤◌, ◌∷◌, [], IfNone, IfSome, MatchOption, None, Some, length};
 ghost use Rattle.script_words.specs.Remaining.{begins_front, begun_line, place, remaining_from};
 
 use crate::bytes::{begins_with, first_piece, is_said, without_cr};

@@ -1,5 +1,5 @@
 //! All seats in threads, and what the calling thread does before and behind them.
-ghost use Rattle.std.specs.Prelude.{◌≡◌, ◌≤◌, List, length, All, vec_capacity};
+ghost use Rattle.std.specs.Prelude.{◌≡◌, List, length, All};
 ghost use Rattle.activation.specs.Ends.{AreEnded};
 ghost use Rattle.activation.specs.Rounds.{AreSeats, HavePlayed, Know, AreFresh};
 ghost use Rattle.cycle_workers.specs.Runs.{HaveRoom};

@@ -1,6 +1,5 @@
 //! What each seat runs.
-ghost use Rattle.std.specs.Prelude.{◌≡◌, ◌<◌, ◌≤◌, ◌⊎◌, ℕ, List, [], ◌∷◌, length, All, true, vec_capacity};
-ghost use Rattle.activation.specs.Rule.{has};
+ghost use Rattle.std.specs.Prelude.{◌≡◌, ◌<◌, ◌⊎◌, [], ◌∷◌, length, All, vec_capacity};
 ghost use Rattle.activation.specs.Plays.{without};
 ghost use Rattle.activation.specs.Seats.{new_duty};
 ghost use Rattle.activation.specs.Takens.{IsUnplayed, AreBetween};
