@@ -1,7 +1,7 @@
 -- What a name's bytes have, where the files are told.
 --     if_bytes_map, if_bytes_before      another fact, and the files before
 --     if-some-map      the same of a source
---     fault-told, kept-err      the fault of a script, and one that is handed on
+--     fault-told, kept-err, passed-on      the fault of a script, and one that is handed on
 use Rattle.std.proofs.Common.{◌≡◌, ◌≢◌, ℕ, List, Option, Some, None, refl, sym, ◌∙◌, ap, subst, take}
 use Rattle.std.specs.Prelude.{IfErr, IfSome, IsErrAnd, Result, Ok, Err}
 use Rattle.jack_types.specs.declared.scripts.Cause.{Cause}
@@ -59,3 +59,13 @@ fault-told files name bytes fault h f = go fault.cause refl
 pub kept-err : {T : Type 0} (r : Result T GraphFault) (e : GraphFault) (P : GraphFault → Type 0) → IsErrAnd r (λ y. y ≡ e) → P e → IfErr r P
 kept-err (Ok x) e P h p = tt
 kept-err (Err y) e P h p = subst P (sym h) p
+
+abbrev err : (T : Type 0) → GraphFault → Result T GraphFault
+err T fault = Err fault
+
+pub passed-on : {T U : Type 0} (r : Result T GraphFault) (e fault : GraphFault) → IsErrAnd r (λ y. y ≡ e) → r ≡ err T fault → err U e ≡ err U fault
+passed-on (Ok x) e fault h is = absurd h
+passed-on {T} {U} (Err y) e fault h is = ap (err U) (sym h ∙ same is)
+  where
+    same : err T y ≡ err T fault → y ≡ fault
+    same eq = cc

@@ -1,18 +1,20 @@
 -- What is put out, and where each fault comes, by what was read of the script and the report.
 --     front-fault, replay-fault-at      of the report's lines, and of its calls
 --     shown      the text
+--     lacks-report      a report that was not read behind a script that was
 --     put-shown, put-cut, has-fault      what the command answers
 use Rattle.std.proofs.Common.{◌≡◌, ◌≢◌, ◌≤◌, ℕ, List, Option, Some, None, Bool, take, inl, inr, length, refl, subst}
 use Rattle.std.specs.Prelude.{◌⊎◌, IfErr, OnErr, OnOk, Result, Ok, Err}
 use Rattle.jack_host.specs.Bytes.{Gains}
-use Rattle.jack_host.specs.Files.{SameFiles}
+use Rattle.jack_host.specs.Causes.{Rose}
+use Rattle.jack_host.specs.Files.{IsThere, SameFiles}
 use Rattle.session_model.specs.Grammar.{Spells}
 use Rattle.session_model.specs.Scripts.{Script}
 use Rattle.session_model.specs.State.{State}
 use Rattle.report_reader.specs.declared.rows.CallLine.{CallLine}
 use Rattle.report_reader.specs.declared.rows.CycleLine.{CycleLine}
 use Rattle.session_graph.specs.Askings.{Asking, IsGraph}
-use Rattle.session_graph.specs.Files.{Files, IfBoth, IfBytes}
+use Rattle.session_graph.specs.Files.{Files, IfBoth, IfBytes, LacksFile}
 use Rattle.session_graph.specs.Fronts.{IsBroken, IsFront}
 use Rattle.session_graph.specs.Graphs.{HasFault, IsCut, IsFaultOf, IsPut, IsShown, IsTextOf, IsWrongRow}
 use Rattle.session_graph.specs.Readings.{IsOfFront}
@@ -20,7 +22,7 @@ use Rattle.session_graph.specs.Replays.{IsOfReplay}
 use Rattle.session_graph.specs.Told.{IsUsed}
 use Rattle.session_graph.specs.declared.faults.GraphFault.{GraphFault}
 use Rattle.session_graph.specs.declared.faults.GraphFault.TheVariants.{NoMemory, Words, ReadFault, BadScript, WriteFault, Wrong}
-use Rattle.session_graph.proofs.FileLemmas.{if_bytes_before, if_bytes_map}
+use Rattle.session_graph.proofs.FileLemmas.{if_bytes_before, if_bytes_map, there_after}
 
 module _ (files after : Option Files) (same : SameFiles files after) (asking : Asking) (script : Script) (spelled : IfBytes files asking.script (λ bytes. Spells (take 1048577 bytes) script)) where
   both : (P : List ℕ → Type 0) (R : List ℕ → List ℕ → Type 0) → ((s r : List ℕ) → Spells s script → P r → R s r) → IfBytes after asking.report P → IfBoth files asking R
@@ -56,6 +58,10 @@ module _ (files after : Option Files) (same : SameFiles files after) (asking : A
     shown state text used so =
         both (λ r. IsFront script r calls line) (λ s r. IsShown asking s r text)
         (λ s r sp fr. record { script = script; spelled = sp; calls = calls; cycle = line; cycle_is = is; front = fr; state = state; used = used; text_is = so }) front
+
+pub lacks-report : (files after : Option Files) → SameFiles files after → (asking : Asking) (before between now : ℕ) → between ≡ before → Rose between now ⊎ (IsThere after asking.report → ⊥) → Rose before now ⊎ LacksFile files asking
+lacks-report files after same asking before between now kept (inl rose) = inl (subst (λ (n : ℕ). Rose n now) kept rose)
+lacks-report files after same asking before between now kept (inr none) = inr (inr (λ there. none (there_after files after asking.report same there)))
 
 -- ---- what the command answers, by how its text was put
 

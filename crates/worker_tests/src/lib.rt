@@ -1,7 +1,6 @@
 //! Tests of crews, whose nodes are played by threads or step by step.
 #![tactic(auto)]
 
-#[cfg(test)]
 mod benches;
 #[cfg(test)]
 mod diamonds;

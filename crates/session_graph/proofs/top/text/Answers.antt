@@ -7,8 +7,9 @@ use Rattle.session_graph.specs.Askings.{Asking}
 use Rattle.session_graph.specs.Files.{IfBytes}
 use Rattle.session_graph.specs.Graphs.{HasFault, IsTextOf}
 use Rattle.session_graph.specs.Told.{IsUsed}
-use Rattle.session_graph.proofs.FileLemmas.{kept-err}
-use Rattle.session_graph.proofs.TopLemmas.{front-fault, replay-fault-at, shown}
+use Rattle.session_graph.specs.declared.faults.GraphFault.TheVariants.{ReadFault}
+use Rattle.session_graph.proofs.FileLemmas.{kept-err, passed-on}
+use Rattle.session_graph.proofs.TopLemmas.{front-fault, lacks-report, replay-fault-at, shown}
 use Rattle.session_graph.proofs.top.text.Goals as goal
 
 pub returns-in_err-told-clause-fault : goal.returns-in_err-told-clause-fault
@@ -16,6 +17,11 @@ returns-in_err-told-clause-fault g c =
     let spelled = subst (λ (asking : Asking). IfBytes (g.H.Host.files c.args.host.now) asking.script (λ bytes. Spells (take 1048577 bytes) c.in_ok-script.script)) c.asked.view_is c.in_ok-script.ensures.script in
     kept-err c.from_residual-in_err-told.result _ (HasFault (g.H.Host.files c.args.host.now) c.args.asked.now) c.from_residual-in_err-told.ensures.1
     (front-fault (g.H.Host.files c.args.host.now) (g.H.Host.files c.read_script.new.host) c.in_ok-script.ensures.files c.args.asked.now c.in_ok-script.script spelled _ c.in_err-told.ensures.fault)
+
+pub returns-in_err-told-clause-read : goal.returns-in_err-told-clause-read
+returns-in_err-told-clause-read g c is =
+    lacks-report (g.H.Host.files c.args.host.now) (g.H.Host.files c.read_script.new.host) c.in_ok-script.ensures.files c.args.asked.now _ _ _ c.in_ok-script.ensures.kept
+    (c.in_err-told.ensures.read (passed-on c.from_residual-in_err-told.result _ ReadFault c.from_residual-in_err-told.ensures.1 is))
 
 pub returns-in_err-graph-clause-fault : goal.returns-in_err-graph-clause-fault
 returns-in_err-graph-clause-fault g c =
