@@ -1,8 +1,6 @@
 ghost use Rattle.std.specs.Prelude.{◌≤◌, length};
 
-use crate::scripts::{
-    ONE_PLAYER, TWO_INPUTS, TWO_LOGS, TWO_LOOPS, TWO_PLAYERS, TWO_PLAYERS_IN_ORDER,
-};
+use crate::scripts::{ONE_PLAYER, TWO_PLAYERS};
 use crate::session::{Round, Session};
 use jack_types::{Event, Logged, TransportState};
 use std::process::Abort;
@@ -70,56 +68,4 @@ fn the_player_that_was_connected_first_is_heard_first(rt: HostRuntime) {
     play_all(&rt, &mut session, &[STARTING, rolling(2, 0, 64)]);
     let wanted = [logged(2, 10, &[0x91]), logged(2, 10, &[0x90])];
     assert_eq!(rt; session.log(LOG), wanted.as_slice());
-}
-
-#[test]
-fn connections_are_merged_in_the_order_of_making(rt: HostRuntime) {
-    let mut session = Session::open(&rt, rt.alloc(), TWO_PLAYERS_IN_ORDER);
-    session.call(&rt, 12);
-    play_all(&rt, &mut session, &[STARTING, rolling(2, 0, 64)]);
-    let wanted = [logged(2, 10, &[0x90]), logged(2, 10, &[0x91])];
-    assert_eq!(rt; session.log(LOG), wanted.as_slice());
-}
-
-#[test]
-fn the_input_that_was_born_first_comes_first(rt: HostRuntime) {
-    let mut session = Session::open(&rt, rt.alloc(), TWO_INPUTS);
-    session.call(&rt, 13);
-    play_all(&rt, &mut session, &[STARTING, rolling(2, 0, 64)]);
-    let wanted = [logged(2, 10, &[0x90]), logged(2, 10, &[0x91])];
-    assert_eq!(rt; session.log(LOG), wanted.as_slice());
-}
-
-/// In the first cycle no output of an earlier one is kept.
-#[test]
-fn a_feedback_edge_is_empty_in_the_first_cycle(rt: HostRuntime) {
-    let mut session = Session::open(&rt, rt.alloc(), TWO_LOOPS);
-    session.call(&rt, 23);
-    play_all(&rt, &mut session, &[rolling(1, 0, 64)]);
-    let wanted = [logged(1, 10, &[0x90]), logged(1, 10, &[0x91])];
-    assert_eq!(rt; session.log(LOG), wanted.as_slice());
-}
-
-/// The players are silent in the second cycle, whose frames are 64 to 127.
-#[test]
-fn a_feedback_edge_has_what_its_output_gave(rt: HostRuntime) {
-    let mut session = Session::open(&rt, rt.alloc(), TWO_LOOPS);
-    session.call(&rt, 23);
-    play_all(&rt, &mut session, &[rolling(1, 0, 64), rolling(2, 64, 64)]);
-    let wanted = [
-        logged(1, 10, &[0x90]),
-        logged(1, 10, &[0x91]),
-        logged(2, 10, &[0x90]),
-        logged(2, 10, &[0x91]),
-    ];
-    assert_eq!(rt; session.log(LOG), wanted.as_slice());
-}
-
-#[test]
-fn a_connection_of_another_node_is_not_heard(rt: HostRuntime) {
-    let mut session = Session::open(&rt, rt.alloc(), TWO_LOGS);
-    session.call(&rt, 11);
-    play_all(&rt, &mut session, &[STARTING, rolling(2, 0, 64)]);
-    assert_eq!(rt; session.log(LOG).len(), 0);
-    assert_eq!(rt; session.log(4), [logged(2, 10, &[0x90])].as_slice());
 }
