@@ -122,25 +122,20 @@ pub fn of_making(alloc: Global, name: &str, error: io::Error) -> Result<Reason, 
 }
 
 /// Why a file is not made in place of one that is open: `what` it is, and the name by which it was opened.
-pub fn of_open_output<'a>(
+pub fn of_open_output(
     alloc: Global,
-    name: &'a str,
-    what: &'a str,
-    other: &'a str,
+    name: &str,
+    what: &str,
+    other: &str,
 ) -> Result<Reason, AllocError>
     ensures { IfOk result IsReason }
 {
-    Reason::line(
-        alloc,
-        &[
-            Shown(name.as_bytes()),
-            Text(": is the "),
-            Text(what),
-            Text(" "),
-            Shown(other.as_bytes()),
-            Text("; nothing was written"),
-        ],
-    )
+    let mut reason = Reason::new(alloc)?;
+    reason.tell(&[Shown(name.as_bytes()), Text(": is the ")])?;
+    reason.tell(&[Text(what), Text(" ")])?;
+    reason.tell(&[Shown(other.as_bytes()), Text("; nothing was written")])?;
+    reason.end_line()?;
+    Ok(reason)
 }
 
 /// Why the report could not be put out, where all files were written.
