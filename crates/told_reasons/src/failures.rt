@@ -16,12 +16,17 @@ const HEADER: usize = 44;
 // A size that is not set.
 const UNSET: u32 = 0xffff_ffff;
 
+// A name as it is.
+fn show_name(reason: &mut Reason, name: &str) -> Result<(), AllocError> {
+    reason.tell(&[Shown(name.as_bytes())])
+}
+
 // The file's name. An empty one stands for a name that is too long to be kept.
 fn say_file(reason: &mut Reason, name: &str) -> Result<(), AllocError> {
     if name.is_empty() {
         return reason.say("a name of more than 4096 bytes");
     }
-    reason.tell(&[Shown(name.as_bytes())])
+    show_name(reason, name)
 }
 
 // The system's reason, without its number.
@@ -131,9 +136,12 @@ pub fn of_open_output(
     ensures { IfOk result IsReason }
 {
     let mut reason = Reason::new(alloc)?;
-    reason.tell(&[Shown(name.as_bytes()), Text(": is the ")])?;
-    reason.tell(&[Text(what), Text(" ")])?;
-    reason.tell(&[Shown(other.as_bytes()), Text("; nothing was written")])?;
+    show_name(&mut reason, name)?;
+    reason.say(": is the ")?;
+    reason.say(what)?;
+    reason.say(" ")?;
+    show_name(&mut reason, other)?;
+    reason.say("; nothing was written")?;
     reason.end_line()?;
     Ok(reason)
 }
