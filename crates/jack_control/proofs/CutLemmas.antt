@@ -26,7 +26,7 @@ use Rattle.jack_control.specs.Files.{AreOut, IsHeld, Stand}
 use Rattle.jack_control.specs.Inputs.{Files}
 use Rattle.jack_control.specs.Openings.{IsSessionOf}
 use Rattle.jack_control.specs.Performances.{Explain, HaveCut, HaveCutSoFar, HaveFronts, MadeSome, front_at, front_so_far}
-use Rattle.jack_control.specs.Plays.{Cuts, IsAsBeforeOr, IsCut, IsExplained, Plays, TouchesOnly, made_by}
+use Rattle.jack_control.specs.Plays.{AreMadeInOrder, Cuts, IsExplained, IsMadeOrKept, IsPlayCut, Plays, TouchesOnly, made_by}
 
 -- ---- names
 
@@ -181,13 +181,13 @@ none-there many names i name apart there high contains =
 
 module _ (front : ℕ → Option (List ℕ) → Type 0) (names : List (List ℕ)) (stores : List Stored) (apart : AreApart names) (fronts : HaveFronts front stores) where
   cut-at : (files old made behind new : Files) → SameFiles (Some files) (Some old) → (some : MadeSome (Some old) (Some made) names stores) → Stand (Some made) (Some behind) (take some.made names) stores → SameFiles (Some behind) (Some new)
-      → (place : ℕ) (name : List ℕ) → slice_get names place ≡ Some name → IsAsBeforeOr (front place) files new name
+      → (place : ℕ) (name : List ℕ) → slice_get names place ≡ Some name → IsMadeOrKept (front place) (length (take some.made names)) place files new name
   cut-at files old made behind new first some stand last place name there = go (cases_lt place (length (take some.made names)))
     where
-      go : (place < length (take some.made names)) ⊎ (length (take some.made names) ≤ place) → IsAsBeforeOr (front place) files new name
+      go : (place < length (take some.made names)) ⊎ (length (take some.made names) ≤ place) → IsMadeOrKept (front place) (length (take some.made names)) place files new name
       go (inr high) =
           let other : Contains (take some.made names) name → ⊥ = none-there some.made names place name apart there high in
-          inl (last name ∙ stand.others name other ∙ some.touches name other ∙ first name)
+          inr (high, last name ∙ stand.others name other ∙ some.touches name other ∙ first name)
       go (inl low) =
           let named = some_at (take some.made names) place low in
           let same : named.0 ≡ name = same_Some named.0 name (sym (front_there some.made names place named.0 named.1) ∙ there) in
@@ -195,7 +195,7 @@ module _ (front : ℕ → Option (List ℕ) → Type 0) (names : List (List ℕ)
           let store = some_at stores place (subst (λ n. place < n) (sym some.out.as_many) low) in
           let held : IsHeld made name store.0 = some.out.each place name store.0 at store.1 in
           let told = some-told store.0.bytes held.tells in
-          inr (told.0, last name ∙ stand.each place name store.0 at store.1 ∙ told.1, subst (λ (bytes : Option (List ℕ)). front place bytes) told.1 (fronts place store.0 store.1))
+          inl (low, told.0, last name ∙ stand.each place name store.0 at store.1 ∙ told.1, subst (λ (bytes : Option (List ℕ)). front place bytes) told.1 (fronts place store.0 store.1))
 
 module _ (scores : List Score) (play : Play) (parts : Parts) (printed : Printed) (stores : List Stored) where
   cuts : (files old made behind new : Files) → SameFiles (Some files) (Some old) → AreApart (made_by play) → MadeSome (Some old) (Some made) (made_by play) stores → AllStand (Some made) (Some behind) stores → SameFiles (Some behind) (Some new)
@@ -208,16 +208,18 @@ module _ (scores : List Score) (play : Play) (parts : Parts) (printed : Printed)
     given = given;
     input = is.given.2.2.1;
     serial = λ none. record {
+      made = made_so_many;
       playback = at (front_at given) ((cut given is.given.2.2.2 is.given.2.2.1.no_disk).serial none) zero play.playback refl;
       records = λ recorder name there. at (front_at given) ((cut given is.given.2.2.2 is.given.2.2.1.no_disk).serial none) (suc recorder) name there;
     };
-    so_far = λ some.
-        let far : HaveCutSoFar given printed stores = (cut given is.given.2.2.2 is.given.2.2.1.no_disk).so_far some in
+    so_far = λ threads.
+        let far : HaveCutSoFar given printed stores = (cut given is.given.2.2.2 is.given.2.2.1.no_disk).so_far threads in
         record {
           printed = printed;
           kept = far.kept;
           came = far.came;
           fronts = record {
+            made = made_so_many;
             playback = at (front_so_far given printed far.kept) far.fronts zero play.playback refl;
             records = λ recorder name there. at (front_so_far given printed far.kept) far.fronts (suc recorder) name there;
           };
@@ -227,12 +229,15 @@ module _ (scores : List Score) (play : Play) (parts : Parts) (printed : Printed)
       given : Given
       given = is.given.2.2.0
 
-      at : (front : ℕ → Option (List ℕ) → Type 0) → HaveFronts front stores → (place : ℕ) (name : List ℕ) → slice_get (made_by play) place ≡ Some name → IsAsBeforeOr (front place) files new name
+      made_so_many : ℕ
+      made_so_many = length (take some.made (made_by play))
+
+      at : (front : ℕ → Option (List ℕ) → Type 0) → HaveFronts front stores → (place : ℕ) (name : List ℕ) → slice_get (made_by play) place ≡ Some name → IsMadeOrKept (front place) made_so_many place files new name
       at front fronts place name there =
           cut-at front (made_by play) stores apart fronts files old made behind new first some (handed (Some old) (Some made) (Some behind) (made_by play) stores apart some stand) last place name there
 
   pub cut : (files old made behind new : Option Files) → SameFiles files old → AreApart (made_by play) → MadeSome old made (made_by play) stores → AllStand made behind stores → SameFiles behind new
-      → IsSessionOf files scores play parts → ((given : Given) → IsGiven (session_of parts) given → given.disks ≡ [] → HaveCut given printed stores) → IsCut files new scores play
+      → IsSessionOf files scores play parts → ((given : Given) → IsGiven (session_of parts) given → given.disks ≡ [] → HaveCut given printed stores) → IsPlayCut files new scores play
   cut None old made behind new first apart some stand last is fronts = tt
   cut (Some files) None made behind new first apart some stand last is fronts = absurd first
   cut (Some files) (Some old) None behind new first apart some stand last is fronts = absurd some.touches

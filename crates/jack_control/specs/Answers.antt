@@ -1,5 +1,7 @@
 -- What a status says of the files of a play.
---     IsEarly status      it comes before any file is made
+--     ForPlay, ForRehearsal      of what the words name
+--     IsEarly, IsLate status      it comes before any file is made; it may come behind
+--     IsDoneOrNoMemory status      all was done, or want of memory
 --     HasLine status      a line of the fault is put out
 --     HasOwnFault status      what a refusal tells is a fault of the bytes, and no want of memory and no read that failed
 --     PlayStatus files scores play status      what the bytes of the script and the capture have where it is answered
@@ -15,11 +17,24 @@ use Rattle.jack_types.specs.declared.scripts.ScriptFault.{ScriptFault}
 use Rattle.jack_host.specs.Files.{IsThere}
 use Rattle.session_model.specs.Explanations.{Given}
 use Rattle.session_model.specs.Scripts.{Script}
-use Rattle.play_words.specs.Words.{Play}
+use Rattle.play_words.specs.Rehearsals.{IsRehearse}
+use Rattle.play_words.specs.Words.{IsPlay, Play}
 use Rattle.jack_control.specs.declared.status.Difference.{Difference}
 use Rattle.jack_control.specs.declared.status.Status.{Status}
 use Rattle.jack_control.specs.declared.status.Status.TheVariants.{Ok, NoMemory, Words, ReadFault, BadWave, BadScript, WriteFault, Differs, Wrong}
 use Rattle.jack_control.specs.Inputs.{Files, IfBytes, IsBadScript, IsBadWave, IsDifferent, IsInput, IsScriptOf, first_difference}
+
+abbrev pub ForPlay : List (List ℕ) → (Play → Type 0) → Type 0
+ForPlay words P = (play : Play) → IsPlay words play → P play
+
+abbrev pub ForRehearsal : List (List ℕ) → (ℕ → Type 0) → Type 0
+ForRehearsal words P = (number : ℕ) → IsRehearse words number → P number
+
+abbrev pub IsDoneOrNoMemory : Status → Type 0
+IsDoneOrNoMemory status = (status ≡ Ok) ⊎ (status ≡ NoMemory)
+
+abbrev pub IsLate : Status → Type 0
+IsLate status = (status ≡ ReadFault) ⊎ (status ≡ WriteFault)
 
 abbrev pub IsEarly : Status → Type 0
 IsEarly Ok = ⊥

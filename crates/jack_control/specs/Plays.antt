@@ -1,9 +1,9 @@
 -- What a play leaves.
 --     IsExplained files new out out_after scores play      an ended play: what is written is explained by the one history that is printed
 --     PlaybackSoFar, RecordSoFar      fronts of what so many cycles of a history gave
---     IsCut ..      one that failed when its files were made, or before
+--     IsPlayCut ..      one that failed when its files were made, or before
 --     IsOutCut ..      what stands on the sink where a file or the report could not be written
-use Rattle.std.specs.Prelude.{◌≡◌, ◌⊎◌, ℕ, ◌+◌, ◌≤◌, ◌∷◌, List, [], length, map, slice_get, take, ⊤, Option, Some, None, IsNone, IsSome, Contains}
+use Rattle.std.specs.Prelude.{◌≡◌, ◌⊎◌, ℕ, suc, ◌+◌, ◌<◌, ◌≤◌, ◌∷◌, List, [], length, map, slice_get, take, ⊤, Option, Some, None, IsNone, IsSome, Contains}
 use Rattle.jack_types.specs.declared.kinds.Score.{Score}
 use Rattle.jack_host.specs.Bytes.{Gains}
 use Rattle.jack_host.specs.Causes.{Rose}
@@ -50,14 +50,15 @@ IsExplained None new out out_after scores play = ⊤
 IsExplained (Some files) None out out_after scores play = ⊥
 IsExplained (Some files) (Some new) out out_after scores play = Plays files new out out_after scores play
 
--- a name has the bytes that it had, or it was made and has a front of its file
-abbrev pub IsAsBeforeOr : (Option (List ℕ) → Type 0) → Files → Files → List ℕ → Type 0
-IsAsBeforeOr P files new name = (bytes_under new name ≡ bytes_under files name) ⊎ ((bytes : List ℕ) × (bytes_under new name ≡ Some bytes) × P (Some bytes))
+-- the name at a place of those that a play makes, where the first so many were made: it was, and has a front of its file; or it has the bytes that it had
+abbrev pub IsMadeOrKept : (Option (List ℕ) → Type 0) → ℕ → ℕ → Files → Files → List ℕ → Type 0
+IsMadeOrKept P made place files new name = ((place < made) × (bytes : List ℕ) × (bytes_under new name ≡ Some bytes) × P (Some bytes)) ⊎ ((made ≤ place) × (bytes_under new name ≡ bytes_under files name))
 
--- so is each name that a play makes, by its place
-pub record AreAsBeforeOr (played : Option (List ℕ) → Type 0) (recorded : ℕ → Option (List ℕ) → Type 0) (files new : Files) (play : Play) : Type 0 where
-  pub playback : IsAsBeforeOr played files new play.playback
-  pub records : (recorder : ℕ) (name : List ℕ) → slice_get play.records recorder ≡ Some name → IsAsBeforeOr (recorded recorder) files new name
+-- the first so many were made: the playback, and then the records in their order
+pub record AreMadeInOrder (played : Option (List ℕ) → Type 0) (recorded : ℕ → Option (List ℕ) → Type 0) (files new : Files) (play : Play) : Type 0 where
+  pub made : ℕ
+  pub playback : IsMadeOrKept played made 0 files new play.playback
+  pub records : (recorder : ℕ) (name : List ℕ) → slice_get play.records recorder ≡ Some name → IsMadeOrKept (recorded recorder) made (suc recorder) files new name
 
 -- a store that tells holds a front of what so many cycles played, by the one computation over a history
 abbrev pub PlaybackSoFar : Given → Printed → ℕ → Option (List ℕ) → Type 0
@@ -79,7 +80,7 @@ pub record CutsSoFar (given : Given) (files new : Files) (play : Play) : Type 0 
   pub printed : Printed
   pub kept : ℕ
   pub came : CameTo given printed kept
-  pub fronts : AreAsBeforeOr (PlaybackSoFar given printed kept) (RecordSoFar given printed kept) files new play
+  pub fronts : AreMadeInOrder (PlaybackSoFar given printed kept) (RecordSoFar given printed kept) files new play
 
 -- what stands behind a fault that came when the files were made, or later; in serial mode fronts of the files of that
 pub record Cuts (files new : Files) (scores : List Score) (play : Play) : Type 0 where
@@ -89,14 +90,14 @@ pub record Cuts (files new : Files) (scores : List Score) (play : Play) : Type 0
   pub capture_is : bytes_under files play.capture ≡ Some capture_bytes
   pub given : Given
   pub input : IsInput script_bytes capture_bytes scores play given
-  pub serial : IsNone given.script.header.threads → AreAsBeforeOr (playback_front given) (record_front given) files new play
+  pub serial : IsNone given.script.header.threads → AreMadeInOrder (playback_front given) (record_front given) files new play
   pub so_far : IsSome given.script.header.threads → CutsSoFar given files new play
 
 -- nothing was made, or this
-abbrev pub IsCut : Option Files → Option Files → List Score → Play → Type 0
-IsCut None new scores play = ⊤
-IsCut (Some files) None scores play = ⊥
-IsCut (Some files) (Some new) scores play = SameFiles (Some files) (Some new) ⊎ Cuts files new scores play
+abbrev pub IsPlayCut : Option Files → Option Files → List Score → Play → Type 0
+IsPlayCut None new scores play = ⊤
+IsPlayCut (Some files) None scores play = ⊥
+IsPlayCut (Some files) (Some new) scores play = SameFiles (Some files) (Some new) ⊎ Cuts files new scores play
 
 -- the sink has a front of the report that explains what the play left: its files are whole, as the report would have told
 pub record PutsFront (files new : Option Files) (out out_after : Option (List ℕ)) (scores : List Score) (play : Play) : Type 0 where

@@ -14,7 +14,7 @@ ghost use Rattle.jack_control.specs.Files.{AreOut, OneFailed};
 ghost use Rattle.jack_control.specs.Inputs.{Files as AllFiles};
 ghost use Rattle.jack_control.specs.Openings.{IsSessionOf};
 ghost use Rattle.jack_control.specs.Performances.{CutsReport, Explain, HaveCut, MadeSome, status_of_session};
-ghost use Rattle.jack_control.specs.Plays.{IsCut, IsExplained, IsOutCut, TouchesOnly, made_by};
+ghost use Rattle.jack_control.specs.Plays.{IsExplained, IsOutCut, IsPlayCut, TouchesOnly, made_by};
 ghost use Rattle.play_words.specs.Words.{names_of};
 ghost use Rattle.run_laws.specs.Told.{text_in};
 ghost use Rattle.session_run.specs.Seen.{session_of, stores_in};
@@ -156,7 +156,7 @@ pub(crate) fn play_session<
     requires recorders { length session.recorders ≡ length names.now.records }
     requires apart { Apart (λ (name : List ℕ). name) (names_of names.now) }
     ensures played { OnOk result ((files : Option AllFiles) (scores : List ScoreValue) → SameFiles files (H.files host.old) → IsSessionOf files scores names.now session → IsExplained files (H.files host.new) (K.content out.old) (K.content out.new) scores names.now) }
-    ensures cut { OnErr result ((files : Option AllFiles) (scores : List ScoreValue) → SameFiles files (H.files host.old) → IsSessionOf files scores names.now session → IsCut files (H.files host.new) scores names.now) }
+    ensures cut { OnErr result ((files : Option AllFiles) (scores : List ScoreValue) → SameFiles files (H.files host.old) → IsSessionOf files scores names.now session → IsPlayCut files (H.files host.new) scores names.now) }
     ensures fault { IfErr result (λ status. (status ≡ Status.ReadFault) ⊎ (status ≡ Status.WriteFault)) }
     ensures read { IsErrOf result Status.ReadFault → Rose (H.read_faults host.old) (H.read_faults host.new) × (out.new ≡ out.old) }
     ensures write { IsErrOf result Status.WriteFault → Rose (H.write_faults host.old) (H.write_faults host.new) ⊎ Rose (K.faults out.old) (K.faults out.new) }

@@ -6,9 +6,9 @@ ghost use Rattle.jack_host.specs.Files.{SameFiles};
 ghost use Rattle.session_model.specs.Soundness.{Apart};
 ghost use Rattle.play_words.specs.Rehearsals.{IsCommand, IsRehearse};
 ghost use Rattle.play_words.specs.Words.{IsPlay, Play, names_of};
-ghost use Rattle.jack_control.specs.Answers.{HasInput, HasLine, HasOwnFault, HasRefusal, IfInput, IsEarly, LacksInput, PlayStatus};
+ghost use Rattle.jack_control.specs.Answers.{ForPlay, ForRehearsal, HasInput, HasLine, HasOwnFault, HasRefusal, IfInput, IsDoneOrNoMemory, IsEarly, IsLate, LacksInput, PlayStatus};
 ghost use Rattle.jack_control.specs.FaultLines.{PutsFault};
-ghost use Rattle.jack_control.specs.Plays.{IsCut, IsExplained, IsOutCut, TouchesOnly, made_by};
+ghost use Rattle.jack_control.specs.Plays.{IsExplained, IsOutCut, IsPlayCut, TouchesOnly, made_by};
 ghost use Rattle.jack_control.specs.Rehearsals.{IsRehearsed};
 ghost use Rattle.jack_control.specs.declared.status.Status.{Status as StatusValue};
 
@@ -46,7 +46,7 @@ fn play<T: Threads + Sync, R: Wait + Sync, H: Host, K: Sink, G: Guest + Send, A:
     ensures write { IsErrOf result Status.WriteFault →
         Rose (H.write_faults host.old) (H.write_faults host.new) ⊎ Rose (K.faults out.old) (K.faults out.new) }
     ensures input { IsErrOf result Status.WriteFault → IfInput (H.files host.old) (map G.score guests.items) names.now }
-    ensures cut { IfErr result (λ status. (status ≡ Status.ReadFault) ⊎ (status ≡ Status.WriteFault) → IsCut (H.files host.old) (H.files host.new) (map G.score guests.items) names.now) }
+    ensures cut { IfErr result (λ status. (status ≡ Status.ReadFault) ⊎ (status ≡ Status.WriteFault) → IsPlayCut (H.files host.old) (H.files host.new) (map G.score guests.items) names.now) }
     ensures out_cut { IsErrOf result Status.WriteFault → IsOutCut (H.files host.old) (H.files host.new) (K.content out.old) (K.content out.new) (K.faults out.old) (K.faults out.new) (map G.score guests.items) names.now }
     ensures early { IfErr result (λ status. IsEarly status → SameFiles (H.files host.old) (H.files host.new) × (H.write_faults host.new ≡ H.write_faults host.old)) }
     ensures silent { IfErr result (λ status. status ≢ Status.WriteFault → out.new ≡ out.old) }
@@ -84,49 +84,63 @@ pub fn jackd<T: Threads + Sync, R: Wait + Sync, H: Host, K: Sink, G: Guest + Sen
     requires { H.lent host.old < 900 }
 
     // What is written is explained by the one history that is printed, and in serial mode that is the history of serial mode.
-    ensures played { result ≡ Status.Ok → (play : Play) → IsPlay (map string_bytes words.now) play →
-        IsExplained (H.files host.old) (H.files host.new) (K.content out.old) (K.content out.new) (map G.score guests.items) play }
+    ensures played { result ≡ Status.Ok → ForPlay (map string_bytes words.now) (λ play. IsExplained
+        (H.files host.old) (H.files host.new) (K.content out.old) (K.content out.new)
+        (map G.score guests.items) play) }
 
     // What is put out of a rehearsal is told of the history and the playback that serial mode gives for its number's session.
     // The host is not called.
-    ensures rehearsed { (n : ℕ) → IsRehearse (map string_bytes words.now) n → IsRehearsed n (K.content out.old) (K.content out.new) (K.faults out.old) (K.faults out.new) result }
-    ensures untouched { (n : ℕ) → IsRehearse (map string_bytes words.now) n → host.new ≡ host.old }
-    ensures finished { (n : ℕ) → IsRehearse (map string_bytes words.now) n →
-        ¬ Rose (K.faults out.old) (K.faults out.new) → (result ≡ Status.Ok) ⊎ (result ≡ Status.NoMemory) }
+    ensures rehearsed { ForRehearsal (map string_bytes words.now) (λ n. IsRehearsed n
+        (K.content out.old) (K.content out.new) (K.faults out.old) (K.faults out.new) result) }
+    ensures untouched { ForRehearsal (map string_bytes words.now) (λ n. host.new ≡ host.old) }
+    ensures finished { ForRehearsal (map string_bytes words.now) (λ n.
+        ¬ Rose (K.faults out.old) (K.faults out.new) → IsDoneOrNoMemory result) }
 
     ensures words { result ≡ Status.Words → ¬ IsCommand (map string_bytes words.now) }
     ensures uncalled { result ≡ Status.Words → host.new ≡ host.old }
     ensures lawful { result ≢ Status.Words → IsCommand (map string_bytes words.now) }
 
     // A refusal of the script or of the capture is one that their bytes have.
-    ensures fault { (play : Play) → IsPlay (map string_bytes words.now) play → result ≢ Status.Ok → PlayStatus (H.files host.old) (map G.score guests.items) play result }
+    ensures fault { ForPlay (map string_bytes words.now) (λ play. result ≢ Status.Ok → PlayStatus
+        (H.files host.old) (map G.score guests.items) play result) }
 
     // Whatever the host tells, want of memory is no fault of a script, and a read that failed none of a capture.
     ensures own { HasOwnFault result }
 
-    ensures read { result ≡ Status.ReadFault → (play : Play) → IsPlay (map string_bytes words.now) play →
-        Rose (H.read_faults host.old) (H.read_faults host.new) ⊎ LacksInput (H.files host.old) (map G.score guests.items) play }
+    ensures read { result ≡ Status.ReadFault → ForPlay (map string_bytes words.now) (λ play.
+        Rose (H.read_faults host.old) (H.read_faults host.new)
+        ⊎ LacksInput (H.files host.old) (map G.score guests.items) play) }
     ensures write { result ≡ Status.WriteFault →
-        Rose (H.write_faults host.old) (H.write_faults host.new) ⊎ Rose (K.faults out.old) (K.faults out.new) }
+        Rose (H.write_faults host.old) (H.write_faults host.new)
+        ⊎ Rose (K.faults out.old) (K.faults out.new) }
 
     // A file or the report is written only where script, capture, guests and names fit one another.
-    ensures input { result ≡ Status.WriteFault → (play : Play) → IsPlay (map string_bytes words.now) play → IfInput (H.files host.old) (map G.score guests.items) play }
+    ensures input { result ≡ Status.WriteFault → ForPlay (map string_bytes words.now) (λ play.
+        IfInput (H.files host.old) (map G.score guests.items) play) }
 
-    // Behind a fault of reading or writing each file that was made has a front of what was to be written.
-    ensures cut { (result ≡ Status.ReadFault) ⊎ (result ≡ Status.WriteFault) → (play : Play) → IsPlay (map string_bytes words.now) play → IsCut (H.files host.old) (H.files host.new) (map G.score guests.items) play }
+    // Behind a fault of reading or writing each file that was made has a front of what was to be written, and those were made
+    // that come first: the playback, and then the records in their order.
+    ensures cut { IsLate result → ForPlay (map string_bytes words.now) (λ play. IsPlayCut
+        (H.files host.old) (H.files host.new) (map G.score guests.items) play) }
 
     // Where the report could not be put out to its end, what was put is a front of the report that explains the files.
-    ensures out_cut { result ≡ Status.WriteFault → (play : Play) → IsPlay (map string_bytes words.now) play →
-        IsOutCut (H.files host.old) (H.files host.new) (K.content out.old) (K.content out.new) (K.faults out.old) (K.faults out.new) (map G.score guests.items) play }
+    ensures out_cut { result ≡ Status.WriteFault → ForPlay (map string_bytes words.now) (λ play. IsOutCut
+        (H.files host.old) (H.files host.new) (K.content out.old) (K.content out.new)
+        (K.faults out.old) (K.faults out.new) (map G.score guests.items) play) }
 
     // Before a file is made nothing is touched, and the line of a fault is put out.
-    ensures early { IsEarly result → SameFiles (H.files host.old) (H.files host.new) × (H.write_faults host.new ≡ H.write_faults host.old) }
-    ensures line { HasLine result → PutsFault (K.content out.old) (K.content out.new) (K.faults out.old) (K.faults out.new) result }
+    ensures early { IsEarly result → SameFiles (H.files host.old) (H.files host.new)
+        × (H.write_faults host.new ≡ H.write_faults host.old) }
+    ensures line { HasLine result → PutsFault
+        (K.content out.old) (K.content out.new) (K.faults out.old) (K.faults out.new) result }
     ensures silent { result ≡ Status.NoMemory → out.new ≡ out.old }
 
-    ensures others { (play : Play) → IsPlay (map string_bytes words.now) play → TouchesOnly (H.files host.old) (H.files host.new) (made_by play) }
+    ensures others { ForPlay (map string_bytes words.now) (λ play.
+        TouchesOnly (H.files host.old) (H.files host.new) (made_by play)) }
     ensures lent { H.lent host.new ≡ H.lent host.old }
-    ensures later { (H.read_faults host.old ≤ H.read_faults host.new) × (H.write_faults host.old ≤ H.write_faults host.new) × (K.faults out.old ≤ K.faults out.new) }
+    ensures later { (H.read_faults host.old ≤ H.read_faults host.new)
+        × (H.write_faults host.old ≤ H.write_faults host.new)
+        × (K.faults out.old ≤ K.faults out.new) }
 
     // Where all was done, nothing of the host or the sink has failed.
     ensures reads { result ≡ Status.Ok → H.read_faults host.new ≡ H.read_faults host.old }
@@ -134,14 +148,18 @@ pub fn jackd<T: Threads + Sync, R: Wait + Sync, H: Host, K: Sink, G: Guest + Sen
     ensures puts { result ≡ Status.Ok → K.faults out.new ≡ K.faults out.old }
 
     // A refusal that the told bytes have is the answer, if no read fails and memory is found.
-    ensures exact { (play : Play) → IsPlay (map string_bytes words.now) play → (status : StatusValue) → HasRefusal (H.files host.old) (map G.score guests.items) play status →
-        ¬ Rose (H.read_faults host.old) (H.read_faults host.new) → (result ≡ status) ⊎ (result ≡ Status.NoMemory) }
+    ensures exact { ForPlay (map string_bytes words.now) (λ play. (status : StatusValue) →
+        HasRefusal (H.files host.old) (map G.score guests.items) play status →
+        ¬ Rose (H.read_faults host.old) (H.read_faults host.new) →
+        (result ≡ status) ⊎ (result ≡ Status.NoMemory)) }
 
     // A script that is played, and a capture, guests and names that fit it, are played, if nothing outside fails and memory
     // is found.
-    ensures complete { (play : Play) → IsPlay (map string_bytes words.now) play → HasInput (H.files host.old) (map G.score guests.items) play →
-        ¬ Rose (H.read_faults host.old) (H.read_faults host.new) → ¬ Rose (H.write_faults host.old) (H.write_faults host.new) →
-        ¬ Rose (K.faults out.old) (K.faults out.new) → (result ≡ Status.Ok) ⊎ (result ≡ Status.NoMemory) }
+    ensures complete { ForPlay (map string_bytes words.now) (λ play.
+        HasInput (H.files host.old) (map G.score guests.items) play →
+        ¬ Rose (H.read_faults host.old) (H.read_faults host.new) →
+        ¬ Rose (H.write_faults host.old) (H.write_faults host.new) →
+        ¬ Rose (K.faults out.old) (K.faults out.new) → IsDoneOrNoMemory result) }
 {
     words_name_one_play();
     words_name_one_command();

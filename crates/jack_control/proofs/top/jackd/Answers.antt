@@ -2,7 +2,7 @@ use Rattle.std.proofs.Common.{◌⊎◌, ap, Err, inl, inr, map, refl, subst, sy
 use Rattle.jack_host.specs.Causes.{Rose}
 use Rattle.play_words.specs.Words.{Play}
 use Rattle.jack_control.specs.Answers.{HasInput, HasRefusal, IfInput, LacksInput, PlayStatus}
-use Rattle.jack_control.specs.Plays.{IsCut, IsExplained, IsOutCut, TouchesOnly, made_by}
+use Rattle.jack_control.specs.Plays.{IsExplained, IsOutCut, IsPlayCut, TouchesOnly, made_by}
 use Rattle.jack_control.proofs.ExactLemmas.{complete-err, exact-err, exact-ok}
 use Rattle.jack_control.proofs.InputLemmas.{rose-later}
 use Rattle.jack_control.proofs.RehearsalLemmas.{finished-of}
@@ -42,7 +42,7 @@ returns-in-Err-clause-input g c = λ e play is.
 
 pub returns-in-Err-clause-cut : goal.returns-in-Err-clause-cut
 returns-in-Err-clause-cut g c = λ when play is.
-    subst (λ (p : Play). IsCut (g.H.Host.files c.args.host.now) (g.H.Host.files c.play.new.host) (map g.G.Guest.score c.args.guests.items) p)
+    subst (λ (p : Play). IsPlayCut (g.H.Host.files c.args.host.now) (g.H.Host.files c.play.new.host) (map g.G.Guest.score c.args.guests.items) p)
     (c.words_name_one_play.ensures _ c.in-Some.names play c.in-Some.ensures.lawful is) (c.in-Err.ensures.cut when)
 
 -- a fault of writing has no line, so the sink stays as the play left it
