@@ -36,3 +36,10 @@ fn each_piece_is_written(rt: HostRuntime) -> Result<(), AllocError> {
     assert!(rt; words.as_bytes() == b"jackd: is \"b\"./c'd e'f\n".as_slice());
     Ok(())
 }
+
+#[test]
+fn a_quote_in_a_name_is_escaped(rt: HostRuntime) -> Result<(), AllocError> {
+    let reason = Reason::line(rt.alloc(), &[Path("it's")])?;
+    assert!(rt; reason.as_bytes() == b"jackd: 'it'\\''s'\n".as_slice());
+    Ok(())
+}

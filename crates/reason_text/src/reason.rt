@@ -1,8 +1,12 @@
 //! The text of a reason.
 
-ghost use Rattle.std.specs.Prelude.{◌≡◌, ◌<◌, ◌≤◌, IfOk};
+ghost use Rattle.std.specs.Prelude.{◌≡◌, [], ◌∷◌, ◌++◌, codes, decimal, IfOk};
+ghost use Rattle.std.specs.Fmt.{signed_decimal};
 ghost use Rattle.reason_text.specs.Reasons.{IsReason, IsShown};
+ghost use Rattle.reason_text.specs.Texts.{counted, path, quoted, quoted_byte, quoted_path, shown, shown_byte, shown_front, told, written};
 
+use crate::bytes::{are_plain, hex_digit, is_text};
+use crate::piece::Piece;
 use itoa::Buffer;
 use std::alloc::{AllocError, Global};
 use std::marker::Model;
@@ -31,62 +35,11 @@ impl Model for Reason {
     ghost invariant = { λ r. IsReason r.bytes.items };
 }
 
-/// A piece of a sentence.
-#[derive(Clone, Copy, Drop)]
-pub enum Piece<'a> {
-    /// A text of the program's own.
-    Text(&'a str),
-    /// Bytes, so that they can be seen.
-    Shown(&'a [u8]),
-    /// A word between quotes, at most its first 64 bytes.
-    Quoted(&'a [u8]),
-    /// A line of another text, at most its first 120 bytes.
-    Front(&'a [u8]),
-    /// A file's name as a word of a command line.
-    Path(&'a str),
-    /// A number.
-    Number(u64),
-    /// A number that may be less than 0.
-    Signed(i64),
-    /// A number of things, by one of two words: the first for the number 1.
-    Counted(u64, &'a str, &'a str),
-}
-
-// A digit of sixteen.
-fn hex_digit(value: u8) -> u8
-    requires { value < 16 }
-    ensures least { 32 ≤ result }
-    ensures most { result < 127 }
-{
-    if value < 10 {
-        b'0' + value
-    } else {
-        b'a' + (value - 10)
-    }
-}
-
-// Whether the bytes are a text without characters beyond ASCII that steer a terminal.
-fn is_text(bytes: &[u8]) -> bool {
-    if str::from_utf8(bytes).is_err() {
-        return false;
-    }
-    for i in 1..bytes.len() {
-        if bytes[i - 1] == 0xc2 && bytes[i] < 0xa0 {
-            return false;
-        }
-    }
-    true
-}
-
-// Whether a byte stands for itself in a word of a command line.
-fn is_plain(byte: u8) -> bool {
-    byte.is_ascii_alphanumeric() || byte == b'.' || byte == b'/' || byte == b'_' || byte == b'-'
-}
-
 impl Reason {
     /// A reason that says nothing yet.
     pub fn new(alloc: Global) -> Result<Reason, AllocError>
-        ensures { IfOk result IsReason }
+        ensures reason { IfOk result IsReason }
+        ensures told { IfOk result (λ reason. reason ≡ codes "jackd: ") }
     {
         let bytes = Vec::from_slice(alloc, b"jackd: ")?;
         Ok(Reason { bytes })
@@ -103,14 +56,17 @@ impl Reason {
     // Adds a byte that steers no terminal.
     fn add(&mut self, byte: u8) -> Result<(), AllocError>
         requires { IsShown byte }
-        ensures { IsReason self.new }
+        ensures reason { IsReason self.new }
+        ensures told { IfOk result (λ _. self.new ≡ self.old ++ byte ∷ []) }
     {
         self.bytes.push(byte)?;
         Ok(())
     }
 
     // Adds a byte as it is, or in hexadecimal; `wide` is whether it stands in a text.
-    fn show_byte(&mut self, byte: u8, wide: bool) -> Result<(), AllocError> {
+    fn show_byte(&mut self, byte: u8, wide: bool) -> Result<(), AllocError>
+        ensures { IfOk result (λ _. self.new ≡ self.old ++ shown_byte wide byte) }
+    {
         if byte >= 32 && byte < 127 {
             return self.add(byte);
         }
@@ -124,7 +80,9 @@ impl Reason {
     }
 
     // Adds bytes, so that they can be seen.
-    fn show(&mut self, bytes: &[u8]) -> Result<(), AllocError> {
+    fn show(&mut self, bytes: &[u8]) -> Result<(), AllocError>
+        ensures { IfOk result (λ _. self.new ≡ self.old ++ shown bytes.now) }
+    {
         let wide = is_text(bytes);
         for byte in bytes {
             self.show_byte(*byte, wide)?;
@@ -134,23 +92,30 @@ impl Reason {
 
     /// Adds a text.
     pub fn say(&mut self, text: &str) -> Result<(), AllocError>
-        ensures { IsReason self.new }
+        ensures reason { IsReason self.new }
+        ensures told { IfOk result (λ _. self.new ≡ self.old ++ shown text.now) }
     {
         self.tell(&[Piece::Text(text)])
     }
 
     // Adds a number.
-    fn number(&mut self, number: u64) -> Result<(), AllocError> {
+    fn number(&mut self, number: u64) -> Result<(), AllocError>
+        ensures { IfOk result (λ _. self.new ≡ self.old ++ shown (decimal number)) }
+    {
         self.show(Buffer::new().format(number).as_bytes())
     }
 
     // Adds a number that may be less than 0.
-    fn signed(&mut self, number: i64) -> Result<(), AllocError> {
+    fn signed(&mut self, number: i64) -> Result<(), AllocError>
+        ensures { IfOk result (λ _. self.new ≡ self.old ++ shown (signed_decimal number)) }
+    {
         self.show(Buffer::new().format(number).as_bytes())
     }
 
     // Adds the front of bytes, and dots where there are more.
-    fn show_front(&mut self, bytes: &[u8], most: usize) -> Result<(), AllocError> {
+    fn show_front(&mut self, bytes: &[u8], most: usize) -> Result<(), AllocError>
+        ensures { IfOk result (λ _. self.new ≡ self.old ++ shown_front most bytes.now) }
+    {
         if bytes.len() <= most {
             return self.show(bytes);
         }
@@ -159,31 +124,62 @@ impl Reason {
     }
 
     // Adds a word between quotes, at most its first 64 bytes.
-    fn quote(&mut self, word: &[u8]) -> Result<(), AllocError> {
+    fn quote(&mut self, word: &[u8]) -> Result<(), AllocError>
+        ensures { IfOk result (λ _. self.new ≡ self.old ++ quoted word.now) }
+    {
         self.add(b'"')?;
         self.show_front(word, MOST_OF_WORD)?;
         self.add(b'"')
     }
 
-    // Adds a file's name as a word of a command line.
-    fn path(&mut self, name: &str) -> Result<(), AllocError> {
-        if name.as_bytes().iter().all(|b| is_plain(*b)) {
-            return self.show(name.as_bytes());
+    // Adds a byte within single quotes of a command line; `wide` is whether it stands in a text.
+    fn quote_byte(&mut self, byte: u8, wide: bool) -> Result<(), AllocError>
+        ensures { IfOk result (λ _. self.new ≡ self.old ++ quoted_byte wide byte) }
+    {
+        if byte != b'\'' {
+            return self.show_byte(byte, wide);
         }
         self.add(b'\'')?;
-        self.show(name.as_bytes())?;
+        self.add(b'\\')?;
+        self.add(b'\'')?;
         self.add(b'\'')
     }
 
+    // Adds a word between single quotes.
+    fn quote_path(&mut self, name: &[u8]) -> Result<(), AllocError>
+        ensures { IfOk result (λ _. self.new ≡ self.old ++ quoted_path name.now) }
+    {
+        let wide = is_text(name);
+        self.add(b'\'')?;
+        for byte in name {
+            self.quote_byte(*byte, wide)?;
+        }
+        self.add(b'\'')
+    }
+
+    // Adds a file's name as a word of a command line.
+    fn path(&mut self, name: &str) -> Result<(), AllocError>
+        ensures { IfOk result (λ _. self.new ≡ self.old ++ path name.now) }
+    {
+        if are_plain(name.as_bytes()) {
+            return self.show(name.as_bytes());
+        }
+        self.quote_path(name.as_bytes())
+    }
+
     // Adds a number of things, by one of two words: the first for the number 1.
-    fn counted(&mut self, count: u64, one: &str, more: &str) -> Result<(), AllocError> {
+    fn counted(&mut self, count: u64, one: &str, more: &str) -> Result<(), AllocError>
+        ensures { IfOk result (λ _. self.new ≡ self.old ++ counted count one.now more.now) }
+    {
         self.number(count)?;
         self.add(b' ')?;
         self.show(if count == 1 { one } else { more }.as_bytes())
     }
 
     // Adds a piece of a sentence.
-    fn add_piece(&mut self, piece: Piece<'_>) -> Result<(), AllocError> {
+    fn add_piece(&mut self, piece: Piece<'_>) -> Result<(), AllocError>
+        ensures { IfOk result (λ _. self.new ≡ self.old ++ written piece.entry) }
+    {
         match piece {
             Piece::Text(text) => self.show(text.as_bytes()),
             Piece::Shown(bytes) => self.show(bytes),
@@ -197,7 +193,9 @@ impl Reason {
     }
 
     // Adds pieces, one behind the other.
-    fn add_pieces(&mut self, pieces: &[Piece<'_>]) -> Result<(), AllocError> {
+    fn add_pieces(&mut self, pieces: &[Piece<'_>]) -> Result<(), AllocError>
+        ensures { IfOk result (λ _. self.new ≡ self.old ++ told pieces.now) }
+    {
         for piece in pieces {
             self.add_piece(*piece)?;
         }
@@ -206,7 +204,8 @@ impl Reason {
 
     /// Adds the pieces of a sentence.
     pub fn tell(&mut self, pieces: &[Piece<'_>]) -> Result<(), AllocError>
-        ensures { IsReason self.new }
+        ensures reason { IsReason self.new }
+        ensures told { IfOk result (λ _. self.new ≡ self.old ++ told pieces.now) }
     {
         let told = self.add_pieces(pieces);
         // The proof takes the type's invariant from here.
@@ -216,7 +215,8 @@ impl Reason {
 
     /// A line of these pieces.
     pub fn line(alloc: Global, pieces: &[Piece<'_>]) -> Result<Reason, AllocError>
-        ensures { IfOk result IsReason }
+        ensures reason { IfOk result IsReason }
+        ensures told { IfOk result (λ reason. reason ≡ codes "jackd: " ++ told pieces.now ++ 10 ∷ []) }
     {
         let mut reason = Reason::new(alloc)?;
         reason.tell(pieces)?;
@@ -226,21 +226,24 @@ impl Reason {
 
     /// Begins a further line by the program's name.
     pub fn begin_line(&mut self) -> Result<(), AllocError>
-        ensures { IsReason self.new }
+        ensures reason { IsReason self.new }
+        ensures told { IfOk result (λ _. self.new ≡ self.old ++ codes "jackd: ") }
     {
         self.tell(&[Piece::Text("jackd: ")])
     }
 
     /// Ends the line.
     pub fn end_line(&mut self) -> Result<(), AllocError>
-        ensures { IsReason self.new }
+        ensures reason { IsReason self.new }
+        ensures told { IfOk result (λ _. self.new ≡ self.old ++ 10 ∷ []) }
     {
         self.add(b'\n')
     }
 
     /// Ends the line, and adds a line of a text that is shown below it, at most its first 120 bytes.
     pub fn show_below(&mut self, line: &[u8]) -> Result<(), AllocError>
-        ensures { IsReason self.new }
+        ensures reason { IsReason self.new }
+        ensures told { IfOk result (λ _. self.new ≡ self.old ++ 10 ∷ codes "    " ++ shown_front 120 line.now) }
     {
         self.end_line()?;
         self.tell(&[Piece::Text("    "), Piece::Front(line)])

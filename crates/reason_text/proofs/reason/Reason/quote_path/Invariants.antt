@@ -1,0 +1,6 @@
+use Rattle.std.proofs.Common.{◌≡◌, ◌++◌, flat_map, take}
+use Rattle.reason_text.specs.Texts.{quoted_byte}
+use Rattle.reason_text.proofs.reason.Reason.quote_path.Given as goal
+
+abbrev pub invariant-loop-byte : goal.invariant-loop-byte
+invariant-loop-byte l = l.self ≡ l.initial.self ++ flat_map (quoted_byte l.wide) (take l.byte-index l.name)

@@ -1,0 +1,70 @@
+-- How a piece of a sentence is written.
+--     shown bytes     so that they can be seen, and steer no terminal
+--     written piece   a piece
+--     told pieces     pieces, one behind the other
+use Rattle.std.specs.Prelude.{ℕ, ◌/◌, ◌%◌, Bool, false, not, ◌&&◌, ◌||◌, ◌==◌, nat_lt, nat_le, List, [], ◌∷◌, ◌++◌, length, take, flat_map, slice_index_or, codes, decimal, if◌then◌else◌}
+use Rattle.std.specs.Char.{is_ascii_alphanumeric}
+use Rattle.std.specs.List.{list_all}
+use Rattle.std.specs.Fmt.{signed_decimal}
+use Rattle.std.specs.Str.{is_utf8}
+use Rattle.reason_text.specs.declared.piece.Piece.{Piece}
+use Rattle.reason_text.specs.declared.piece.Piece.TheVariants.{Text, Shown, Quoted, Front, Path, Number, Signed, Counted}
+
+-- a byte, by two digits of sixteen
+abbrev pub hex_digit : ℕ → ℕ
+hex_digit n = slice_index_or (codes "0123456789abcdef") n 48
+
+abbrev pub escaped : ℕ → List ℕ
+escaped byte = codes "\\x" ++ hex_digit (byte / 16) ∷ hex_digit (byte % 16) ∷ []
+
+-- whether, behind a byte, a character from U+0080 to U+009F ends, which steers a terminal: 0xc2, and a byte below 0xa0
+abbrev pub steers_behind : ℕ → List ℕ → Bool
+steers_behind lead [] = false
+steers_behind lead (byte ∷ bytes) = ((lead == 194) && nat_lt byte 160) || steers_behind byte bytes
+
+abbrev pub is_text : List ℕ → Bool
+is_text bytes = is_utf8 bytes && not (steers_behind 0 bytes)
+
+-- a byte stands for itself where it is printed ASCII or, in a text, of a character beyond ASCII
+abbrev pub shown_byte : Bool → ℕ → List ℕ
+shown_byte text byte = if (nat_le 32 byte && nat_lt byte 127) || (text && nat_le 128 byte) then byte ∷ [] else escaped byte
+
+abbrev pub shown : List ℕ → List ℕ
+shown bytes = flat_map (shown_byte (is_text bytes)) bytes
+
+-- the first bytes, and dots where there are more
+abbrev pub shown_front : ℕ → List ℕ → List ℕ
+shown_front most bytes = if nat_le (length bytes) most then shown bytes else shown (take most bytes) ++ codes "..."
+
+abbrev pub quoted : List ℕ → List ℕ
+quoted word = codes "\"" ++ shown_front 64 word ++ codes "\""
+
+-- a byte that stands for itself in a word of a command line: a letter, a digit, or one of `./_-`
+abbrev pub is_plain : ℕ → Bool
+is_plain byte = is_ascii_alphanumeric byte || (byte == 46) || (byte == 47) || (byte == 95) || (byte == 45)
+
+-- a byte within single quotes, which a quote ends: an escaped one, and a quote that begins anew
+abbrev pub quoted_byte : Bool → ℕ → List ℕ
+quoted_byte text byte = if byte == 39 then codes "'\\''" else shown_byte text byte
+
+abbrev pub quoted_path : List ℕ → List ℕ
+quoted_path name = codes "'" ++ flat_map (quoted_byte (is_text name)) name ++ codes "'"
+
+abbrev pub path : List ℕ → List ℕ
+path name = if list_all is_plain name then shown name else quoted_path name
+
+abbrev pub counted : ℕ → List ℕ → List ℕ → List ℕ
+counted number one more = shown (decimal number) ++ codes " " ++ shown (if number == 1 then one else more)
+
+abbrev pub written : Piece → List ℕ
+written (Text text) = shown text.now
+written (Shown bytes) = shown bytes.now
+written (Quoted word) = quoted word.now
+written (Front line) = shown_front 120 line.now
+written (Path name) = path name.now
+written (Number number) = shown (decimal number)
+written (Signed number) = shown (signed_decimal number)
+written (Counted number one more) = counted number one.now more.now
+
+abbrev pub told : List Piece → List ℕ
+told = flat_map written

@@ -1,0 +1,58 @@
+//! Which bytes stand for themselves.
+
+ghost use Rattle.std.specs.Prelude.{◌≡◌, ◌<◌, ◌≤◌};
+ghost use Rattle.std.specs.List.{list_all};
+ghost use Rattle.reason_text.specs.Texts.{hex_digit, is_plain, is_text, steers_behind};
+
+/// A digit of sixteen.
+pub fn hex_digit(value: u8) -> u8
+    requires { value < 16 }
+    ensures digit { result ≡ hex_digit value }
+    ensures least { 32 ≤ result }
+    ensures most { result < 127 }
+{
+    b"0123456789abcdef"[usize::from(value)]
+}
+
+// Whether a character from U+0080 to U+009F stands in a text.
+fn steers(bytes: &[u8]) -> bool
+    ensures { result ≡ steers_behind 0 bytes.now }
+{
+    let mut lead = 0;
+    for byte in bytes {
+        if lead == 0xc2 && *byte < 0xa0 {
+            return true;
+        }
+        lead = *byte;
+    }
+    false
+}
+
+/// Whether the bytes are a text without characters beyond ASCII that steer a terminal.
+pub fn is_text(bytes: &[u8]) -> bool
+    ensures { result ≡ is_text bytes.now }
+{
+    match str::from_utf8(bytes) {
+        Ok(_) => !steers(bytes),
+        Err(_) => false,
+    }
+}
+
+// Whether a byte stands for itself in a word of a command line.
+fn is_plain(byte: u8) -> bool
+    ensures { result ≡ is_plain byte }
+{
+    byte.is_ascii_alphanumeric() || byte == b'.' || byte == b'/' || byte == b'_' || byte == b'-'
+}
+
+/// Whether each byte of a word stands for itself.
+pub fn are_plain(bytes: &[u8]) -> bool
+    ensures { result ≡ list_all is_plain bytes.now }
+{
+    for byte in bytes {
+        if !is_plain(*byte) {
+            return false;
+        }
+    }
+    true
+}
