@@ -69,8 +69,8 @@ module _ (desk : Desk) (is_script : IsScript desk.script) (is : IsDesk desk) whe
         cases earlier listed lower true e = group earlier listed lower (grind (arith, nat_tests))
         cases earlier listed lower false e = is.earlier earlier listed (grind (arith, nat_tests))
 
-  pub IsDesk-begun : (phase base : ℕ) → MayBegin desk phase base → IsDesk (record desk { phase = suc phase })
-  IsDesk-begun phase base may = record {
+  pub IsDesk-begun : (phase : ℕ) → MayBegin desk phase → IsDesk (record desk { phase = suc phase })
+  IsDesk-begun phase may = record {
     legal = is.legal;
     published = is.published;
     held = is.held;

@@ -30,7 +30,6 @@ first_begins desk e = record {
   next = sym e;
   there = phases-there desk.script;
   used = λ lane low. ap (λ n. within n (slice_get (planned_of desk.script lane) (made desk.history lane))) e ∙ none-within (slice_get (planned_of desk.script lane) (made desk.history lane));
-  base_is = refl;
 }
 
 table-looked : (lane : ℕ) (before after : Publishing) (seen : ℕ) → LooksBy lane before seen after → after.table ≡ before.table

@@ -87,12 +87,11 @@ pub record IsFresh (script : Script) (publisher : Publishing) : Type 0 where
 abbrev pub IsNewDesk : Script → Publishing → Desk → Type 0
 IsNewDesk script publisher desk = desk ≡ record { script = script; history = []; phase = 0; publishing = publisher }
 
--- the phase is the next one and is there, no lane has a call left, and the base is the cycles before it
-pub record MayBegin (desk : Desk) (phase base : ℕ) : Type 0 where
+-- the phase is the next one and is there, and no lane has a call left
+pub record MayBegin (desk : Desk) (phase : ℕ) : Type 0 where
   pub next : phase ≡ desk.phase
   pub there : phase < length (phases desk.script)
   pub used : (lane : ℕ) → lane ≤ 4 → IsDone desk lane
-  pub base_is : base ≡ cycles_before desk.script phase
 
 abbrev pub Begins : Desk → ℕ → Desk → Type 0
 Begins desk phase after = after ≡ record desk { phase = suc phase }

@@ -71,7 +71,7 @@ StageOfLane = (script : Script) (plan : Planned) → IsScript script → Contain
 
 -- before any phase the first one may begin
 abbrev pub FirstBegins : Type 0
-FirstBegins = (desk : Desk) → desk.phase ≡ 0 → MayBegin desk 0 0
+FirstBegins = (desk : Desk) → desk.phase ≡ 0 → MayBegin desk 0
 
 -- whatever a step answers, the desk goes on
 abbrev pub StepGoesOn : Type 0

@@ -80,13 +80,12 @@ impl Desk {
         })
     }
 
-    /// Begins the next phase, counted from 0, before which so many cycles lie.
-    pub fn begin(&mut self, phase: u32, base: u32)
-        requires { MayBegin self.old phase base }
+    /// Begins the next phase, counted from 0.
+    pub fn begin(&mut self, phase: u32)
+        requires { MayBegin self.old phase }
         ensures { Begins self.old phase self.new }
     {
-        // Each call has the number of its cycle, counted over the session.
-        let _ = base;
+        // The proof takes the type's invariant from here.
         let begun = &mut self.phase;
         *begun = phase + 1;
     }

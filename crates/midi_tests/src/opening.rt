@@ -71,7 +71,7 @@ pub fn desk_for(rt: &impl Abort, alloc: Global, script: &Script, publisher: Publ
 {
     first_begins();
     let mut desk = new_desk(rt, alloc, script, publisher);
-    desk.begin(0, 0);
+    desk.begin(0);
     desk
 }
 

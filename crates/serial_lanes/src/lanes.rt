@@ -1,7 +1,7 @@
 //! The lanes of one desk, stepped in the order of serial mode.
 
 ghost use Rattle.std.specs.Prelude.{◌≡◌, ◌≤◌, ◌<◌, ℕ, suc, length};
-ghost use Rattle.control_desk.specs.Desks.{IsDesk, IsDone, MayBegin, MayStep, cycles_before};
+ghost use Rattle.control_desk.specs.Desks.{IsDesk, IsDone, MayBegin, MayStep};
 ghost use Rattle.session_model.specs.Grammar.{IsScript};
 ghost use Rattle.session_model.specs.Histories.{accepted};
 ghost use Rattle.session_model.specs.Scripts.{phases};
@@ -9,33 +9,32 @@ ghost use Rattle.serial_lanes.specs.Lanes.{BehindPhases, IsRound, LaneRuns, Lane
 
 use control_desk::{Desk, Stepped};
 
-/// Begins the phase behind so many others, before which so many cycles lie, and makes its `do` calls, in each mode.
+/// Begins the phase behind so many others, and makes its `do` calls, in each mode.
 ///
 /// It looks at no cycle, and takes no memory.
-pub fn begin_group(desk: &mut Desk, phase: u32, base: u32)
-    requires { MayBegin desk.old phase base }
+pub fn begin_group(desk: &mut Desk, phase: u32)
+    requires { MayBegin desk.old phase }
     ensures runs { LaneRuns (record desk.old { phase = suc phase }) 0 desk.new }
     ensures done { IsDone desk.new 0 }
     ensures published { desk.new.publishing ≡ record desk.old.publishing { all = accepted desk.new.history; held = desk.new.publishing.held } }
     ensures same { desk.new ≡ record desk.old { history = desk.new.history; phase = suc phase; publishing = desk.new.publishing } }
 {
     kept_by_type(desk);
-    desk.begin(phase, base);
+    desk.begin(phase);
     run_lane(desk, 0);
 }
 
 /// Begins the phase behind so many others as `begin_group` does, where all calls so far were made in the order of serial mode.
-pub fn begin_phase(desk: &mut Desk, phase: u32, base: u32)
+pub fn begin_phase(desk: &mut Desk, phase: u32)
     requires behind { BehindPhases desk.old phase }
     requires there { phase < length (phases desk.old.script) }
-    requires base { base ≡ cycles_before desk.old.script phase }
     ensures serial { SerialDesk desk.new phase 0 }
     ensures done { IsDone desk.new 0 }
     ensures published { desk.new.publishing ≡ record desk.old.publishing { all = accepted desk.new.history; held = desk.new.publishing.held } }
     ensures same { desk.new ≡ record desk.old { history = desk.new.history; phase = suc phase; publishing = desk.new.publishing } }
 {
     kept_by_type(desk);
-    begin_group(desk, phase, base);
+    begin_group(desk, phase);
 }
 
 /// Lets lanes 1 to 4 go, each until it waits for a cycle or has no call left in this phase.

@@ -4,7 +4,6 @@ ghost use Rattle.std.specs.Prelude.{◌≡◌, ◌<◌, ◌≤◌, IsErrOf, OnEr
 ghost use Rattle.jack_host.specs.Causes.{Rose};
 ghost use Rattle.session_model.specs.Explanations.{Given};
 ghost use Rattle.session_model.specs.Scripts.{phases as the_phases};
-ghost use Rattle.control_desk.specs.Desks.{cycles_before};
 ghost use Rattle.run_laws.specs.SerialRuns.{SerialBehind, SerialKept};
 ghost use Rattle.script_segments.specs.Segments.{segments as the_segments};
 ghost use Rattle.serial_laws.specs.Faults.{StandsInSerial};
@@ -32,12 +31,10 @@ pub(crate) fn run_phase<S: Source, W: Store, G: Guest + Send, T: Threads + Sync,
     threads: &T,
     gate: &K,
     phase: u32,
-    base: u32,
     segment: Segment,
     limits: Limits,
 ) -> Result<(), SessionFault>
     requires there { slice_get (the_segments works.old.driver.script) phase ≡ Some segment }
-    requires base { base ≡ cycles_before works.old.driver.script phase }
     requires sound { IsSound (seen works.old) }
     requires behind { SerialBehind (seen works.old) phase }
     requires files { HasOpenFiles (parts_of works.old) }
@@ -59,7 +56,7 @@ pub(crate) fn run_phase<S: Source, W: Store, G: Guest + Send, T: Threads + Sync,
     a_turn_leaves_the_parts();
     a_turn_that_fails_leaves_fronts();
     a_phase_ends();
-    begin(works, phase, base);
+    begin(works, phase);
     works.driver.period(segment.period);
     for _ in 0..segment.cycles {
         turn(works, threads, gate, segment.is_freewheel, limits)?;
@@ -90,11 +87,9 @@ fn run_phases<S: Source, W: Store, G: Guest + Send, T: Threads + Sync, K: Gate>(
     ensures write { IsErrOf result SessionFault.Write → OneRose (held works.old) (held works.new) }
 {
     segments_are_the_phases();
-    let mut base = 0;
     for phase in 0..segments.len() {
         let segment = segments[phase];
-        run_phase(works, threads, gate, phase as u32, base, segment, limits)?;
-        base += segment.cycles;
+        run_phase(works, threads, gate, phase as u32, segment, limits)?;
     }
     Ok(())
 }

@@ -1,7 +1,7 @@
 //! The steps of a session's run in serial mode that no cycle is in: the lanes go, between two meetings of desk and driver.
 
 ghost use Rattle.std.specs.Prelude.{◌≡◌, ◌≤◌, ◌<◌, length};
-ghost use Rattle.control_desk.specs.Desks.{IsDesk, IsDone, cycles_before};
+ghost use Rattle.control_desk.specs.Desks.{IsDesk, IsDone};
 ghost use Rattle.run_laws.specs.Sessions.{Session as SessionValue};
 ghost use Rattle.serial_lanes.specs.Lanes.{BehindPhases};
 ghost use Rattle.session_model.specs.Scripts.{phases};
@@ -33,23 +33,18 @@ pub(crate) fn go_round<S: Source, W: Store, G: Guest>(works: &mut Works<S, W, G>
     meet(works);
 }
 
-/// Begins a phase, before which so many cycles lie: makes its `do` calls, and lets the lanes go their first round.
-pub(crate) fn begin<S: Source, W: Store, G: Guest>(
-    works: &mut Works<S, W, G>,
-    phase: u32,
-    base: u32,
-)
+/// Begins a phase: makes its `do` calls, and lets the lanes go their first round.
+pub(crate) fn begin<S: Source, W: Store, G: Guest>(works: &mut Works<S, W, G>, phase: u32)
     requires table { works.old.desk.publishing.table ≡ works.old.driver.reading.table }
     requires behind { BehindPhases works.old.desk phase }
     requires there { phase < length (phases works.old.desk.script) }
-    requires base { base ≡ cycles_before works.old.desk.script phase }
     ensures begun { Begun phase (seen works.old) (seen works.new) }
     ensures group { IsDone works.new.desk 0 }
     ensures phase { 1 ≤ works.new.desk.phase }
     ensures driver { works.new.driver ≡ record works.old.driver { reading = works.new.driver.reading } }
     ensures recorders { works.new.recorders ≡ works.old.recorders }
 {
-    begin_phase(&mut works.desk, phase, base);
+    begin_phase(&mut works.desk, phase);
     note_desk(&works.desk);
     go_round(works);
 }

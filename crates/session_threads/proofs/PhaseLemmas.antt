@@ -59,12 +59,11 @@ next-of there is driver done segment of count set some = record {
     within : (t : ℕ) → t < segment.cycles → t < of.phase.cycles
     within t low = subst (λ (s : Segment). t < s.cycles) of.is low
 
-pub may-begin : (session : Session) (done base : ℕ) (phase : Phase) → IsSound session → RanPhases session done → slice_get (phases session.script) done ≡ Some phase → base ≡ cycles_before session.script done → MayBegin session.desk done base
-may-begin session done base phase sound ran there base_is = record {
+pub may-begin : (session : Session) (done : ℕ) (phase : Phase) → IsSound session → RanPhases session done → slice_get (phases session.script) done ≡ Some phase → MayBegin session.desk done
+may-begin session done phase sound ran there = record {
   next = sym ran.phase;
   there = subst (λ (s : Script). done < length (phases s)) (sym sound.one.desk_script) (within there);
   used = ran.used;
-  base_is = base_is ∙ ap (λ (s : Script). cycles_before s done) (sym sound.one.desk_script);
 }
   where
     within : slice_get (phases session.script) done ≡ Some phase → done < length (phases session.script)

@@ -1,11 +1,9 @@
 -- The segments of a lawful script.
 --     IsOfPhase script done segment, of-phase      a segment and its phase
 --     CycleThere, CycleIs      the cycles of a phase
---     cycles-next      the cycles before the next phase
---     cycles-few      they are few
---     place-small      and so are the places of the phases
+--     place-small      the places of the phases are few
 --     segment_there      the segment at a place is given
---     place_fits, base-next, base-small      so it is with its place, and with the cycles before it
+--     place_fits      so it is with its place
 use Rattle.std.proofs.Common.{◌≡◌, ℕ, ◌+◌, ◌<◌, ◌≤◌, cond, count_by, List, [], ◌∷◌, length, get_or, slice_get, Some, refl, sym, ◌∙◌, ap, ap₂, subst, arith}
 use Rattle.std.proofs.lemmas.Option.{get_or_from_slice_get, slice_get-get_or, slice_get_within}
 use Rattle.std.proofs.lemmas.List.Sums.{sum_by-cons, sum_by-take-le, sum_by_more}
@@ -39,14 +37,6 @@ abbrev pub CycleIs : Type 0
 CycleIs =
     (script : Script) (done t : ℕ) (phase : Phase) → slice_get (phases script) done ≡ Some phase → t < phase.cycles
     → turn_of script (cycles_before script done + t + 1) ≡ record { period = phase.period; is_freewheel = phase.is_freewheel; phase = done }
-
-pub cycles-next : (script : Script) (done : ℕ) (phase : Phase) → slice_get (phases script) done ≡ Some phase → cycles_before script (done + 1) ≡ cycles_before script done + phase.cycles
-cycles-next script done phase there =
-    sum_by_more (λ (p : Phase). p.cycles) (phases script) done phase (slice_get_within (phases script) done phase there)
-    ∙ ap (λ (p : Phase). cycles_before script done + p.cycles) (get_or_from_slice_get (phases script) done phase phase there)
-
-pub cycles-few : (script : Script) (done : ℕ) → IsScript script → cycles_before script done ≤ 1000000
-cycles-few script done lawful = let all = sum_by-take-le (λ (p : Phase). p.cycles) (phases script) done in let few = lawful.few_cycles in omega (arith, all, few)
 
 with_do-length : (command : Command) (phs : List Phase) → length (with_do command phs) ≡ length phs
 with_do-length command [] = refl
@@ -90,11 +80,3 @@ module _ (law : SegmentsOfPhases) (given : List Segment) (before after : Script)
 
   pub place_fits : IsScript after → place < 257
   place_fits lawful = let found = law after place (get_or given place d) segment_there in place-small after place lawful (slice_get_within (phases after) place found.0 found.1)
-
-  pub base-next : (base : ℕ) → base ≡ cycles_before after place → base + (get_or given place d).cycles ≡ cycles_before after (place + 1)
-  base-next base base_is =
-      let found = law after place (get_or given place d) segment_there in
-      ap₂ (λ (n : ℕ) (s : Segment). n + s.cycles) base_is found.2 ∙ sym (cycles-next after place found.0 found.1)
-
-  pub base-small : (base : ℕ) → base ≡ cycles_before after place → IsScript after → base + (get_or given place d).cycles ≤ 1000000
-  base-small base base_is lawful = let next = base-next base base_is in let few = cycles-few after (place + 1) lawful in omega (arith, next, few)

@@ -25,15 +25,14 @@ pub fn meet<S: Source, W: Store, G: Guest>(works: &mut Works<S, W, G>)
     works.desk.meet(works.driver.reader());
 }
 
-/// Begins a phase behind so many others, before which so many cycles lie: its `do` calls are made, desk and driver meet, and
-/// the period of its cycles is set, in frames.
+/// Begins a phase behind so many others: its `do` calls are made, desk and driver meet, and the period of its cycles is set,
+/// in frames.
 pub(crate) fn begin<S: Source, W: Store, G: Guest>(
     works: &mut Works<S, W, G>,
     phase: u32,
-    base: u32,
     period: u32,
 )
-    requires may { MayBegin works.old.desk phase base }
+    requires may { MayBegin works.old.desk phase }
     requires table { works.old.desk.publishing.table ≡ works.old.driver.reading.table }
     ensures opens { Opens phase (seen works.old) (seen works.new) }
     ensures phase { works.new.desk.phase ≡ suc phase }
@@ -42,7 +41,7 @@ pub(crate) fn begin<S: Source, W: Store, G: Guest>(
     ensures recorders { works.new.recorders ≡ works.old.recorders }
 {
     desk_that_meets();
-    begin_group(&mut works.desk, phase, base);
+    begin_group(&mut works.desk, phase);
     note_desk(&works.desk);
     meet(works);
     works.driver.period(period);

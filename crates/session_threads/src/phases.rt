@@ -4,7 +4,7 @@ ghost use Rattle.std.specs.Prelude.{◌≡◌, ◌≤◌, ℕ, IsErrOf, IsSome, 
 ghost use Rattle.jack_host.specs.Causes.{Rose};
 ghost use Rattle.session_model.specs.Explanations.{Given};
 ghost use Rattle.session_model.specs.Scripts.{phases as the_phases};
-ghost use Rattle.control_desk.specs.Desks.{IsDone, cycles_before};
+ghost use Rattle.control_desk.specs.Desks.{IsDone};
 ghost use Rattle.run_laws.specs.Runs.{AtPhase, RanPhases};
 ghost use Rattle.run_laws.specs.Told.{StandsSoFar};
 ghost use Rattle.script_segments.specs.Segments.{segments as the_segments};
@@ -51,12 +51,10 @@ fn run_phase<
     wait: &R,
     gate: &K,
     phase: u32,
-    base: u32,
     segment: Segment,
     limits: Limits,
 ) -> (Rig<S, W, G>, Result<(), SessionFault>)
     requires there { slice_get (the_segments rig.works.driver.script) phase ≡ Some segment }
-    requires base { base ≡ cycles_before rig.works.driver.script phase }
     requires sound { IsSound (seen rig.works) }
     requires ran { RanPhases (seen rig.works) phase }
     requires files { HasOpenFiles (parts_of rig.works) }
@@ -70,7 +68,7 @@ fn run_phase<
 {
     segments_are_the_phases();
     cycles_of_a_phase();
-    begin(&mut rig.works, phase, base, segment.period);
+    begin(&mut rig.works, phase, segment.period);
     let (mut rig, ran) = run_segment(rig, threads, wait, gate, segment, limits);
     match ran {
         Ok(()) => {
@@ -148,22 +146,12 @@ fn run_phases<
     a_phase_that_fails_leaves_fronts();
     a_session_comes_up_to_its_fault();
     unfinished_files_have_fronts();
-    let mut base = 0;
     for phase in 0..segments.len() {
         let segment = segments[phase];
-        let (next, ran) = run_phase(
-            rig,
-            threads,
-            wait,
-            gate,
-            phase as u32,
-            base,
-            segment,
-            limits,
-        );
+        let (next, ran) = run_phase(rig, threads, wait, gate, phase as u32, segment, limits);
         rig = next;
         match ran {
-            Ok(()) => base += segment.cycles,
+            Ok(()) => {}
             Err(fault) => return (rig, Err(fault)),
         }
     }

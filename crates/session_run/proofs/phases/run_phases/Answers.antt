@@ -2,7 +2,7 @@ use Rattle.std.proofs.Common.{◌≡◌, ◌+◌, suc, false, Err, sym, ◌∙�
 use Rattle.control_desk.specs.Desks.{cycles_before}
 use Rattle.session_model.specs.Scripts.{Script}
 use Rattle.run_laws.specs.SerialRuns.{SerialBehind}
-use Rattle.session_threads.proofs.SegmentLemmas.{base-next, base-small, place_fits, segment_there}
+use Rattle.session_threads.proofs.SegmentLemmas.{place_fits, segment_there}
 use Rattle.session_threads.proofs.StayLemmas.{stays-trans}
 use Rattle.session_threads.proofs.StoreLemmas.{rose-behind}
 use Rattle.session_threads.proofs.TurningLemmas.{caught}
@@ -23,12 +23,8 @@ returns-in_err-run_phase-clause-write g c is =
     rose-behind (held c.args.works.now) (held c.loop-phase.works) (held c.run_phase.new.works) c.loop-phase.invariant.stays.later
     (c.run_phase.ensures.write (c.in_err-run_phase.was ∙ ap Err (caught c.from_residual.result c.in_err-run_phase.field-0.0 _ c.from_residual.ensures.1 is)))
 
-pub overflow_add-base : goal.overflow_add-base
-overflow_add-base g c = let small = base-small c.segments_are_the_phases.ensures.there c.args.segments.now c.args.works.now.driver.script c.loop-phase.works.driver.script c.requires.segments c.loop-phase.invariant.stays.script c.loop-phase.phase c.loop-phase-test.true (record { period = 0; is_freewheel = false; cycles = 0 }) c.loop-phase.base c.loop-phase.invariant.base c.loop-phase.invariant.sound.one.lawful in omega (arith, small)
-
 pub loop-phase-preserved : goal.loop-phase-preserved
 loop-phase-preserved g c = record {
-  base = base-next c.segments_are_the_phases.ensures.there c.args.segments.now c.args.works.now.driver.script c.loop-phase.works.driver.script c.requires.segments c.loop-phase.invariant.stays.script c.loop-phase.phase c.loop-phase-test.true (record { period = 0; is_freewheel = false; cycles = 0 }) c.loop-phase.base c.loop-phase.invariant.base ∙ ap (λ (s : Script). cycles_before s (c.loop-phase.phase + 1)) (sym c.run_phase.ensures.stays.script);
   behind = let next : suc c.loop-phase.phase ≡ c.loop-phase.phase + 1 = omega arith in subst (λ n. SerialBehind (seen c.run_phase.new.works) n) next c.in_ok-run_phase.ensures.behind;
   sound = c.in_ok-run_phase.ensures.sound;
   within = let low = c.loop-phase-test.true in omega (arith, low);

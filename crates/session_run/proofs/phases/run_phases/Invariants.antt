@@ -1,5 +1,4 @@
 use Rattle.std.proofs.Common.{◌≡◌, ◌≤◌}
-use Rattle.control_desk.specs.Desks.{cycles_before}
 use Rattle.session_model.specs.Explanations.{Given}
 use Rattle.run_laws.specs.SerialRuns.{SerialBehind, SerialKept}
 use Rattle.serial_laws.specs.Steps.{IsSound}
@@ -8,7 +7,6 @@ use Rattle.session_run.proofs.phases.run_phases.Given as goal
 
 abbrev pub invariant-loop-phase : goal.invariant-loop-phase
 invariant-loop-phase g l = record {
-  base : l.base ≡ cycles_before l.works.driver.script l.phase;
   behind : SerialBehind (seen {S = g.row.S.Denot} {W = g.row.W.Denot} {G = g.row.G.Denot} l.works) l.phase;
   sound : IsSound (seen {S = g.row.S.Denot} {W = g.row.W.Denot} {G = g.row.G.Denot} l.works);
   within : l.phase ≤ l.phase-end;

@@ -11,7 +11,7 @@ use Rattle.session_threads.proofs.StayLemmas.{stays-begun}
 use Rattle.session_threads.proofs.phases.run_phase.Goals as goal
 
 pub begin-requires-clause-may : goal.begin-requires-clause-may
-begin-requires-clause-may g c = let of = (of-phase c.segments_are_the_phases.ensures.there c.args.rig.works.driver.script c.args.rig.works.driver.script c.args.phase c.args.segment refl c.requires.there) in may-begin (seen {S = g.row.S.Denot} {W = g.row.W.Denot} {G = g.row.G.Denot} c.args.rig.works) c.args.phase c.args.base of.phase c.requires.sound c.requires.ran of.there c.requires.base
+begin-requires-clause-may g c = let of = (of-phase c.segments_are_the_phases.ensures.there c.args.rig.works.driver.script c.args.rig.works.driver.script c.args.phase c.args.segment refl c.requires.there) in may-begin (seen {S = g.row.S.Denot} {W = g.row.W.Denot} {G = g.row.G.Denot} c.args.rig.works) c.args.phase of.phase c.requires.sound c.requires.ran of.there
 
 pub run_segment-rig-requires-clause-sound : goal.run_segment-rig-requires-clause-sound
 run_segment-rig-requires-clause-sound g c κs within = opens-sound c.args.phase (seen {S = g.row.S.Denot} {W = g.row.W.Denot} {G = g.row.G.Denot} c.args.rig.works) (seen {S = g.row.S.Denot} {W = g.row.W.Denot} {G = g.row.G.Denot} c.begin.new.works) c.requires.sound c.begin.ensures.opens

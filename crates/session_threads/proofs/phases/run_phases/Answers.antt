@@ -6,7 +6,7 @@ use Rattle.thread_laws.specs.Coming.{HasCome}
 use Rattle.session_threads.specs.Insides.{held, parts_of, seen}
 use Rattle.session_threads.proofs.OutcomeLemmas.{at-err, at-ok}
 use Rattle.session_threads.proofs.PhaseLemmas.{come-failed, ran-at, ran-on, stands-failed}
-use Rattle.session_threads.proofs.SegmentLemmas.{base-next, base-small, of-phase, place_fits, segment_there}
+use Rattle.session_threads.proofs.SegmentLemmas.{of-phase, place_fits, segment_there}
 use Rattle.session_threads.proofs.StayLemmas.{stays-refl, stays-trans}
 use Rattle.session_threads.proofs.StoreLemmas.{rose-behind}
 use Rattle.session_threads.proofs.WheelLemmas.{rose-later}
@@ -18,12 +18,8 @@ overflow_cast-phase g c = let small = place_fits c.segments_are_the_phases.ensur
 pub run_phase-next-requires-clause-there : goal.run_phase-next-requires-clause-there
 run_phase-next-requires-clause-there g c κs within = segment_there c.segments_are_the_phases.ensures.there c.args.segments.now c.args.rig.works.driver.script c.loop-phase.rig.works.driver.script c.requires.segments c.loop-phase.invariant.stays.script c.loop-phase.phase c.loop-phase-test.true (record { period = 0; is_freewheel = false; cycles = 0 })
 
-pub overflow_add-base : goal.overflow_add-base
-overflow_add-base g c = let small = base-small c.segments_are_the_phases.ensures.there c.args.segments.now c.args.rig.works.driver.script c.loop-phase.rig.works.driver.script c.requires.segments c.loop-phase.invariant.stays.script c.loop-phase.phase c.loop-phase-test.true (record { period = 0; is_freewheel = false; cycles = 0 }) c.loop-phase.base c.loop-phase.invariant.base c.loop-phase.invariant.sound.one.lawful in omega (arith, small)
-
 pub loop-phase-init : goal.loop-phase-init
 loop-phase-init g c = record {
-  base = refl;
   ran = c.requires.ran;
   sound = c.requires.sound;
   at = λ given at. at;
@@ -33,7 +29,6 @@ loop-phase-init g c = record {
 
 pub loop-phase-preserved : goal.loop-phase-preserved
 loop-phase-preserved g c = record {
-  base = base-next c.segments_are_the_phases.ensures.there c.args.segments.now c.args.rig.works.driver.script c.loop-phase.rig.works.driver.script c.requires.segments c.loop-phase.invariant.stays.script c.loop-phase.phase c.loop-phase-test.true (record { period = 0; is_freewheel = false; cycles = 0 }) c.loop-phase.base c.loop-phase.invariant.base ∙ ap (λ (s : Script). cycles_before s (c.loop-phase.phase + 1)) (sym c.run_phase-next.ensures.stays.script);
   ran = (ran-on c.a_phase_is_behind.ensures.ran (seen {S = g.row.S.Denot} {W = g.row.W.Denot} {G = g.row.G.Denot} c.loop-phase.rig.works) (seen {S = g.row.S.Denot} {W = g.row.W.Denot} {G = g.row.G.Denot} c.run_phase-next.result.0.works) c.loop-phase.phase (get_or c.args.segments.now c.loop-phase.phase (record { period = 0; is_freewheel = false; cycles = 0 })) (of-phase c.segments_are_the_phases.ensures.there c.loop-phase.rig.works.driver.script c.loop-phase.rig.works.driver.script c.loop-phase.phase (get_or c.args.segments.now c.loop-phase.phase (record { period = 0; is_freewheel = false; cycles = 0 })) refl (segment_there c.segments_are_the_phases.ensures.there c.args.segments.now c.args.rig.works.driver.script c.loop-phase.rig.works.driver.script c.requires.segments c.loop-phase.invariant.stays.script c.loop-phase.phase c.loop-phase-test.true (record { period = 0; is_freewheel = false; cycles = 0 }))) c.loop-phase.invariant.sound c.loop-phase.invariant.ran (at-ok c.run_phase-next.result.1 _ c.in-Ok.is c.run_phase-next.ensures.whole)).1;
   sound = (ran-on c.a_phase_is_behind.ensures.ran (seen {S = g.row.S.Denot} {W = g.row.W.Denot} {G = g.row.G.Denot} c.loop-phase.rig.works) (seen {S = g.row.S.Denot} {W = g.row.W.Denot} {G = g.row.G.Denot} c.run_phase-next.result.0.works) c.loop-phase.phase (get_or c.args.segments.now c.loop-phase.phase (record { period = 0; is_freewheel = false; cycles = 0 })) (of-phase c.segments_are_the_phases.ensures.there c.loop-phase.rig.works.driver.script c.loop-phase.rig.works.driver.script c.loop-phase.phase (get_or c.args.segments.now c.loop-phase.phase (record { period = 0; is_freewheel = false; cycles = 0 })) refl (segment_there c.segments_are_the_phases.ensures.there c.args.segments.now c.args.rig.works.driver.script c.loop-phase.rig.works.driver.script c.requires.segments c.loop-phase.invariant.stays.script c.loop-phase.phase c.loop-phase-test.true (record { period = 0; is_freewheel = false; cycles = 0 }))) c.loop-phase.invariant.sound c.loop-phase.invariant.ran (at-ok c.run_phase-next.result.1 _ c.in-Ok.is c.run_phase-next.ensures.whole)).0;
   at = λ given at. ran-at c.a_phase_is_behind.ensures.at given (seen {S = g.row.S.Denot} {W = g.row.W.Denot} {G = g.row.G.Denot} c.loop-phase.rig.works) (seen {S = g.row.S.Denot} {W = g.row.W.Denot} {G = g.row.G.Denot} c.run_phase-next.result.0.works) c.loop-phase.phase (get_or c.args.segments.now c.loop-phase.phase (record { period = 0; is_freewheel = false; cycles = 0 })) (of-phase c.segments_are_the_phases.ensures.there c.loop-phase.rig.works.driver.script c.loop-phase.rig.works.driver.script c.loop-phase.phase (get_or c.args.segments.now c.loop-phase.phase (record { period = 0; is_freewheel = false; cycles = 0 })) refl (segment_there c.segments_are_the_phases.ensures.there c.args.segments.now c.args.rig.works.driver.script c.loop-phase.rig.works.driver.script c.requires.segments c.loop-phase.invariant.stays.script c.loop-phase.phase c.loop-phase-test.true (record { period = 0; is_freewheel = false; cycles = 0 }))) (subst (λ (s : Script). IsSome s.header.threads) (sym c.loop-phase.invariant.stays.script) c.requires.threads) c.loop-phase.invariant.sound (c.loop-phase.invariant.at given at) (at-ok c.run_phase-next.result.1 _ c.in-Ok.is c.run_phase-next.ensures.whole);

@@ -1,6 +1,5 @@
 use Rattle.std.proofs.Common.{◌≡◌, ◌≤◌, length}
 use Rattle.session_model.specs.Explanations.{Given}
-use Rattle.control_desk.specs.Desks.{cycles_before}
 use Rattle.run_laws.specs.Runs.{AtPhase, RanPhases}
 use Rattle.serial_laws.specs.Steps.{IsSound}
 use Rattle.session_threads.specs.Insides.{Stays, parts_of, seen}
@@ -8,7 +7,6 @@ use Rattle.session_threads.proofs.phases.run_phases.Given as goal
 
 abbrev pub invariant-loop-phase : goal.invariant-loop-phase
 invariant-loop-phase g l = record {
-  base : l.base ≡ cycles_before l.rig.works.driver.script l.phase;
   ran : RanPhases (seen {S = g.row.S.Denot} {W = g.row.W.Denot} {G = g.row.G.Denot} l.rig.works) l.phase;
   sound : IsSound (seen {S = g.row.S.Denot} {W = g.row.W.Denot} {G = g.row.G.Denot} l.rig.works);
   at : (given : Given) → AtPhase (seen {S = g.row.S.Denot} {W = g.row.W.Denot} {G = g.row.G.Denot} l.fn.rig.works) given 0 → AtPhase (seen {S = g.row.S.Denot} {W = g.row.W.Denot} {G = g.row.G.Denot} l.rig.works) given l.phase;
