@@ -172,8 +172,7 @@ impl<W: Store> Recorder<W> {
         let taken = self.consumer.taken();
         let given = write(&mut self.consumer, &mut self.spare, &mut self.file, most);
         self.blocks += written_behind(&self.consumer, taken, given.is_err());
-        let consumer = &mut self.consumer;
-        renew(producer, consumer);
+        renew(producer, &mut self.consumer);
         given?;
         Ok(())
     }
@@ -216,8 +215,7 @@ impl<W: Store> Recorder<W> {
         ensures renews { Renews producer.old self.old.getting producer.new self.new.getting }
         ensures same { self.new ≡ record self.old { getting = self.new.getting } }
     {
-        let theirs = &mut self.consumer;
-        renew(producer, theirs);
+        renew(producer, &mut self.consumer);
     }
 
     /// Finishes the file: writes its sizes. The store comes back in each case, and is kept for `take`.
