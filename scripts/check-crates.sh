@@ -8,7 +8,7 @@ status=0
 while IFS=: read -r crate names; do
   crate=${crate%% *}
   for name in $names; do
-    if ! grep -rqw --include='*.rt' --include='*.antt' -e "$name" "crates/$crate"; then
+    if ! grep -rqE --include='*.rt' --include='*.antt' -e "\bRattle\.$name\b|\buse $name\b|\b$name::" "crates/$crate"; then
       echo "check-crates: $crate cites $name nowhere"
       status=1
     fi
