@@ -16,6 +16,22 @@ lane 1 at 20 disconnect system:capture_1 tape:in
 lane 1 at 20 connect system:capture_1 tape:in
 ";
 
+// The report of five cycles.
+const REPORT: &str = "\
+report 1
+call 0 1 ok 1
+call 0 2 ok 2
+call 0 3 ok 3
+call 0 4 ok 4
+cycle 1 4 stopped 0 -
+cycle 2 4 stopped 0 -
+cycle 3 4 stopped 0 -
+cycle 4 4 stopped 0 -
+cycle 5 4 stopped 0 -
+recorder 0 5 0
+end
+";
+
 /// A play in this mode whose call of this number on this name is refused.
 fn refusing<R: Threads + Wait + Sync + AllocGlobal>(
     rt: &R,
@@ -88,4 +104,24 @@ fn a_report_that_is_not_put_leaves_whole_files(rt: HostRuntime) -> Result<(), Fa
     has_length(&rt, &played, "p", 84);
     has_length(&rt, &played, "r", 84);
     Ok(())
+}
+
+#[test]
+fn a_report_that_breaks_off_has_a_front(rt: HostRuntime) -> Result<(), Fail> {
+    for put in 2..64_u32 {
+        let mut out = MemorySink::new(rt.alloc());
+        out.refuse(put)?;
+        let played = play_over(&rt, drained_host(rt.alloc(), SERIAL, "run 5\n")?, out)?;
+        has_length(&rt, &played, "p", 84);
+        has_length(&rt, &played, "r", 84);
+        if played.status == Status::Ok {
+            assert!(rt; put > 2, "the report is put in one call");
+            has_out(&rt, &played, REPORT);
+            return Ok(());
+        }
+        assert_eq!(rt; played.status, Status::WriteFault, "put {put}");
+        let front = str::from_utf8(played.out.as_bytes()).unwrap_or("");
+        assert!(rt; !front.is_empty() && REPORT.starts_with(front), "put {put}");
+    }
+    panic!(rt; "the report is put in more than 64 calls")
 }

@@ -24,4 +24,6 @@ mod sharing;
 #[cfg(test)]
 mod threads;
 #[cfg(test)]
+mod told_cycles;
+#[cfg(test)]
 mod unplayed;

@@ -43,9 +43,15 @@ fn store_of(
     Ok((store, result.is_ok()))
 }
 
-// The length of a file of one sample where this write fails, and both sizes, if they are there.
-fn after_refusal(alloc: Global, refused: u32) -> Result<(usize, Option<(u32, u32)>), Memory> {
-    let (store, _) = store_of(alloc, MONO_8, &[0], refused)?;
+// The length of a file of these samples where this write fails, and both sizes, if they are there.
+fn after_refusal(
+    alloc: Global,
+    samples: &[i32],
+    refused: u32,
+) -> Result<(usize, Option<(u32, u32)>), Memory>
+    requires { length samples.now ≤ 5000 }
+{
+    let (store, _) = store_of(alloc, MONO_8, samples, refused)?;
     let bytes = store.as_bytes();
     if bytes.len() < 44 {
         return Ok((bytes.len(), None));
@@ -79,12 +85,36 @@ fn the_bytes_of_eight_frames_of_sixteen_bits(rt: HostRuntime) -> Result<(), Fail
 #[test]
 fn each_refused_write_leaves_what_was_written_before(rt: HostRuntime) -> Result<(), Fail> {
     let open = u32::MAX;
-    assert_eq!(rt; after_refusal(rt.alloc(), 1)?, (0, None));
-    assert_eq!(rt; after_refusal(rt.alloc(), 2)?, (44, Some((open, open))));
-    assert_eq!(rt; after_refusal(rt.alloc(), 3)?, (45, Some((open, open))));
-    assert_eq!(rt; after_refusal(rt.alloc(), 4)?, (46, Some((open, open))));
-    assert_eq!(rt; after_refusal(rt.alloc(), 5)?, (46, Some((38, open))));
-    assert_eq!(rt; after_refusal(rt.alloc(), 6)?, (46, Some((38, 1))));
+    assert_eq!(rt; after_refusal(rt.alloc(), &[0], 1)?, (0, None));
+    assert_eq!(rt;
+        after_refusal(rt.alloc(), &[0], 2)?,
+        (44, Some((open, open)))
+    );
+    assert_eq!(rt;
+        after_refusal(rt.alloc(), &[0], 3)?,
+        (45, Some((open, open)))
+    );
+    assert_eq!(rt;
+        after_refusal(rt.alloc(), &[0], 4)?,
+        (46, Some((open, open)))
+    );
+    assert_eq!(rt; after_refusal(rt.alloc(), &[0], 5)?, (46, Some((38, open))));
+    assert_eq!(rt; after_refusal(rt.alloc(), &[0], 6)?, (46, Some((38, 1))));
+    Ok(())
+}
+
+#[test]
+fn an_even_file_has_no_pad_between_samples_and_sizes(rt: HostRuntime) -> Result<(), Fail> {
+    let open = u32::MAX;
+    assert_eq!(rt;
+        after_refusal(rt.alloc(), &[0, 0], 3)?,
+        (46, Some((open, open)))
+    );
+    assert_eq!(rt;
+        after_refusal(rt.alloc(), &[0, 0], 4)?,
+        (46, Some((38, open)))
+    );
+    assert_eq!(rt; after_refusal(rt.alloc(), &[0, 0], 5)?, (46, Some((38, 2))));
     Ok(())
 }
 

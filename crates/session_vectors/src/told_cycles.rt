@@ -1,0 +1,65 @@
+//! Which cycles a gate is told of.
+
+use crate::overruns::{SERIAL, TWO_WORKERS, drained_host, play_under};
+use jack_control::Status;
+use jack_host::{Gate, MemorySink};
+use std::sync::atomic::{AtomicU64, Ordering};
+use std::test::Fail;
+
+// Counts the cycles that it is told, and those that are not the next.
+#[derive(Drop)]
+struct CountingGate {
+    cycles: AtomicU64,
+    astray: AtomicU64,
+}
+
+impl CountingGate {
+    fn new() -> CountingGate {
+        CountingGate {
+            cycles: AtomicU64::new(0),
+            astray: AtomicU64::new(0),
+        }
+    }
+
+    // How many cycles it was told.
+    fn cycles(&self) -> u64 {
+        self.cycles.load(Ordering::SeqCst)
+    }
+
+    // How many of them were not the next.
+    fn astray(&self) -> u64 {
+        self.astray.load(Ordering::SeqCst)
+    }
+}
+
+impl Gate for CountingGate {
+    fn before_cycle(&self, cycle: u32) {
+        let told = self.cycles.fetch_add(1, Ordering::SeqCst);
+        if u64::from(cycle) != told.wrapping_add(1) {
+            self.astray.fetch_add(1, Ordering::SeqCst);
+        }
+    }
+
+    fn before_call(&self, _lane: u8, _index: u32) {}
+
+    fn after_call(&self, _lane: u8, _index: u32) {}
+
+    fn before_client(&self, _worker: u32, _node: u32) {}
+
+    fn before_block(&self, _recorder: u8) {}
+
+    fn before_turn(&self, _disk: u8) {}
+}
+
+#[test]
+fn each_cycle_is_told_to_the_gate(rt: HostRuntime) -> Result<(), Fail> {
+    for mode in [SERIAL, TWO_WORKERS] {
+        let gate = CountingGate::new();
+        let host = drained_host(rt.alloc(), mode, "run 3\nfreewheel 4\nrun 2\n")?;
+        let played = play_under(&rt, host, MemorySink::new(rt.alloc()), &gate)?;
+        assert_eq!(rt; played.status, Status::Ok, "{mode}");
+        assert_eq!(rt; gate.cycles(), 9, "{mode}");
+        assert_eq!(rt; gate.astray(), 0, "{mode}");
+    }
+    Ok(())
+}
