@@ -114,6 +114,10 @@ ln old link
 play 6 nothing r c old --record link
 same r c old
 
+begin 'a record that is a playback which was not there'
+play 6 nothing r c p --record ./p
+same r c
+
 begin 'a record in a missing folder'
 play 6 nothing r c old --record missing/q
 same r c old
@@ -150,10 +154,60 @@ if [ -c /dev/null ]; then
 fi
 
 if [ -c /dev/full ]; then
-  begin 'a playback on a full disk'
+  begin 'a playback on a device that is full'
   play 6 nothing s c /dev/full
   same s c
 fi
+
+# Plays with these words beside a file system of its own, `small`, of 64 KiB and so many files and folders, with `old` in it.
+# What it has behind the play is copied into `behind`.
+play_in_small() {
+  local inodes=$1
+  shift
+  mkdir small behind
+  # shellcheck disable=SC2016
+  unshare -rm sh -c '
+    mount -t tmpfs -o "size=64k,nr_inodes=$1" small small && cp old small/old || exit 99
+    report=$2 errors=$3 jackd=$4
+    shift 4
+    "$jackd" play "$@" > "$report" 2> "$errors"
+    code=$?
+    cp small/* behind
+    exit $code' small "$inodes" "$report" "$folder/errors$cases" "$jackd" "$@"
+  code=$?
+  [ $code -eq 6 ] || fault "exit code $code, not 6"
+  [ ! -s "$report" ] || fault 'something was put out'
+}
+
+mkdir "$folder/small"
+if unshare -rm mount -t tmpfs small "$folder/small" 2> /dev/null; then
+  begin 'a record that a full file system has no place for'
+  play_in_small 2 r c small/old --record small/q
+  same r c old behind/old
+  [ ! -e behind/q ] || fault 'a record was made'
+
+  begin 'a record that a full file system has no place for, and a new playback'
+  play_in_small 3 r c small/p --record small/q
+  same r c old behind/old
+
+  begin 'a playback that a full file system has no room for'
+  sed -i 's/^run 10$/run 20000/' s
+  cp s long
+  play_in_small 9 s c small/p
+  cmp -s s long || fault 's was changed'
+  same c old behind/old
+  [ "$(stat -c %s behind/p)" -lt 65536 ] || fault 'the playback is longer than its file system'
+else
+  echo 'check-files: a full file system: passed over, none can be mounted'
+fi
+
+begin 'a playback into a pipe'
+mkfifo pipe
+cat pipe > piped &
+reader=$!
+play 6 nothing s c pipe
+wait "$reader"
+same s c
 
 # The first program holds its playback while it waits for its capture.
 begin 'two programs at once on one output'
