@@ -31,7 +31,7 @@ use Rattle.session_model.specs.State.{Connection, OpenClient, OpenPort, State, c
 use Rattle.session_laws.proofs.CycleLemmas.{bytes_same}
 use Rattle.session_laws.proofs.SequentialLemmas.{length-below}
 use Rattle.session_laws.proofs.LoopLemmas.{Contains-first, Contains-later}
-use Rattle.port_registry.proofs.FilterLemmas.{count-cons, map-filter_after}
+use Rattle.session_laws.proofs.FilterLemmas.{count-cons, map-filter_after}
 use Rattle.port_registry.specs.Registered.{is_of, open_client, open_clients}
 use Rattle.cycle_plan.specs.Layouts.{distinct, link_between, same_link, with_link}
 use Rattle.cycle_plan.specs.Plans.{IsPlanned, Planned, link_in, nodes_of, state_of_plan}

@@ -13,7 +13,7 @@ use Rattle.std.proofs.lemmas.List.{get_or_past, length-set}
 use Rattle.std.proofs.lemmas.List.Sums.{count_by-le-length, sum_by-cons, sum_by-set}
 use Rattle.jack_types.specs.declared.kinds.Kind.TheVariants.{Pass}
 use Rattle.session_model.specs.Samples.{below}
-use Rattle.port_registry.proofs.FilterLemmas.{count-append, count-cons}
+use Rattle.session_laws.proofs.FilterLemmas.{count-append, count-cons}
 use Rattle.client_benches.specs.Seen.{Seen, has_room_at, new_bench, room_count}
 use Rattle.client_benches.specs.Wires.{is_kept, kept_count}
 use Rattle.client_benches.specs.declared.wires.Wire.{Wire}

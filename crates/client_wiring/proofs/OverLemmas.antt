@@ -26,7 +26,7 @@ use Rattle.session_laws.proofs.LoopLemmas.{Contains-first, Contains-later, and_p
 use Rattle.session_laws.proofs.PlaceLemmas.{filter-keeps, position-found, position-passes}
 use Rattle.session_laws.proofs.PlanLemmas.{Distinct-from_Apart}
 use Rattle.session_laws.proofs.SoundLemmas.{map-contains}
-use Rattle.port_registry.proofs.FilterLemmas.{count-cons}
+use Rattle.session_laws.proofs.FilterLemmas.{count-cons}
 use Rattle.port_registry.specs.Registered.{open_clients}
 use Rattle.cycle_plan.specs.Graphs.{state_of}
 use Rattle.cycle_plan.specs.Layouts.{link_between, same_link}

@@ -27,7 +27,7 @@ use Rattle.session_laws.proofs.PlanLemmas.{Apart-below, Distinct-from_Apart, IsS
 use Rattle.session_laws.proofs.SequentialLemmas.{Contains-below, outgoing_at}
 use Rattle.session_laws.proofs.SoundLemmas.{Apart-filter, Apart-same, IsSound-replay}
 use Rattle.session_laws.proofs.WiredLemmas.{AreWired, AreWired-opening, AreWired-replay}
-use Rattle.port_registry.proofs.FilterLemmas.{map-filter_after}
+use Rattle.session_laws.proofs.FilterLemmas.{map-filter_after}
 use Rattle.port_registry.specs.Registered.{open_client, open_clients}
 use Rattle.cycle_plan.specs.Layouts.{same_link}
 use Rattle.cycle_plan.specs.Plans.{IsPlanned, Planned, link_in, opening_of, state_of_plan}

@@ -10,7 +10,7 @@ use Rattle.session_model.specs.State.{is_system, system_name}
 use Rattle.session_laws.proofs.LoopFreeLemmas.{Contains-append_left}
 use Rattle.session_laws.proofs.PlaceLemmas.{filter-keeps}
 use Rattle.session_laws.proofs.SoundLemmas.{map-contains}
-use Rattle.port_registry.proofs.FilterLemmas.{filter-push}
+use Rattle.session_laws.proofs.FilterLemmas.{filter-push}
 use Rattle.port_registry.specs.Registered.{Registered, is_named, is_of, with_active, with_opened, with_port, with_slow, without_client, without_port as without_port_of}
 use Rattle.cycle_plan.proofs.EndLemmas.{IsAmong}
 

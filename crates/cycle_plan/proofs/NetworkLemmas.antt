@@ -27,7 +27,7 @@ use Rattle.session_laws.proofs.LoopLemmas.{Contains-first, Contains-later, Conta
 use Rattle.session_laws.proofs.SoundLemmas.{Apart-same}
 use Rattle.connection_set.specs.Connections.{IsIdOf, StandsFor}
 use Rattle.feedback_edges.specs.Marking.{AreAmong, AreNamed, IsEndOf, IsNode, named_node, node_by_name}
-use Rattle.port_registry.proofs.FilterLemmas.{find-map_after}
+use Rattle.session_laws.proofs.FilterLemmas.{find-map_after}
 use Rattle.port_registry.proofs.RegisteredLemmas.{find_none-fresh}
 use Rattle.port_registry.specs.Registered.{IsPlaced, IsRegistered, Registered, client_by, is_of, node_for, open_client, open_clients, port_by, system_node, has_name}
 use Rattle.cycle_plan.specs.Graphs.{HaveEnds, Network, state_of, numbers_of}

@@ -27,7 +27,7 @@ use Rattle.session_laws.proofs.ListLemmas.{Contains-filtered}
 use Rattle.session_laws.proofs.LoopLemmas.{Contains-cases, Contains-first, Contains-later}
 use Rattle.session_laws.proofs.SequentialLemmas.{length-below}
 use Rattle.session_laws.proofs.SoundLemmas.{refused_not}
-use Rattle.port_registry.proofs.FilterLemmas.{count-cons, find-map_after, length-filter_within}
+use Rattle.session_laws.proofs.FilterLemmas.{count-cons, find-map_after, length-filter_within}
 use Rattle.port_registry.proofs.RefusalLemmas.{open-few, register-few}
 use Rattle.port_registry.specs.Answers.{Answers, IsMemory}
 use Rattle.port_registry.specs.Registered.{IsPlaced, IsRegistered, Registered, client_by, client_port, has_name, is_of, open_client, state_of as registry_state, system_entry, system_port, system_ports, unlisted, with_opened, with_port}

@@ -16,7 +16,7 @@ use Rattle.session_model.specs.Commands.{after, effect, is_audio, is_input, is_w
 use Rattle.session_model.specs.Cycles.{audio_inputs, audio_outputs}
 use Rattle.session_model.specs.Samples.{below}
 use Rattle.session_model.specs.State.{OpenPort, State, capture_port, opening, playback_port}
-use Rattle.port_registry.proofs.FilterLemmas.{count-append, count-cons, count-fewer, filter-push}
+use Rattle.session_laws.proofs.FilterLemmas.{count-append, count-cons, count-fewer, filter-push}
 use Rattle.session_laws.proofs.ActivationLemmas.{length-map_below}
 use Rattle.session_laws.proofs.CycleLemmas.{bytes_same}
 use Rattle.session_laws.proofs.SoundLemmas.{refused_not}

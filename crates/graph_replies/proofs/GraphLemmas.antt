@@ -38,7 +38,7 @@ use Rattle.session_laws.proofs.CycleLemmas.{bytes_same}
 use Rattle.session_laws.proofs.LoopLemmas.{Contains-first, Contains-later, or_cases}
 use Rattle.session_laws.proofs.PlanLemmas.{find-one}
 use Rattle.session_laws.proofs.SoundLemmas.{Apart-same}
-use Rattle.port_registry.proofs.FilterLemmas.{find-map_after}
+use Rattle.session_laws.proofs.FilterLemmas.{find-map_after}
 use Rattle.port_registry.proofs.PlaceLemmas.{position-at, position-at-some, position-find, position-find_none}
 use Rattle.port_registry.specs.Registered.{IsPlaced, IsRegistered, Registered, has_name, is_named, node_for, open_client, system_node}
 use Rattle.latency_ranges.specs.Graphs.{IsGraph, IsStateOf, is_device, latencies_in}

@@ -20,7 +20,7 @@ use Rattle.session_model.specs.Commands.{effect, after, refusal}
 use Rattle.session_model.specs.Ids.{open_port, open_ports, way_of}
 use Rattle.session_model.specs.State.{State, OpenClient, OpenPort}
 use Rattle.port_registry.specs.Registered.{Registered, open_client, open_clients, state_of, has_name, is_named, is_of, with_opened, without_client, with_active, with_slow, with_port, without_port, client_port}
-use Rattle.port_registry.proofs.FilterLemmas.{map-push, map-filter_after, map-changed, map-unchanged}
+use Rattle.session_laws.proofs.FilterLemmas.{map-push, map-filter_after, map-changed, map-unchanged}
 
 -- a state without edges, of these clients and ports
 state_with : List OpenClient → List OpenPort → State

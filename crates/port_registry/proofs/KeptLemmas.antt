@@ -21,7 +21,7 @@ use lib.Pointwise.{bytes_decides}
 use Rattle.port_registry.specs.Kept.{ids_in, items_of, AreFree}
 use Rattle.port_registry.specs.Listings.{ids_of, bears, without_id, without_number, with_id_active, with_number_active}
 use Rattle.port_registry.specs.Registered.{Registered, IsRegistered, IsPlaced, has_name, is_named, is_of, client_by, port_by, without_client, with_active, with_slow, with_port, without_port, system_entry}
-use Rattle.port_registry.proofs.FilterLemmas.{map-push, map-unchanged, filter-push, filter-same_all, find-map_after, some-mapped}
+use Rattle.session_laws.proofs.FilterLemmas.{map-push, map-unchanged, filter-push, filter-same_all, find-map_after, some-mapped}
 use Rattle.port_registry.proofs.PlaceLemmas.{some_same, none_some, IsOnlyAt, Apart-place, position-at, position-at-some, slice_get-contains, slice_get-below, slice_get-map_some, filter-empty, map-remove, map-same_all, set-mapped, length-mapped, remove-filter, set-map}
 use Rattle.port_registry.proofs.RegisteredLemmas.{only_named, at_end, filter-passed, told, find_none-fresh}
 

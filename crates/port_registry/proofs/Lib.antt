@@ -1,6 +1,5 @@
 pub mod AfterLemmas
 pub mod BirthLemmas
-pub mod FilterLemmas
 pub mod KeptLemmas
 pub mod OpeningLemmas
 pub mod PlaceLemmas

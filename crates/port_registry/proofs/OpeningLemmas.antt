@@ -23,7 +23,7 @@ use Rattle.session_laws.proofs.SoundLemmas.{Apart-push, map-contains}
 use Rattle.port_registry.specs.Kept.{ids_in, items_of, AreFree, IsListed}
 use Rattle.port_registry.specs.Listings.{ids_of}
 use Rattle.port_registry.specs.Registered.{Registered, IsRegistered, IsPlaced, open_client, state_of, is_of, system_entry, system_port, system_ports, unlisted, device_port}
-use Rattle.port_registry.proofs.FilterLemmas.{map-push, length-filter_within, filter-same_all}
+use Rattle.session_laws.proofs.FilterLemmas.{map-push, length-filter_within, filter-same_all}
 use Rattle.port_registry.proofs.PlaceLemmas.{length-mapped}
 use Rattle.port_registry.proofs.RegisteredLemmas.{at_end}
 

@@ -25,7 +25,7 @@ use lib.Pointwise.{bytes_decides}
 use Rattle.port_registry.specs.Kept.{ids_in}
 use Rattle.port_registry.specs.Listings.{ids_of, bears, bears_name, has_way}
 use Rattle.port_registry.specs.Registered.{Registered, IsRegistered, IsPlaced, open_client, open_clients, state_of, has_name, is_named, is_of, system_entry}
-use Rattle.port_registry.proofs.FilterLemmas.{count-cons, count-same, count-map_after, find-filter_kept, find-map_after, map-filter_after, some-mapped}
+use Rattle.session_laws.proofs.FilterLemmas.{count-cons, count-same, count-map_after, find-filter_kept, find-map_after, map-filter_after, some-mapped}
 use Rattle.port_registry.proofs.PlaceLemmas.{some_same, none_some, position-at, position-find, position-find_none, position-at-some, position-map_after, position-same, find-none, IsOnlyAt, slice_get-contains, slice_get-map_some}
 use Rattle.port_registry.proofs.RegisteredLemmas.{only_named, find_none-fresh}
 

@@ -25,7 +25,7 @@ use Rattle.session_laws.proofs.SoundLemmas.{Apart-filter, Apart-push, Apart-map,
 use lib.Pointwise.{bytes_decides}
 use Rattle.port_registry.specs.Registered.{Registered, IsRegistered, IsPlaced, open_client, has_name, is_named, is_of, node_for, system_node, system_entry, client_by, port_by, with_opened, without_client, with_active, with_slow, with_port, without_port, client_port}
 use Rattle.port_registry.proofs.AfterLemmas.{way_of-client_port}
-use Rattle.port_registry.proofs.FilterLemmas.{count-fewer, count-changed, count-cons, count-append, filter-push, find-push_kept, find-filter_kept, find-changed, length-filter_within}
+use Rattle.session_laws.proofs.FilterLemmas.{count-fewer, count-changed, count-cons, count-append, filter-push, find-push_kept, find-filter_kept, find-changed, length-filter_within}
 use Rattle.port_registry.proofs.PlaceLemmas.{some_same, none_some, IsOnlyAt, Apart-place}
 
 none_below : {n : ℕ} → n < 0 → ⊥

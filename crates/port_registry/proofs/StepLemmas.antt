@@ -27,7 +27,7 @@ use Rattle.port_registry.specs.Registered.{Registered, IsRegistered, has_name, i
 use Rattle.port_registry.proofs.KeptLemmas.{two_clients, lists-long, ports-closed, ports-active, ports-unregistered, list-at, indexed-opened, indexed-closed, indexed-active, indexed-slowed, indexed-registered, indexed-unregistered, clients-closed, clients-set, its_name_is, free-popped, free-pushed, free-changed}
 use Rattle.port_registry.proofs.PlaceLemmas.{some_same, slice_get-contains, slice_get-below, slice_get-map_some, length-mapped, position-at, position-at-some}
 use Rattle.port_registry.proofs.RefusalLemmas.{open-fresh, open-few, register-fresh, register-few}
-use Rattle.port_registry.proofs.FilterLemmas.{count-cons}
+use Rattle.session_laws.proofs.FilterLemmas.{count-cons}
 use Rattle.port_registry.proofs.RegisteredLemmas.{IsRegistered-same, IsRegistered-opened, IsRegistered-closed, IsRegistered-active, IsRegistered-slowed, IsRegistered-registered, IsRegistered-unregistered}
 
 at_most : {a b c : ℕ} → a ≤ b → b ≤ c → a ≤ c

@@ -19,7 +19,7 @@ use Rattle.session_laws.proofs.CycleLemmas.{filter-passes}
 use Rattle.session_laws.proofs.ListLemmas.{Each, Each-from_contains, Each-weaker, Ordered, Ordered-filter}
 use Rattle.session_laws.proofs.PlaceLemmas.{filter-contains, filter-keeps}
 use Rattle.session_laws.proofs.SoundLemmas.{map-contains}
-use Rattle.port_registry.proofs.FilterLemmas.{count-cons, count-map_after}
+use Rattle.session_laws.proofs.FilterLemmas.{count-cons, count-map_after}
 use Rattle.driver_laws.specs.Keeping.{AreOfCalls}
 use Rattle.task_laws.specs.Calls.{AreOwners, HasOpened, kind_opened, open_kinds, opens}
 use Rattle.task_laws.proofs.PigeonLemmas.{pigeon, same_kind, same_kind-is, same_kind-itself}

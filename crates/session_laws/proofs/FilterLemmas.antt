@@ -3,7 +3,6 @@ use Rattle.std.proofs.Common.{◌≡◌, ℕ, zero, suc, ◌+◌, ◌<◌, ◌�
 use Rattle.std.specs.Option.{option_map}
 use Rattle.std.proofs.lemmas.List.Sums.{sum_by-cons, sum_by-append}
 use Rattle.std.proofs.lemmas.List.Elements.{filter-append}
-use Rattle.port_registry.proofs.PlaceLemmas.{some_same, none_some}
 use Rattle.session_laws.proofs.LoopLemmas.{Contains-later, Contains-first}
 
 module _ {X : Type 0} where
@@ -50,7 +49,7 @@ module _ {X : Type 0} where
   filter-push p xs x = filter-append p xs (x ∷ [])
 
   pub find-push_kept : (p : X → Bool) (xs : List X) (x y : X) → find p xs ≡ Some y → find p (xs ++ x ∷ []) ≡ Some y
-  find-push_kept p [] x y h = absurd (none_some h)
+  find-push_kept p [] x y h = cc
   find-push_kept p (z ∷ zs) x y h = go (p z) h (find-push_kept p zs x y)
     where
       go : (b : Bool) → cond b (Some z) (find p zs) ≡ Some y → (find p zs ≡ Some y → find p (zs ++ x ∷ []) ≡ Some y) → cond b (Some z) (find p (zs ++ x ∷ [])) ≡ Some y
