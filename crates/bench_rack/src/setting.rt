@@ -12,7 +12,6 @@ impl<G: Guest> Rack<G> {
     ghost use Rattle.session_model.specs.Kinds.{first};
     ghost use Rattle.client_kinds.specs.Standings.{HasScore, IsDisk, IsGuest};
     ghost use Rattle.client_benches.specs.Seen.{MayPlay, cleared, moved_to, rested};
-    ghost use Rattle.client_benches.specs.declared.benches.Stint.{Stint as StintValue};
     ghost use Rattle.bench_rack.specs.Racks.{begun, bench_at, fed_with, moved, with_bench};
 
     /// Exchanges the benches at two places.
@@ -59,15 +58,14 @@ impl<G: Guest> Rack<G> {
         self.benches[place].set_moment(moment, period);
     }
 
-    /// Feeds the disk player at a place the interleaved block that its next cycle plays and uses up. That
-    /// cycle is of the greatest period.
+    /// Feeds the disk player at a place the interleaved block that its next cycle plays and uses up, or its
+    /// front, where that cycle is shorter.
     pub fn feed(&mut self, place: usize, samples: &[i32], channels: u16)
         requires place { place < length self.old.benches }
         requires kind { IsDisk (bench_at self.old place).kept.standing.kind }
         requires least { 1 ≤ channels }
         requires most { channels ≤ 8 }
         requires samples { length samples.now ≡ channels * (bench_at self.old place).kept.standing.period }
-        requires turn { (turn : StintValue) → (bench_at self.old place).kept.turn ≡ Some turn → turn.ports.period ≡ (bench_at self.old place).kept.standing.period }
         ensures { self.new ≡ with_bench self.old place (fed_with channels samples.now (bench_at self.old place)) }
     {
         self.benches[place].feed(samples, channels);

@@ -1,6 +1,6 @@
 -- Two courses that differ at rest give and leave the same.
 --     gives-same      in each cycle
-use Rattle.std.proofs.Common.{◌≡◌, ℕ, ℤ, zero, suc, ◌+◌, ◌<◌, ◌≤◌, ◌==◌, ◌&&◌, Bool, true, cond, List, [], length, map, Contains, Option, Some, None, unwrap_or, refl, ◌∙◌, ap, ap₂, arith, eq-eqb}
+use Rattle.std.proofs.Common.{◌≡◌, ℕ, ℤ, zero, suc, ◌+◌, ◌<◌, ◌≤◌, ◌==◌, ◌&&◌, Bool, true, cond, List, [], length, map, take, Contains, Option, Some, None, unwrap_or, refl, ◌∙◌, ap, ap₂, arith, eq-eqb}
 use Rattle.std.specs.List.{list_any}
 use Rattle.std.specs.Str.{bytes_eq}
 use Rattle.jack_types.specs.Names.{client_part}
@@ -51,7 +51,7 @@ module _ (course : Course) (is : IsScript course.script) (channels : map (λ (fi
       → ((disk j : ℕ) → is_disk disk kind ≡ true → input_at frames (fed course disk k) j ≡ input_at frames (fed other disk k) j)
       → play course.scores kind (with_block course k kind memory) outputs now frames inputs ≡ play other.scores kind (with_block other k kind memory) outputs now frames inputs
   play-same k (Disk disk) memory outputs now frames inputs alike =
-      ap (λ (at : ℕ → List ℤ). record { outputs = outputs_by outputs at; memory = record memory { fed = [] } }) (λ i j. alike disk j (eq-eqb disk disk refl) i)
+      ap (λ (at : ℕ → List ℤ). record { outputs = outputs_by outputs (λ j. take frames (at j)); memory = record memory { fed = [] } }) (λ i j. alike disk j (eq-eqb disk disk refl) i)
   play-same k _ memory outputs now frames inputs alike = refl
 
   -- what a client plays, from what it plays on its audio ports

@@ -20,7 +20,7 @@ use Rattle.client_benches.specs.declared.wires.Wire.{Wire}
 use Rattle.client_benches.specs.Insides.{HasAllRoom, IsPlayedShape, IsReached, IsSound}
 use Rattle.client_benches.specs.Routes.{HasOutput, IsBelow}
 use Rattle.client_benches.specs.Seen.{AreFilled, MayPlay, own_scores}
-use Rattle.client_benches.proofs.KeptLemmas.{HasScore-own, first-log, play-fed, play-log}
+use Rattle.client_benches.proofs.KeptLemmas.{HasScore-own, first-log, play-log}
 use Rattle.client_benches.proofs.RouteLemmas.{All-more, length-more}
 
 not-lent : (kind : Kind) (score : Option Score) → IsGuest kind → score ≡ None → HasGuest kind score → ⊥
@@ -88,7 +88,6 @@ sound-played standing new turn now routes inputs busy is s = subst (λ (z : Stan
     rate = old.rate;
     frames = old.frames;
     period = old.period;
-    fed = λ some. old.fed (play-fed (own_scores standing) standing.kind standing.memory now.ports.outputs now.moment now.ports.period inputs some);
     inputs = old.inputs;
     outputs = old.outputs;
   });

@@ -1,7 +1,7 @@
 -- What a bench remembers behind a play.
 --     HasScore-own      a bench's own scores have its guest's at its place
 --     play-scores      a kind plays the same by all scores that have its guest's
---     first-log, first_fed, play-log, play-fed      nothing is logged at first or by a play, and no block is fed
+--     first-log, play-log      nothing is logged at first or by a play
 --     midi-none      with no MIDI port nothing is played there
 --     kept-played, gives-carried      a bench that mixed, played and carried is as after a play, and gives what it has to
 --     kept-idle, gives-idle      an idle bench stays, and gives nothing
@@ -64,31 +64,10 @@ play-log scores Meter memory outputs moment period inputs = refl
 play-log scores (Disk disk) memory outputs moment period inputs = refl
 play-log scores _ memory outputs moment period inputs = refl
 
-pub play-fed : (scores : List Score) (kind : Kind) (memory : Memory) (outputs : ℕ) (moment : Moment) (period : ℕ) (inputs : List (List ℤ)) → 0 < length (play scores kind memory outputs moment period inputs).memory.fed → 0 < length memory.fed
-play-fed scores (Guest guest) memory outputs moment period inputs h = go memory.is_dead h
-  where
-    go : (dead : Bool)
-        → 0 < length (if dead then silent period outputs memory else guest_played period outputs memory (guest_turn (slice_get scores guest) memory.numbers (input_at period inputs 0))).memory.fed → 0 < length memory.fed
-    go true h = h
-    go false h = h
-play-fed scores (Delay frames) memory outputs moment period inputs h = h
-play-fed scores (Tone half level) memory outputs moment period inputs h = h
-play-fed scores Meter memory outputs moment period inputs h = h
-play-fed scores (Disk disk) memory outputs moment period inputs h = absurd (none h)
-  where
-    none : 0 < 0 → ⊥
-    none p = omega (arith, p)
-play-fed scores _ memory outputs moment period inputs h = h
-
 pub first-log : (scores : List Score) (kind : Kind) → (first scores kind).log ≡ []
 first-log scores (Delay frames) = refl
 first-log scores (Guest guest) = refl
 first-log scores _ = refl
-
-pub first_fed : (scores : List Score) (kind : Kind) → (first scores kind).fed ≡ []
-first_fed scores (Delay frames) = refl
-first_fed scores (Guest guest) = refl
-first_fed scores _ = refl
 
 -- what a bench with this task gets, plays and gives
 module _ (kept : Remembered) (given : List (List Signal)) where

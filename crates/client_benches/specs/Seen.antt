@@ -130,12 +130,11 @@ AreFilled old new links value = (place : ℕ) → slice_index_or new place None 
 abbrev pub nobody : Remembered
 nobody = (new_bench Pass 0).kept
 
--- a guest's bench has its guest, a block that was fed is of the greatest period, and moments, periods and ports are in range
+-- a guest's bench has its guest, and moments, periods and ports are in range
 pub record MayPlay (standing : Standing) (turn : Stint) : Type 0 where
   pub guest : HasGuest standing.kind standing.score
   pub rate : 8000 ≤ turn.moment.rate
   pub frames : turn.moment.frame + turn.ports.period < 2 ^ 32
   pub period : turn.ports.period ≤ standing.period
-  pub fed : 0 < length standing.memory.fed → turn.ports.period ≡ standing.period
   pub inputs : turn.ports.inputs ≤ 16
   pub outputs : turn.ports.outputs ≤ 16

@@ -72,7 +72,6 @@ fn play_front<G: Guest>(
     requires rate { 8000 ≤ moment.now.rate }
     requires frames { moment.now.frame + ports.period < 2 ^ 32 }
     requires period { ports.period ≤ bench.old.period }
-    requires fed { 0 < length bench.old.memory.fed → ports.period ≡ bench.old.period }
     requires few { (ports.inputs ≤ 16) × (ports.outputs ≤ 16) }
     requires input { ports.inputs * ports.period ≤ length input.now }
     requires output { ports.outputs * ports.period ≤ length output.old }

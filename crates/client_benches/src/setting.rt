@@ -46,7 +46,6 @@ impl<G: Guest> ClientBench<G> {
     ghost use Rattle.client_kinds.specs.Standings.{HasScore, IsDisk, IsGuest};
     ghost use Rattle.client_benches.specs.Seen.{MayPlay, cleared, moved_to, rested, room_count};
     ghost use Rattle.client_benches.specs.Wires.{kept_count, with_samples};
-    ghost use Rattle.client_benches.specs.declared.benches.Stint.{Stint as StintValue};
     ghost use Rattle.client_benches.specs.declared.wires.Source.TheVariants.{Kept, Carried, Like};
 
     /// Lends a guest, which is reset.
@@ -73,14 +72,13 @@ impl<G: Guest> ClientBench<G> {
         self.parts.bench.give_back()
     }
 
-    /// Feeds a disk player the interleaved block that its next cycle plays and uses up. That cycle is of
-    /// the greatest period.
+    /// Feeds a disk player the interleaved block that its next cycle plays and uses up, or its front, where
+    /// that cycle is shorter.
     pub fn feed(&mut self, samples: &[i32], channels: u16)
         requires kind { IsDisk self.old.kept.standing.kind }
         requires least { 1 ≤ channels }
         requires most { channels ≤ 8 }
         requires samples { length samples.now ≡ channels * self.old.kept.standing.period }
-        requires turn { (turn : StintValue) → self.old.kept.turn ≡ Some turn → turn.ports.period ≡ self.old.kept.standing.period }
         ensures { self.new ≡ record self.old { kept = record self.old.kept { standing = record self.old.kept.standing { memory = record self.old.kept.standing.memory { fed = channels_of channels self.old.kept.standing.period samples.now } } } } }
     {
         self.parts.bench.feed(samples, channels);

@@ -9,7 +9,7 @@ use Rattle.std.proofs.Common.{◌≡◌, ℕ, zero, suc, ◌+◌, ◌-◌, ◌*�
 use Rattle.std.specs.Prelude.{slice_range}
 use Rattle.std.proofs.Math.Nat.{mul-le-mul_right}
 use Rattle.std.proofs.Math.Seq.{take-append_seam, drop-append_seam}
-use Rattle.std.proofs.lemmas.List.{get_or_append_left, get_or_past, length-take-le, length-drop, take-take, take-append-le, drop-append-le, drop-take}
+use Rattle.std.proofs.lemmas.List.{get_or_append_left, get_or_past, length-take-le, length-drop, take-take, take_all, take-append-le, drop-append-le, drop-take}
 use Rattle.session_model.specs.Kinds.{input_at, outputs_by}
 use Rattle.session_model.specs.Samples.{below, sample, silence, total}
 use Rattle.session_laws.proofs.ActivationLemmas.{length-map_below, get_or-map_below}
@@ -122,12 +122,29 @@ silent_buffers count period n is =
     less : (m period : ℕ) → m + period - m ≡ period
     less m period = omega arith
 
-pub channel_within : (place count period : ℕ) (block : List ℤ) → place < count → map (λ i. sample block (i * count + place)) (below period) ≡ input_at period (channels_of count period block) place
-channel_within place count period block h = sym (get_or-map_below (λ j. map (λ i. sample block (i * count + j)) (below period)) count place (silence period) h)
+front-below : (f : ℕ → ℤ) (n more : ℕ) → take n (map f (below (n + more))) ≡ map f (below n)
+front-below f n zero =
+    let same : n + zero ≡ n = omega arith in
+    ap (λ m. take n (map f (below m))) same ∙ take_all n (map f (below n)) (omega (arith, length-map_below f n))
+front-below f n (suc more) =
+    let same : n + suc more ≡ suc (n + more) = omega arith in
+    ap (λ m. take n (map f (below m))) same
+    ∙ ap (take n) (map_more f (below (n + more)) (n + more))
+    ∙ take-append-le n (map f (below (n + more))) (f (n + more) ∷ []) (omega (arith, length-map_below f (n + more)))
+    ∙ front-below f n more
 
-pub channel_past : (place count period : ℕ) (block : List ℤ) → count ≤ place → silence period ≡ input_at period (channels_of count period block) place
-channel_past place count period block h =
-    sym (get_or_past (channels_of count period block) place (silence period) (omega (arith, h, length-map_below (λ j. map (λ i. sample block (i * count + j)) (below period)) count)))
+-- a front of a channel
+pub channel_front : (place count period n : ℕ) (block : List ℤ) → n ≤ period → place < count
+    → map (λ i. sample block (i * count + place)) (below n) ≡ take n (input_at n (channels_of count period block) place)
+channel_front place count period n block short h =
+    let same : n + (period - n) ≡ period = omega (arith, short) in
+    sym (ap (λ m. take n (map (λ i. sample block (i * count + place)) (below m))) (sym same) ∙ front-below (λ i. sample block (i * count + place)) n (period - n))
+    ∙ ap (take n) (sym (get_or-map_below (λ j. map (λ i. sample block (i * count + j)) (below period)) count place (silence n) h))
+
+pub channel_past : (place count period n : ℕ) (block : List ℤ) → count ≤ place → silence n ≡ take n (input_at n (channels_of count period block) place)
+channel_past place count period n block h =
+    sym (take_silence n n (omega arith))
+    ∙ ap (take n) (sym (get_or_past (channels_of count period block) place (silence n) (omega (arith, h, length-map_below (λ j. map (λ i. sample block (i * count + j)) (below period)) count))))
 
 -- what stands in front of a place stays
 pub front-kept : (period place : ℕ) (old buffer : List ℤ) → period ≤ place * period → place * period ≤ length old → take period (with_buffer period place old buffer) ≡ take period old

@@ -21,7 +21,7 @@ sound Mix memory moment period inputs j = mix period inputs
 sound (Delay frames) memory moment period inputs j = take period (delayed period memory.lines inputs j)
 sound (Tone half level) memory moment period inputs j = map (λ i. tone_sample half level (memory.phase + i)) (below period)
 sound (Click level) memory moment period inputs j = map (click_sample level moment) (below period)
-sound (Disk disk) memory moment period inputs j = input_at period memory.fed j
+sound (Disk disk) memory moment period inputs j = take period (input_at period memory.fed j)
 sound _ memory moment period inputs j = silence period
 
 -- what is kept for the next cycle

@@ -104,7 +104,6 @@ fn play_voice(
     requires rate { 8000 ≤ moment.now.rate }
     requires frames { moment.now.frame + ports.period < 2 ^ 32 }
     requires period { ports.period ≤ voice.old.period }
-    requires fed { 0 < length voice.old.memory.fed → ports.period ≡ voice.old.period }
     requires few_inputs { ports.inputs ≤ 16 }
     requires few_outputs { ports.outputs ≤ 16 }
     requires input { length input.now ≡ ports.inputs * ports.period }
@@ -133,7 +132,6 @@ fn play_parts<G: Guest>(
     requires rate { 8000 ≤ moment.now.rate }
     requires frames { moment.now.frame + ports.period < 2 ^ 32 }
     requires period { ports.period ≤ voice.old.period }
-    requires fed { 0 < length voice.old.memory.fed → ports.period ≡ voice.old.period }
     requires few_inputs { ports.inputs ≤ 16 }
     requires few_outputs { ports.outputs ≤ 16 }
     requires input { length input.now ≡ ports.inputs * ports.period }
@@ -223,8 +221,8 @@ impl<G: Guest> Bench<G> {
 
     /// Plays a cycle on planar buffers, and answers the client's health.
     ///
-    /// A block that was fed is of the period that the bench was made for, and so is the cycle that plays
-    /// it. A dead bench is silent and calls nobody.
+    /// A cycle that is shorter than a block that was fed plays the block's front, and uses the block up. A
+    /// dead bench is silent and calls nobody.
     pub fn process(
         &mut self,
         moment: &Moment,
@@ -236,7 +234,6 @@ impl<G: Guest> Bench<G> {
         requires rate { 8000 ≤ moment.now.rate }
         requires frames { moment.now.frame + ports.period < 2 ^ 32 }
         requires period { ports.period ≤ self.old.period }
-        requires fed { 0 < length self.old.memory.fed → ports.period ≡ self.old.period }
         requires few_inputs { ports.inputs ≤ 16 }
         requires few_outputs { ports.outputs ≤ 16 }
         requires input { length input.now ≡ ports.inputs * ports.period }

@@ -1,6 +1,6 @@
 //! The part of a bench that asks no guest.
 
-ghost use Rattle.std.specs.Prelude.{◌≡◌, ℕ, ◌+◌, ◌*◌, ◌<◌, ◌≤◌, ◌^◌, ◌%◌, [], All, IfOk, fold, length, map};
+ghost use Rattle.std.specs.Prelude.{◌≡◌, ℕ, ◌+◌, ◌*◌, ◌<◌, ◌≤◌, ◌^◌, ◌%◌, [], All, IfOk, fold, length, map, take};
 ghost use Rattle.session_model.specs.Kinds.{click_sample, first, input_at, peak_with};
 ghost use Rattle.session_model.specs.Samples.{below, mix, silence};
 ghost use Rattle.client_kinds.specs.Buffers.{buffers_of, channels_of};
@@ -136,7 +136,6 @@ impl Voice {
         requires rate { 8000 ≤ moment.now.rate }
         requires frames { moment.now.frame + ports.period < 2 ^ 32 }
         requires period { ports.period ≤ self.now.period }
-        requires fed { 0 < length self.now.memory.fed → ports.period ≡ self.now.period }
         requires input { length input.now ≡ ports.inputs * ports.period }
         requires place { place < 16 }
         requires part { length part.old ≡ ports.period }
@@ -162,7 +161,7 @@ impl Voice {
             }
             Kind::Tone { half, level } => fill_tone(half, level, self.phase, part),
             Kind::Click { level } => fill_beats(level, moment, part),
-            Kind::Disk { .. } => fill_fed(&self.block, self.channels, place, part),
+            Kind::Disk { .. } => fill_fed(&self.block, self.channels, self.period, place, part),
             _ => fill_silence(part),
         }
     }
@@ -180,7 +179,6 @@ impl Voice {
         requires rate { 8000 ≤ moment.now.rate }
         requires frames { moment.now.frame + ports.period < 2 ^ 32 }
         requires period { ports.period ≤ self.now.period }
-        requires fed { 0 < length self.now.memory.fed → ports.period ≡ self.now.period }
         requires input { length input.now ≡ ports.inputs * ports.period }
         requires few { ports.outputs ≤ 16 }
         requires output { length output.old ≡ ports.outputs * ports.period }
@@ -206,7 +204,6 @@ impl Voice {
         requires rate { 8000 ≤ moment.now.rate }
         requires frames { moment.now.frame + ports.period < 2 ^ 32 }
         requires period { ports.period ≤ self.now.period }
-        requires fed { 0 < length self.now.memory.fed → ports.period ≡ self.now.period }
         requires input { length input.now ≡ ports.inputs * ports.period }
         requires few { ports.outputs ≤ 16 }
         requires place { place < ports.outputs }
@@ -271,11 +268,12 @@ fn fill_beats(level: i32, moment: &Moment, part: &mut [i32])
     }
 }
 
-/// A channel of the block that was fed, silence past the last one.
-#[tactic(auto, using(crate::proofs::BufferLemmas::channel_within, crate::proofs::BufferLemmas::channel_past))]
-fn fill_fed(block: &[i32], channels: u16, place: usize, part: &mut [i32])
-    requires { channels * length part.old ≤ length block.now }
-    ensures { part.new ≡ input_at (length part.old) (channels_of channels (length part.old) block.now) place }
+/// The front of a channel of the block that was fed, silence past the last one.
+#[tactic(auto, using(crate::proofs::BufferLemmas::channel_front, crate::proofs::BufferLemmas::channel_past))]
+fn fill_fed(block: &[i32], channels: u16, period: u32, place: usize, part: &mut [i32])
+    requires block { channels * period ≤ length block.now }
+    requires part { length part.old ≤ period }
+    ensures { part.new ≡ take (length part.old) (input_at (length part.old) (channels_of channels period block.now) place) }
 {
     if place < usize::from(channels) {
         fill_channel(block, usize::from(channels), place, part)

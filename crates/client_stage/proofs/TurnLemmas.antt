@@ -158,16 +158,12 @@ may-go-on staged last plan goes changes few_edges on is_staffed moment period ra
   rate = rate;
   frames = frames;
   period = subst (λ k. period ≤ k) (sym (on.stands.periods n (omega (arith, low, nodes-staffed staged last on is_staffed)))) within;
-  fed = λ some. absurd (some_none some (on.stands.unfed n));
   inputs = subst (λ (t : Stint). t.ports.inputs ≤ 16) turn_is (subst (λ (w : Wired). (widths_at w n).inputs ≤ 16) wired_is (few-inputs plan goes.planned few_edges n low_now));
   outputs = subst (λ (t : Stint). t.ports.outputs ≤ 16) turn_is (subst (λ (w : Wired). (widths_at w n).outputs ≤ 16) wired_is (few-outputs plan goes.planned few_edges n low_now));
 }
   where
     some_is : {a b : Stint} → Some a ≡ Some b → a ≡ b
     some_is p = cc
-
-    some_none : {xs : List (List ℤ)} → 0 < length xs → xs ≡ [] → ⊥
-    some_none h p = let none = ap length p in omega (arith, h, none)
 
     turn_is : turn_of staged.wiring last.links (on.staffed is_staffed).moment staged.period n ≡ turn
     turn_is = some_is (sym ((on.staffed is_staffed).set n low).turn ∙ e)

@@ -33,7 +33,6 @@ pub fn set_tasks<G: Guest>(
     requires rate { 8000 ≤ moment.now.rate }
     requires frames { moment.now.frame + period < 2 ^ 32 }
     requires period { (n : ℕ) → n < length plan.now.nodes → period ≤ (bench_at rack.old n).kept.standing.period }
-    requires fed { (n : ℕ) → n < length plan.now.nodes → (bench_at rack.old n).kept.standing.memory.fed ≡ [] }
     ensures set { AreSet wiring.now plan.now.links moment.now period (λ i. []) (length plan.now.nodes) rack.new }
     ensures rooms { HasRooms plan.now.links rack.new }
     ensures joints { AreJoints (length plan.now.nodes) wiring.now.joints }

@@ -44,7 +44,7 @@ fn room_of(alloc: Global, samples: u8, value: i32) -> Result<Room, Fail> {
 
 /// A bench that never played.
 fn new_bench(alloc: Global) -> Result<Bench, Memory>
-    ensures standing { IfOk result (λ bench. (bench.kept.standing.kind ≡ Pass) × (bench.kept.standing.period ≡ 40) × (bench.kept.standing.memory.fed ≡ [])) }
+    ensures standing { IfOk result (λ bench. (bench.kept.standing.kind ≡ Pass) × (bench.kept.standing.period ≡ 40)) }
     ensures lists { IfOk result (λ bench. (bench.kept.wires ≡ []) × (bench.kept.routes ≡ [])) }
 {
     ClientBench::new(alloc, Kind::Pass, 40)
@@ -67,12 +67,10 @@ fn hear_parts(alloc: Global, bench: &mut Bench, parts: &[(u8, i32)]) -> Result<(
 /// Plays a cycle of these ports.
 fn play(bench: &mut Bench, ports: Shape)
     requires kind { bench.old.kept.standing.kind ≡ Pass }
-    requires fed { bench.old.kept.standing.memory.fed ≡ [] }
     requires routes { bench.old.kept.routes ≡ [] }
     requires ports { (ports.inputs ≤ 16) × (ports.outputs ≤ 16) }
     requires period { (ports.period ≤ bench.old.kept.standing.period) × (ports.period ≤ 4096) }
     ensures kind { bench.new.kept.standing.kind ≡ Pass }
-    ensures fed { bench.new.kept.standing.memory.fed ≡ [] }
     ensures routes { bench.new.kept.routes ≡ [] }
     ensures period { bench.new.kept.standing.period ≡ bench.old.kept.standing.period }
 {

@@ -242,3 +242,19 @@ fn a_block_that_is_fed_is_played_once(rt: HostRuntime) -> Result<(), Fail> {
     plays(&rt, &mut disk, &stopped(), &[], &[0, 0, 0, 0]);
     Ok(())
 }
+
+#[test]
+fn a_shorter_cycle_plays_the_front_of_a_block(rt: HostRuntime) -> Result<(), Fail> {
+    let mut disk = bench(rt.alloc(), Kind::Disk { disk: 0 })?;
+    disk.feed(&[1, 10, 2, 20, 3, 30, 4, 40], 2);
+    let ports = Shape {
+        inputs: 0,
+        outputs: 3,
+        period: 2,
+    };
+    let mut output = [9; 6];
+    disk.process(&stopped(), ports, &[], &mut output);
+    assert!(rt; output == [1, 2, 10, 20, 0, 0]);
+    plays(&rt, &mut disk, &stopped(), &[], &[0, 0, 0, 0]);
+    Ok(())
+}

@@ -1,4 +1,4 @@
-use Rattle.std.proofs.Common.{◌≡◌, ◌∙◌, length, arith}
+use Rattle.std.proofs.Common.{◌∙◌, length, arith}
 use Rattle.client_kinds.proofs.LineLemmas.{first-alone}
 use Rattle.client_kinds.proofs.lines.fill_behind.Goals as goal
 

@@ -49,11 +49,6 @@ set_tasks-requires-clause-period g c n low =
         ap (λ (s : Standing). s.period) (cleared-same c.args.rack.now c.clear_all.new.rack c.args.count c.clear_all.ensures.cleared c.clear_all.ensures.others p).0
         ∙ c.requires.periods.1 p (omega (arith, h, c.clear_all.ensures.lengths))
 
-pub set_tasks-requires-clause-fed : goal.set_tasks-requires-clause-fed
-set_tasks-requires-clause-fed g c n low =
-    unfed-cast c.args.plan.now c.nodes-nodes.result.now c.nodes-nodes.ensures.value c.args.rack.now c.clear_all.new.rack c.seat.new.rack c.args.owners.now c.seat.new.owners c.requires.seating c.seat.ensures.seating c.clear_all.ensures.lengths
-    (standings-cleared c.args.rack.now c.clear_all.new.rack c.args.count c.clear_all.ensures.cleared c.clear_all.ensures.others) c.requires.past c.seat.ensures.kept c.seat.ensures.fresh c.seat.ensures.same_bench c.seat.ensures.owners c.requires.unfed n
-
 pub returns-clause-seating : goal.returns-clause-seating
 returns-clause-seating g c = seating-same c.seat.new.rack c.set_tasks.new.rack c.seat.new.owners c.seat.ensures.seating c.set_tasks.ensures.lengths c.set_tasks.ensures.standings
 

@@ -29,7 +29,6 @@ begin_all-requires-clause-turns g c n h = record {
   rate = c.requires.rate;
   frames = c.requires.frames;
   period = c.requires.period n low;
-  fed = λ some. absurd (omega (arith, some, ap length (c.requires.fed n low)));
   inputs = subst (λ (wiring : Wired). (widths_at wiring n).inputs ≤ 16) (sym c.requires.wired) (few-inputs c.args.plan.now c.links-links.ensures.planned few n low);
   outputs = subst (λ (wiring : Wired). (widths_at wiring n).outputs ≤ 16) (sym c.requires.wired) (few-outputs c.args.plan.now c.links-links.ensures.planned few n low);
 }

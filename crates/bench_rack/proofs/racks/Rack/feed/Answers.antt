@@ -1,9 +1,7 @@
 use Rattle.std.proofs.Common.{◌≡◌, ◌*◌, length, sym, ap, subst}
-use Rattle.std.specs.Prelude.{Some}
 use Rattle.client_kinds.specs.Standings.{IsDisk}
 use Rattle.client_benches.specs.Seen.{Seen}
 use Rattle.client_benches.specs.Wires.{kept_count}
-use Rattle.client_benches.specs.declared.benches.Stint.{Stint}
 use Rattle.bench_rack.specs.Racks.{fed_with}
 use Rattle.bench_rack.proofs.WholeLemmas.{IsSlot, changed-is, slot-is, whole-stays}
 use Rattle.bench_rack.proofs.racks.Rack.feed.Goals as goal
@@ -17,11 +15,6 @@ pub feed-requires-clause-samples : goal.feed-requires-clause-samples
 feed-requires-clause-samples g c =
     let slot : IsSlot c.args.self.now c.self.inside.benches.items c.self.inside.links c.args.place c.index_mut.result.now = record { view = c.self.view_is; within = c.requires.place; is = c.index_mut.ensures.value } in
     subst (λ (seen : Seen). length c.args.samples.now ≡ c.args.channels * seen.kept.standing.period) (sym (slot-is slot)) c.requires.samples
-
-pub feed-requires-clause-turn : goal.feed-requires-clause-turn
-feed-requires-clause-turn g c =
-    let slot : IsSlot c.args.self.now c.self.inside.benches.items c.self.inside.links c.args.place c.index_mut.result.now = record { view = c.self.view_is; within = c.requires.place; is = c.index_mut.ensures.value } in
-    subst (λ (seen : Seen). (turn : Stint) → seen.kept.turn ≡ Some turn → turn.ports.period ≡ seen.kept.standing.period) (sym (slot-is slot)) c.requires.turn
 
 pub invariant_of-self : goal.invariant_of-self
 invariant_of-self g c =
