@@ -1,7 +1,8 @@
 //! What is kept of a failure of the system.
 
 ghost use Rattle.std.specs.Prelude.{◌≡◌, ◌↔◌, ◌+◌, ◌≤◌, Ok, IfOk, IfSome, IsErr, IsNone, OnErr, OnOk, option_map, string_bytes};
-ghost use Rattle.jack_host.specs.Causes.{Adds, IsCounted};
+ghost use Rattle.std.specs.Option.{option_or};
+ghost use Rattle.jack_host.specs.Causes.{Adds, IsCounted, last_of};
 
 use crate::Failed;
 use crate::rooms::{keep_name, room_of_name};
@@ -113,6 +114,7 @@ impl Faults {
         ensures ok { IfOk result (λ value. answer ≡ Ok value) }
         ensures err { OnErr result (IsErr answer) }
         ensures counted { IsCounted self.old.count self.new.count result }
+        ensures last { self.new.last ≡ last_of answer self.old.last }
     {
         match answer {
             Ok(value) => Ok(value),
@@ -136,6 +138,7 @@ impl Faults {
     fn add(&mut self, more: &Faults)
         ensures adds { Adds self.old.count more.now.count self.new.count }
         ensures no_more { self.new.count ≤ self.old.count + more.now.count }
+        ensures last { self.new.last ≡ option_or more.now.last self.old.last }
     {
         self.count = self.count.saturating_add(more.count);
         if let Some(reason) = more.last {
@@ -179,6 +182,7 @@ impl NamedFaults {
         ensures ok { IfOk result (λ value. answer ≡ Ok value) }
         ensures err { OnErr result (IsErr answer) }
         ensures counted { IsCounted self.old.faults.count self.new.faults.count result }
+        ensures last { self.new.faults.last ≡ last_of answer self.old.faults.last }
     {
         if answer.is_err() {
             keep_name(&mut self.name, name);
@@ -190,6 +194,7 @@ impl NamedFaults {
     pub(crate) fn add(&mut self, name: &str, more: &Faults)
         ensures adds { Adds self.old.faults.count more.now.count self.new.faults.count }
         ensures no_more { self.new.faults.count ≤ self.old.faults.count + more.now.count }
+        ensures last { self.new.faults.last ≡ option_or more.now.last self.old.faults.last }
     {
         if more.last.is_some() {
             keep_name(&mut self.name, name);

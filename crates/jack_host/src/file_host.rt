@@ -184,7 +184,7 @@ impl<'a, R: Files<File = File>> FileHost<'a, R> {
 }
 
 impl<'a, R: Files<File = File>> Host for FileHost<'a, R> {
-    type In = FileSource;
+    type In = FileSource<File>;
 
     type Out = FileStore;
 
@@ -196,14 +196,14 @@ impl<'a, R: Files<File = File>> Host for FileHost<'a, R> {
 
     ghost lent = { λ h. h.lent };
 
-    fn open_in(&mut self, name: &str) -> Result<FileSource, Failed> {
+    fn open_in(&mut self, name: &str) -> Result<FileSource<File>, Failed> {
         let opened = self.open(name);
         let file = self.reads.counted(name, opened)?;
         self.lent += 1;
         Ok(FileSource::new(file, self.take_room(name)))
     }
 
-    fn back(&mut self, input: FileSource) {
+    fn back(&mut self, input: FileSource<File>) {
         self.reads.add(&input.room.name, &input.faults);
         self.lent -= 1;
         self.keep_room(input.room);

@@ -1,17 +1,19 @@
-ghost use Rattle.std.specs.Prelude.{None, ◌≡◌, ◌≤◌, length};
+ghost use Rattle.std.specs.Prelude.{◌≡◌, ◌≤◌, ◌<◌, ◌++◌, ℕ, [], OnErr, OnOk, length, take};
 ghost use Rattle.std.specs.Io.{ReadsAtMost};
+ghost use Rattle.std.specs.Io.KnownBytes.{Consumes, IsAtEnd, Keeps, ReadConsumes};
 ghost use Rattle.jack_host.specs.Causes.{IsCounted};
 
 use crate::failures::{Faults, about};
 use crate::rooms::Room;
 use crate::{Failed, FailureKind, Source};
-use std::fs::File;
 use std::io::Read;
 
-/// A file that is read, some 64 KiB at a time where there is room for them. It tells no bytes.
+/// A reader that is read some 64 KiB at a time, where there is room for them.
+///
+/// It tells its bytes where the reader does, which a file of the system does not.
 #[derive(Drop)]
-pub struct FileSource {
-    file: File,
+pub struct FileSource<F> {
+    file: F,
     pub(crate) room: Room,
     at: usize,
     end: usize,
@@ -20,8 +22,10 @@ pub struct FileSource {
     ghost within: { end ≤ length room.bytes.items },
 }
 
-impl FileSource {
-    pub(crate) fn new(file: File, room: Room) -> FileSource
+impl<F> FileSource<F> {
+    ghost use Rattle.jack_host.specs.Gathering.{waiting};
+
+    pub(crate) fn new(file: F, room: Room) -> FileSource<F>
         ensures { result.faults.count ≡ 0 }
     {
         FileSource {
@@ -33,9 +37,31 @@ impl FileSource {
         }
     }
 
-    // Gathers the file's next bytes, behind those that were given.
+    // Gives of the gathered bytes.
+    fn give(&mut self, buffer: &mut [u8]) -> usize
+        ensures bound { result ≤ length buffer.new }
+        ensures bytes { waiting self.old ≡ take result buffer.new ++ waiting self.new }
+        ensures end { result ≡ 0 → 0 < length buffer.new → waiting self.new ≡ [] }
+        ensures file { self.new.file ≡ self.old.file }
+        ensures faults { self.new.faults ≡ self.old.faults }
+    {
+        let count = buffer.len().min(self.end - self.at);
+        buffer[..count].copy_from_slice(&self.room.bytes[self.at..self.at + count]);
+        self.at += count;
+        count
+    }
+}
+
+impl<F: Read> FileSource<F> {
+    ghost use Rattle.jack_host.specs.Gathering.{waiting};
+
+    // Gathers the reader's next bytes, behind those that were given.
     fn gather(&mut self) -> Result<(), Failed>
-        ensures { IsCounted self.old.faults.count self.new.faults.count result }
+        ensures counted { IsCounted self.old.faults.count self.new.faults.count result }
+        ensures bytes { OnOk result (Consumes (F.remaining self.old.file) (F.remaining self.new.file) (waiting self.new)) }
+        ensures end { OnOk result (waiting self.new ≡ [] → 0 < length self.old.room.bytes.items → IsAtEnd (F.remaining self.new.file)) }
+        ensures failed { OnErr result (Keeps (F.remaining self.old.file) (F.remaining self.new.file)) }
+        ensures none { OnErr result (waiting self.new ≡ []) }
     {
         self.at = 0;
         self.end = 0;
@@ -47,26 +73,20 @@ impl FileSource {
     // Reads more bytes than there is room for straight into their place.
     fn read_through(&mut self, buffer: &mut [u8]) -> Result<usize, Failed>
         ensures bound { ReadsAtMost result buffer.new }
+        ensures bytes { ReadConsumes (F.remaining self.old.file) (F.remaining self.new.file) result buffer.new }
         ensures counted { IsCounted self.old.faults.count self.new.faults.count result }
+        ensures waits { waiting self.new ≡ waiting self.old }
     {
         let read = self.file.read(buffer);
         self.faults.counted(about(FailureKind::Reading, read))
     }
-
-    // Gives of the gathered bytes.
-    fn give(&mut self, buffer: &mut [u8]) -> usize
-        ensures bound { result ≤ length buffer.new }
-        ensures faults { self.new.faults ≡ self.old.faults }
-    {
-        let count = buffer.len().min(self.end - self.at);
-        buffer[..count].copy_from_slice(&self.room.bytes[self.at..self.at + count]);
-        self.at += count;
-        count
-    }
 }
 
-impl Source for FileSource {
-    ghost left = { λ _. None };
+impl<F: Read + Drop> Source for FileSource<F> {
+    ghost use Rattle.std.specs.Io.KnownBytes.{prepend_known};
+    ghost use Rattle.jack_host.specs.Gathering.{waiting};
+
+    ghost left = { λ s. prepend_known (waiting s) (F.remaining s.file) };
 
     ghost faults = { λ s. s.faults.count };
 

@@ -1,11 +1,14 @@
-ghost use Rattle.std.specs.Prelude.{None, ◌≡◌, ◌↔◌, IsNone, option_map};
+ghost use Rattle.std.specs.Prelude.{None, ◌≡◌, ◌↔◌, IsNone, OnOk, option_map};
+ghost use Rattle.std.specs.Io.KnownBytes.{Appends};
 
 use crate::failures::{Faults, about};
 use crate::{Failed, FailureKind, Sink};
 use std::io;
 use std::io::Write;
 
-/// A sink over any writer, which is flushed after each put. It tells no bytes.
+/// A sink over any writer, which is flushed after each put.
+///
+/// It tells no bytes, since a writer does not say how much it took of what it failed to write.
 #[derive(Drop)]
 pub struct WriterSink<W> {
     writer: W,
@@ -36,7 +39,9 @@ impl<W> WriterSink<W> {
 }
 
 // Writes all the bytes, and flushes.
-fn write<W: Write>(writer: &mut W, bytes: &[u8]) -> io::Result<()> {
+fn write<W: Write>(writer: &mut W, bytes: &[u8]) -> io::Result<()>
+    ensures { OnOk result (Appends (W.contents writer.old) (W.contents writer.new) bytes.now) }
+{
     writer.write_all(bytes)?;
     writer.flush()
 }
@@ -46,7 +51,17 @@ impl<W: Write + Drop> Sink for WriterSink<W> {
 
     ghost faults = { λ s. s.faults.count };
 
-    fn put(&mut self, bytes: &[u8]) -> Result<(), Failed> {
+    ghost use Rattle.std.specs.Prelude.{◌+◌, ◌≤◌, OnOk};
+    ghost use Rattle.std.specs.Io.KnownBytes.{Appends};
+    ghost use Rattle.jack_host.specs.Causes.{HasCause};
+
+    fn put(&mut self, bytes: &[u8]) -> Result<(), Failed>
+        ensures cause { HasCause self.old.faults.count self.new.faults.count result }
+        ensures once { self.new.faults.count ≤ self.old.faults.count + 1 }
+
+        // Where the writer tells what it holds, `Ok` comes only where it holds all the bytes.
+        ensures written { OnOk result (Appends (W.contents self.old.writer) (W.contents self.new.writer) bytes.now) }
+    {
         let written = write(&mut self.writer, bytes);
         self.faults.counted(about(FailureKind::Writing, written))
     }
