@@ -6,7 +6,7 @@ ghost use Rattle.jack_host.specs.Causes.{HasCause};
 ghost use Rattle.session_model.specs.Reports.{call_line, printed_call, reply_words, spaced};
 ghost use Rattle.report_lines.specs.Outputs.{text_of};
 
-use crate::blocks::{Block, gather};
+use crate::batches::{Batch, gather};
 use crate::lines::{Line, add_number, add_word, begun, end_line};
 use jack_host::{Failed, Sink};
 use jack_types::{Entry, Reply};
@@ -44,9 +44,9 @@ pub fn put_calls<K: Sink>(out: &mut K, history: &[Entry]) -> Result<(), Failed>
     ensures puts { Puts (K.content out.old) (K.content out.new) result (text_of (map call_line (map printed_call history.now))) }
     ensures cause { HasCause (K.faults out.old) (K.faults out.new) result }
 {
-    let mut block = Block::new();
+    let mut batch = Batch::new();
     for entry in history {
-        gather(out, &mut block, &line_of(entry))?;
+        gather(out, &mut batch, &line_of(entry))?;
     }
-    out.put(block.as_str().as_bytes())
+    out.put(batch.as_str().as_bytes())
 }

@@ -6,7 +6,7 @@ ghost use Rattle.jack_host.specs.Causes.{HasCause};
 ghost use Rattle.session_model.specs.Reports.{bbt_word, cycle_line, state_name};
 ghost use Rattle.report_lines.specs.Outputs.{cycles_of, text_of};
 
-use crate::blocks::{Block, gather};
+use crate::batches::{Batch, gather};
 use crate::lines::{Line, add_number, add_word, begun, end_line};
 use itoa::Buffer;
 use jack_host::{Failed, Sink};
@@ -62,9 +62,9 @@ pub fn put_cycles<K: Sink>(out: &mut K, numbers: &[u32], moments: &[Moment]) -> 
     ensures puts { Puts (K.content out.old) (K.content out.new) result (text_of (map cycle_line (cycles_of numbers.now moments.now))) }
     ensures cause { HasCause (K.faults out.old) (K.faults out.new) result }
 {
-    let mut block = Block::new();
+    let mut batch = Batch::new();
     for i in 0..numbers.len().min(moments.len()) {
-        gather(out, &mut block, &line_of(numbers[i], &moments[i]))?;
+        gather(out, &mut batch, &line_of(numbers[i], &moments[i]))?;
     }
-    out.put(block.as_str().as_bytes())
+    out.put(batch.as_str().as_bytes())
 }

@@ -3,7 +3,7 @@
 //! Each call puts whole lines in their order, those of calls and cycles many by one put, and takes no memory.
 #![tactic(auto)]
 
-mod blocks;
+mod batches;
 mod calls;
 mod cycles;
 mod lines;
