@@ -19,6 +19,7 @@ use Rattle.session_model.specs.Replies.{reply}
 use Rattle.session_model.specs.Reports.{Report, PrintedCycle, PrintedRecorder, PrintedDisk, report_of, printed_call, printed_cycle, printed_recorder, printed_disk}
 use Rattle.session_model.specs.Samples.{below}
 use Rattle.session_model.specs.Scripts.{Script, Planned, turns, planned, planned_of}
+use Rattle.session_laws.proofs.GraphLemmas.{Contains-take}
 use Rattle.session_laws.proofs.ListLemmas.{Each, Each-contains, Each-from_contains, Each-below, Contains-kept, Contains-filtered, Contains-map, map-take}
 use Rattle.session_laws.proofs.SerialLemmas.{plan_of-planned}
 use Rattle.session_model.specs.Checking.{IsRight, IsCallRight, IsCycleInTurn, IsOverrunRight, IsUnderrunRight, SameAt, AllRight, printed_of, history_of, entry_of, recorder_blocks, disk_blocks, all_overruns, all_underruns, all_turned}
@@ -28,14 +29,6 @@ use Rattle.check_laws.proofs.TurnedLemmas.{turned-is}
 use Rattle.session_laws.proofs.SameReportLemmas.{Contains-unmap, IsPlanned, map-map, places-same}
 
 -- ---- planned calls
-
-Contains-take : {X : Type 0} (n : ℕ) (xs : List X) (x : X) → Contains (take n xs) x → Contains xs x
-Contains-take n xs x c = Each-contains (λ y. Contains xs y) (take n xs) x (each (λ y. Contains xs y) n xs (Each-from_contains (λ y. Contains xs y) xs (λ y d. d))) c
-  where
-    each : {X : Type 0} (P : X → Type 0) (m : ℕ) (ys : List X) → Each P ys → Each P (take m ys)
-    each P zero ys h = tt
-    each P (suc m) [] h = tt
-    each P (suc m) (y ∷ ys) h = (h.0, each P m ys h.1)
 
 -- a call that the script plans
 pub legal-planned : (script : Script) (history : List Entry) → LegalSoFar script history → Each (λ (entry : Entry). IsPlanned script entry.call) history

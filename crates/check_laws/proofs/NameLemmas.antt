@@ -1,21 +1,13 @@
 -- Lawful client names have neither LF nor space.
 use Rattle.std.proofs.Common.{◌≡◌, ℕ, ◌≤◌, ◌≢◌, Bool, true, false, not, ◌==◌, nat_lt, List, length, position, Option, Some, None, refl, sym, ◌∙◌, ap, arith, true≢false}
-use Rattle.std.specs.List.{position_or_len}
 use Rattle.std.proofs.lemmas.Bool.Decides.{nat_tests}
 use Rattle.jack_types.specs.Names.{IsClientName, is_name_byte}
 use Rattle.session_laws.proofs.ListLemmas.{Each, Each-weaker}
 use Rattle.session_laws.proofs.TextLemmas.{Lacks}
-use Rattle.session_laws.proofs.SameReportLemmas.{no-place}
+use Rattle.session_laws.proofs.SameReportLemmas.{no-position}
 
 none-fault : {A : Type 0} {a : A} → Some a ≡ None → ⊥
 none-fault q = cc
-
-no-position : (p : ℕ → Bool) (bytes : List ℕ) → position (λ b. not (p b)) bytes ≡ None → Each (λ b. p b ≡ true) bytes
-no-position p bytes h = go (nat_lt (position_or_len (λ b. not (p b)) bytes) (length bytes)) refl
-  where
-    go : (t : Bool) → nat_lt (position_or_len (λ b. not (p b)) bytes) (length bytes) ≡ t → Each (λ b. p b ≡ true) bytes
-    go true e = absurd (none-fault (rw e at h))
-    go false e = no-place p bytes (grind (arith, nat_tests))
 
 -- a client's name: at most 32 bytes, each of the set
 pub name-bytes : (bytes : List ℕ) → IsClientName bytes → (length bytes ≤ 32) × Each (λ b. is_name_byte b ≡ true) bytes

@@ -17,6 +17,7 @@ use Rattle.session_model.specs.Scripts.{Script, ScriptCycle, turns, planned}
 use Rattle.session_laws.proofs.ActivationLemmas.{length-map_below, length-below}
 use Rattle.session_laws.proofs.HistoryLemmas.{LegalSoFar-none}
 use Rattle.session_laws.proofs.ListLemmas.{Each, slice_get-map}
+use Rattle.session_laws.proofs.SerialDiskLemmas.{in-missed}
 use Rattle.session_laws.proofs.TextLemmas.{joined_lines}
 use Rattle.session_model.specs.Checking.{IsForm, IsRight, AllRight, IsDiskLine, IsUnderrunLine, printed_of, history_of, ended_lines, all_underruns, all_turned, recorder_blocks, disk_blocks}
 use Rattle.check_laws.proofs.KnownLemmas.{calls-back, same-all, Keyed, Keyed-from, keyed-part}
@@ -24,7 +25,7 @@ use Rattle.check_laws.proofs.OverrunLemmas.{recorder-lost, slice-some, lost as o
 use Rattle.check_laws.proofs.PlaceLists.{none-some, some-same, slice-past, slice-inside, get-of, slice-ext, All-from_get, All-get, slice-map, length-map, flat-place, slice-below, strictly-from, nondecreasing-from}
 use Rattle.check_laws.proofs.SameLemmas.{Each-from_all}
 use Rattle.check_laws.proofs.TextBack.{joined-ended}
-use Rattle.check_laws.proofs.TurnedLemmas.{among, in-missed, missed-of_disk}
+use Rattle.check_laws.proofs.TurnedLemmas.{among, missed-of_disk}
 
 get-past : {X : Type 0} (xs : List X) (i : ℕ) (d : X) → length xs ≤ i → get_or xs i d ≡ d
 get-past [] i d h = refl

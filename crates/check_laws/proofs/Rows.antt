@@ -211,7 +211,7 @@ abbrev written_as : Report → Written
 written_as other = record written { report = joined_lines (report_lines other) }
 
 text_as : (other : Report) → IsForm recording other → ended_lines (joined_lines (report_lines other)) ≡ report_lines other
-text_as other f = ended-joined (report_lines other) (Form-lines recording other f)
+text_as other f = ended-joined (report_lines other) (Form-lines recording other recording_is f)
 
 abbrev overrun_printed : Printed
 overrun_printed = printed_of recording overrun_report
@@ -344,7 +344,7 @@ abbrev cut_written : Written
 cut_written = record written { report = joined_lines cut_lines }
 
 cut_text : ended_lines (joined_lines cut_lines) ≡ cut_lines
-cut_text = ended-joined cut_lines (Each-take IsLine 14 (report_lines report) (Form-lines recording report form))
+cut_text = ended-joined cut_lines (Each-take IsLine 14 (report_lines report) (Form-lines recording report recording_is form))
 
 abbrev last_line : List (List ℕ) → List ℕ
 last_line [] = []

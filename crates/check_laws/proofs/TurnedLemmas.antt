@@ -1,5 +1,4 @@
 -- The underruns that the stated turns leave are told by their cycles.
---     in-missed      a cycle is among them exactly where it is missed
 --     turned-is      underruns that can be, in exactly the missed cycles, are those
 use Rattle.std.proofs.Common.{◌≡◌, ℕ, zero, suc, ◌+◌, ◌-◌, ◌<◌, ◌≤◌, ◌≢◌, min, Bool, true, false, cond, not, ◌&&◌, ◌||◌, ◌==◌, nat_lt, List, [], ◌∷◌, ◌++◌, length, map, slice_get, count_by, Some, option_map, refl, sym, ◌∙◌, ap, ap₂, subst, arith, true≢false, eqb-true, eq-eqb, ne_eqb}
 use native.Mathlib.Nat.{min-eq_right}
@@ -15,7 +14,7 @@ use Rattle.session_model.specs.Scripts.{turns}
 use Rattle.session_laws.proofs.ListLemmas.{Each, Ordered, Each-weaker, Each-append, Each-at, Ordered-append}
 use Rattle.check_laws.proofs.PlaceLists.{slice-map, strictly-get}
 use Rattle.check_laws.proofs.SameLemmas.{Each-from_all}
-use Rattle.session_laws.proofs.SerialDiskLemmas.{list_any-append, or-none, min-next, min-below}
+use Rattle.session_laws.proofs.SerialDiskLemmas.{in-missed, min-next, min-below}
 
 -- whether an underrun of the list is of the cycle
 abbrev pub among : List Underrun → ℕ → Bool
@@ -87,48 +86,6 @@ Ordered-steps us first h =
     (λ k u v p q. strictly-get (map (λ (w : Underrun). w.cycle) us) k u.cycle v.cycle h (slice-map (λ (w : Underrun). w.cycle) us k ∙ ap (option_map (λ (w : Underrun). w.cycle)) p) (slice-map (λ (w : Underrun). w.cycle) us (suc k) ∙ ap (option_map (λ (w : Underrun). w.cycle)) q)))
 
 module _ (course : Course) (disk : ℕ) where
-  abbrev in_cycle : ℕ → ℕ → Bool
-  in_cycle n k = among (missed_up_to course disk n) k
-
-  in_single : (b : Bool) (n k : ℕ) → list_any (λ (underrun : Underrun). underrun.cycle == k) (cond b (missed_at course disk n ∷ []) []) ≡ cond b (n == k) false
-  in_single true n k = or-none (n == k)
-  in_single false n k = refl
-
-  in_next : (n k : ℕ) → in_cycle (suc n) k ≡ (in_cycle n k || cond (is_missed_in course disk (suc n)) (suc n == k) false)
-  in_next n k =
-      list_any-append (λ (underrun : Underrun). underrun.cycle == k) (missed_up_to course disk n) (cond (is_missed_in course disk (suc n)) (missed_at course disk (suc n) ∷ []) [])
-      ∙ ap (λ b. in_cycle n k || b) (in_single (is_missed_in course disk (suc n)) (suc n) k)
-
-  not_later : (n k : ℕ) → n < k → in_cycle n k ≡ false
-  not_later zero k h = refl
-  not_later (suc n) k h =
-      in_next n k ∙ ap₂ (λ a b. a || b) (not_later n k (omega (arith, h))) (ap (λ b. cond (is_missed_in course disk (suc n)) b false) (ne_eqb (suc n) k (λ e. omega (arith, e, h))) ∙ both (is_missed_in course disk (suc n)))
-    where
-      both : (b : Bool) → cond b false false ≡ false
-      both true = refl
-      both false = refl
-
-  -- a cycle is among them exactly where it is missed
-  pub in-missed : (n k : ℕ) → 1 ≤ k → k ≤ n → in_cycle n k ≡ is_missed_in course disk k
-  in-missed zero k h l = absurd (omega (arith, h, l))
-  in-missed (suc n) k h l = in_next n k ∙ go (suc n == k) refl (λ q. in-missed n k h q)
-    where
-      either : (b : Bool) → cond b true false ≡ b
-      either true = refl
-      either false = refl
-
-      none : (b : Bool) → cond b false false ≡ false
-      none true = refl
-      none false = refl
-
-      go : (b : Bool) → (suc n == k) ≡ b → (k ≤ n → in_cycle n k ≡ is_missed_in course disk k) → (in_cycle n k || cond (is_missed_in course disk (suc n)) (suc n == k) false) ≡ is_missed_in course disk k
-      go true e earlier =
-          let same : suc n ≡ k = eqb-true (suc n) k e in
-          ap₂ (λ a b. a || b) (not_later n k (omega (arith, same))) (ap (λ b. cond (is_missed_in course disk (suc n)) b false) e ∙ either (is_missed_in course disk (suc n)) ∙ ap (is_missed_in course disk) same)
-      go false e earlier =
-          let lower : k ≤ n = grind (arith, nat_tests) in
-          ap₂ (λ a b. a || b) (earlier lower) (ap (λ b. cond (is_missed_in course disk (suc n)) b false) e ∙ none (is_missed_in course disk (suc n))) ∙ or-none (is_missed_in course disk k)
-
   pub missed-of_disk : (n : ℕ) → Each (λ (u : Underrun). u.disk ≡ disk) (missed_up_to course disk n)
   missed-of_disk zero = tt
   missed-of_disk (suc n) = Each-append (λ (u : Underrun). u.disk ≡ disk) (missed_up_to course disk n) (cond (is_missed_in course disk (suc n)) (missed_at course disk (suc n) ∷ []) []) (missed-of_disk n) (one (is_missed_in course disk (suc n)))
@@ -234,7 +191,7 @@ module _ (course : Course) (disk : ℕ) where
         at k true false es et m p =
             let low : 1 ≤ k = grind (arith, nat_tests) in
             let high : k ≤ last_cycle = grind (arith, nat_tests) in
-            serial k low high ∙ sym (in-missed last_cycle k low high)
+            serial k low high ∙ sym (in-missed course disk last_cycle k low high)
         at k false t es et m p =
             let none : k ≡ 0 = grind (arith, nat_tests) in
             not_among (underruns_of course disk) k (Each-weaker (IsMissed course disk) (λ (u : Underrun). u.cycle ≢ k) (λ u q e. omega (arith, q.first, e, none)) (underruns_of course disk) m)

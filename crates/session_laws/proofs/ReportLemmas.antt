@@ -1,4 +1,7 @@
 -- Equal report texts come only from equal reports, as far as calls, numbers, overruns and underruns go.
+--     calls_of_part .. disks_of_part      which part the lines are of
+--     in_parts, part_1, part_2, part_5, part_6      the lines of a part among all
+--     none-cons, first-same, rest-same, images-same      lists back from equal ones
 --     Report-same      of two reports whose numbers are below 2^64 and whose names have no LF
 use Rattle.std.proofs.Common.{◌≡◌, ℕ, ◌<◌, ◌^◌, ◌≢◌, Bool, true, false, cond, not, ◌==◌, List, [], ◌∷◌, ◌++◌, length, map, flat_map, filter, get_or, decimal, codes, Option, Some, None, refl, sym, ◌∙◌, ap, ap₂, subst, arith, append_assoc, append-nil, true≢false, eq-eqb, ne_eqb}
 use Rattle.std.specs.List.{list_all}
@@ -186,34 +189,34 @@ taken_none part other lines apart h =
     filter-none (λ text. part_of text == part) lines (Each-weaker (IsOf other) (λ text. (part_of text == part) ≡ false) (λ text e. ne_eqb (part_of text) part (λ f. apart (sym e ∙ f))) lines h)
 
 module _ (report : Report) where
-  calls_of_part : Each (IsOf 1) (map call_line report.calls)
+  pub calls_of_part : Each (IsOf 1) (map call_line report.calls)
   calls_of_part = Each-map (IsOf 1) call_line report.calls (Each-all (λ call. IsOf 1 (call_line call)) (λ call. refl) report.calls)
 
-  cycles_of_part : Each (IsOf 2) (map cycle_line report.cycles)
+  pub cycles_of_part : Each (IsOf 2) (map cycle_line report.cycles)
   cycles_of_part = Each-map (IsOf 2) cycle_line report.cycles (Each-all (λ cycle. IsOf 2 (cycle_line cycle)) (λ cycle. refl) report.cycles)
 
-  meters_of_part : Each (IsOf 3) (map meter_line report.meters)
+  pub meters_of_part : Each (IsOf 3) (map meter_line report.meters)
   meters_of_part = Each-map (IsOf 3) meter_line report.meters (Each-all (λ meter. IsOf 3 (meter_line meter)) (λ meter. refl) report.meters)
 
-  events_of_part : Each (IsOf 4) (map event_line report.events)
+  pub events_of_part : Each (IsOf 4) (map event_line report.events)
   events_of_part = Each-map (IsOf 4) event_line report.events (Each-all (λ event. IsOf 4 (event_line event)) (λ event. refl) report.events)
 
-  recorders_of_part : Each (IsOf 5) (flat_map recorder_lines report.recorders)
+  pub recorders_of_part : Each (IsOf 5) (flat_map recorder_lines report.recorders)
   recorders_of_part =
       Each-flat_map (IsOf 5) recorder_lines report.recorders
       (Each-all (λ recorder. Each (IsOf 5) (recorder_lines recorder))
       (λ recorder. (refl, Each-map (IsOf 5) overrun_line recorder.overruns (Each-all (λ overrun. IsOf 5 (overrun_line overrun)) (λ overrun. refl) recorder.overruns))) report.recorders)
 
-  disks_of_part : Each (IsOf 6) (flat_map disk_lines report.disks)
+  pub disks_of_part : Each (IsOf 6) (flat_map disk_lines report.disks)
   disks_of_part =
       Each-flat_map (IsOf 6) disk_lines report.disks
       (Each-all (λ disk. Each (IsOf 6) (disk_lines disk))
       (λ disk. (refl, Each-map (IsOf 6) underrun_line disk.underruns (Each-all (λ underrun. IsOf 6 (underrun_line underrun)) (λ underrun. refl) disk.underruns))) report.disks)
 
-  abbrev from_part : ℕ → List (List ℕ) → List (List ℕ)
+  abbrev pub from_part : ℕ → List (List ℕ) → List (List ℕ)
   from_part part lines = filter (λ text. part_of text == part) lines
 
-  in_parts : (part : ℕ) → from_part part (report_lines report)
+  pub in_parts : (part : ℕ) → from_part part (report_lines report)
       ≡ from_part part (line (codes "report" ∷ codes "1" ∷ []) ∷ map call_line report.calls) ++ from_part part (map cycle_line report.cycles) ++ from_part part (map meter_line report.meters)
       ++ from_part part (map event_line report.events) ++ from_part part (flat_map recorder_lines report.recorders) ++ from_part part (flat_map disk_lines report.disks) ++ from_part part (line (codes "end" ∷ []) ∷ [])
   in_parts part =
@@ -235,7 +238,7 @@ module _ (report : Report) where
       ∙ ap (λ xs. xs ++ filter t d)
       (filter-append t (a ++ b) c ∙ ap (λ xs. xs ++ filter t c) (filter-append t a b)))))
 
-  part_1 : from_part 1 (report_lines report) ≡ map call_line report.calls
+  pub part_1 : from_part 1 (report_lines report) ≡ map call_line report.calls
   part_1 =
       in_parts 1
       ∙ rw (
@@ -247,7 +250,7 @@ module _ (report : Report) where
         taken_none 1 6 (flat_map disk_lines report.disks) (λ e. omega arith) disks_of_part,
       ) (simp append-nil)
 
-  part_2 : from_part 2 (report_lines report) ≡ map cycle_line report.cycles
+  pub part_2 : from_part 2 (report_lines report) ≡ map cycle_line report.cycles
   part_2 =
       in_parts 2
       ∙ rw (
@@ -259,7 +262,7 @@ module _ (report : Report) where
         taken_none 2 6 (flat_map disk_lines report.disks) (λ e. omega arith) disks_of_part,
       ) (simp append-nil)
 
-  part_5 : from_part 5 (report_lines report) ≡ flat_map recorder_lines report.recorders
+  pub part_5 : from_part 5 (report_lines report) ≡ flat_map recorder_lines report.recorders
   part_5 =
       in_parts 5
       ∙ rw (
@@ -271,7 +274,7 @@ module _ (report : Report) where
         taken_none 5 6 (flat_map disk_lines report.disks) (λ e. omega arith) disks_of_part,
       ) (simp append-nil)
 
-  part_6 : from_part 6 (report_lines report) ≡ flat_map disk_lines report.disks
+  pub part_6 : from_part 6 (report_lines report) ≡ flat_map disk_lines report.disks
   part_6 =
       in_parts 6
       ∙ rw (
@@ -350,17 +353,17 @@ underrun-same a b p q e =
 -- ---- lists of lines back to lists
 
 module _ {X : Type 0} where
-  none-cons : (x : X) (xs : List X) → [] ≡ x ∷ xs → ⊥
+  pub none-cons : (x : X) (xs : List X) → [] ≡ x ∷ xs → ⊥
   none-cons x xs e = cc
 
-  first-same : (x y : X) (xs ys : List X) → x ∷ xs ≡ y ∷ ys → x ≡ y
+  pub first-same : (x y : X) (xs ys : List X) → x ∷ xs ≡ y ∷ ys → x ≡ y
   first-same x y xs ys e = cc
 
-  rest-same : (x y : X) (xs ys : List X) → x ∷ xs ≡ y ∷ ys → xs ≡ ys
+  pub rest-same : (x y : X) (xs ys : List X) → x ∷ xs ≡ y ∷ ys → xs ≡ ys
   rest-same x y xs ys e = cc
 
   -- equal images by a function that tells apart what the second tells apart
-  images-same : {Y : Type 0} (f : X → List ℕ) (g : X → Y) (P : X → Type 0) → ((a b : X) → P a → P b → f a ≡ f b → g a ≡ g b) → (xs ys : List X) → Each P xs → Each P ys → map f xs ≡ map f ys → map g xs ≡ map g ys
+  pub images-same : {Y : Type 0} (f : X → List ℕ) (g : X → Y) (P : X → Type 0) → ((a b : X) → P a → P b → f a ≡ f b → g a ≡ g b) → (xs ys : List X) → Each P xs → Each P ys → map f xs ≡ map f ys → map g xs ≡ map g ys
   images-same f g P tell [] [] h k e = refl
   images-same f g P tell [] (y ∷ ys) h k e = absurd (no_line (f y) (map f ys) e)
     where

@@ -1,4 +1,5 @@
 -- The underruns of serial mode are ones that can be.
+--     in-missed      a cycle is among them exactly where it is missed
 --     Played-turned      they meet `Played`
 use Rattle.std.proofs.Common.{◌≡◌, ℕ, zero, suc, ◌+◌, ◌-◌, ◌<◌, ◌≤◌, min, Bool, true, false, cond, not, ◌&&◌, ◌||◌, ◌==◌, nat_lt, List, [], ◌∷◌, ◌++◌, length, map, slice_index_or, count_by, All, None, is_some, refl, sym, ◌∙◌, ap, ap₂, subst, arith, true≢false, eqb-true, ne_eqb}
 use native.Mathlib.Nat.{min-eq_left, min-eq_right}
@@ -79,7 +80,7 @@ module _ (course : Course) (disk : ℕ) where
       both false = refl
 
   -- a cycle is among them exactly where it is missed
-  in-missed : (n k : ℕ) → 1 ≤ k → k ≤ n → in_cycle n k ≡ is_missed_in course disk k
+  pub in-missed : (n k : ℕ) → 1 ≤ k → k ≤ n → in_cycle n k ≡ is_missed_in course disk k
   in-missed zero k h l = absurd (omega (arith, h, l))
   in-missed (suc n) k h l = in_next n k ∙ go (suc n == k) refl (λ q. in-missed n k h q)
     where
