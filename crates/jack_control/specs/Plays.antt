@@ -1,7 +1,7 @@
 -- What a play leaves.
 --     IsExplained files new out out_after scores play      an ended play: what is written is explained by the one history that is printed
 --     PlaybackSoFar, RecordSoFar      fronts of what so many cycles of a history gave
---     IsPlayCut ..      one that failed when its files were made, or before
+--     IsPlayCut ..      one that failed: what its files hold
 --     IsOutCut ..      what stands on the sink where a file or the report could not be written
 use Rattle.std.specs.Prelude.{◌≡◌, ◌⊎◌, ℕ, suc, ◌+◌, ◌<◌, ◌≤◌, ◌∷◌, List, [], length, map, slice_get, take, ⊤, Option, Some, None, IsNone, IsSome, Contains}
 use Rattle.jack_types.specs.declared.kinds.Score.{Score}
