@@ -43,3 +43,12 @@ fn a_quote_in_a_name_is_escaped(rt: HostRuntime) -> Result<(), AllocError> {
     assert!(rt; reason.as_bytes() == b"jackd: 'it'\\''s'\n".as_slice());
     Ok(())
 }
+
+#[test]
+fn no_character_is_cut(rt: HostRuntime) -> Result<(), AllocError> {
+    let word = "xöööööööööööööööööööööööööööööööööööööööö";
+    let reason = Reason::line(rt.alloc(), &[Quoted(word.as_bytes())])?;
+    let shown = "jackd: \"xööööööööööööööööööööööööööööööö...\"\n";
+    assert!(rt; reason.as_bytes() == shown.as_bytes());
+    Ok(())
+}

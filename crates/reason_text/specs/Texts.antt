@@ -2,7 +2,7 @@
 --     shown bytes     so that they can be seen, and steer no terminal
 --     written piece   a piece
 --     told pieces     pieces, one behind the other
-use Rattle.std.specs.Prelude.{ℕ, ◌/◌, ◌%◌, Bool, false, not, ◌&&◌, ◌||◌, ◌==◌, nat_lt, nat_le, List, [], ◌∷◌, ◌++◌, length, take, flat_map, slice_index_or, codes, decimal, if◌then◌else◌}
+use Rattle.std.specs.Prelude.{ℕ, ◌-◌, ◌/◌, ◌%◌, Bool, false, not, ◌&&◌, ◌||◌, ◌==◌, nat_lt, nat_le, List, [], ◌∷◌, ◌++◌, length, take, flat_map, slice_index_or, codes, decimal, if◌then◌else◌}
 use Rattle.std.specs.Char.{is_ascii_alphanumeric}
 use Rattle.std.specs.List.{list_all}
 use Rattle.std.specs.Fmt.{signed_decimal}
@@ -32,9 +32,21 @@ shown_byte text byte = if (nat_le 32 byte && nat_lt byte 127) || (text && nat_le
 abbrev pub shown : List ℕ → List ℕ
 shown bytes = flat_map (shown_byte (is_text bytes)) bytes
 
+-- whether a byte goes on with a character of UTF-8
+abbrev pub goes_on : ℕ → Bool
+goes_on byte = nat_le 128 byte && nat_lt byte 192
+
+-- the place before, where a character goes on at this one
+abbrev pub place_before : List ℕ → ℕ → ℕ
+place_before bytes end = if goes_on (slice_index_or bytes end 0) then end - 1 else end
+
+-- where a front ends that cuts no character of a text, which has four bytes at most
+abbrev pub front_end : List ℕ → ℕ → ℕ
+front_end bytes most = place_before bytes (place_before bytes (place_before bytes most))
+
 -- the first bytes, and dots where there are more
 abbrev pub shown_front : ℕ → List ℕ → List ℕ
-shown_front most bytes = if nat_le (length bytes) most then shown bytes else shown (take most bytes) ++ codes "..."
+shown_front most bytes = if nat_le (length bytes) most then shown bytes else shown (take (front_end bytes most) bytes) ++ codes "..."
 
 abbrev pub quoted : List ℕ → List ℕ
 quoted word = codes "\"" ++ shown_front 64 word ++ codes "\""

@@ -1,8 +1,8 @@
 //! Which bytes stand for themselves.
 
-ghost use Rattle.std.specs.Prelude.{◌≡◌, ◌<◌, ◌≤◌};
+ghost use Rattle.std.specs.Prelude.{◌≡◌, ◌<◌, ◌≤◌, length};
 ghost use Rattle.std.specs.List.{list_all};
-ghost use Rattle.reason_text.specs.Texts.{hex_digit, is_plain, is_text, steers_behind};
+ghost use Rattle.reason_text.specs.Texts.{front_end, goes_on, hex_digit, is_plain, is_text, place_before, steers_behind};
 
 /// A digit of sixteen.
 pub fn hex_digit(value: u8) -> u8
@@ -55,4 +55,35 @@ pub fn are_plain(bytes: &[u8]) -> bool
         }
     }
     true
+}
+
+// Whether a byte goes on with a character of UTF-8.
+fn goes_on(byte: u8) -> bool
+    ensures { result ≡ goes_on byte }
+{
+    byte >= 0x80 && byte < 0xc0
+}
+
+// The place before, where a character goes on at this one.
+fn place_before(bytes: &[u8], end: usize) -> usize
+    requires { end < length bytes.now }
+    ensures place { result ≡ place_before bytes.now end }
+    ensures within { result ≤ end }
+{
+    if goes_on(bytes[end]) {
+        end.saturating_sub(1)
+    } else {
+        end
+    }
+}
+
+/// Where a front of at most so many bytes ends that cuts no character of a text.
+pub fn front_end(bytes: &[u8], most: usize) -> usize
+    requires { most < length bytes.now }
+    ensures place { result ≡ front_end bytes.now most }
+    ensures within { result ≤ most }
+{
+    let third = place_before(bytes, most);
+    let second = place_before(bytes, third);
+    place_before(bytes, second)
 }

@@ -5,7 +5,7 @@ ghost use Rattle.std.specs.Fmt.{signed_decimal};
 ghost use Rattle.reason_text.specs.Reasons.{IsReason, IsShown};
 ghost use Rattle.reason_text.specs.Texts.{counted, path, quoted, quoted_byte, quoted_path, shown, shown_byte, shown_front, told, written};
 
-use crate::bytes::{are_plain, hex_digit, is_text};
+use crate::bytes::{are_plain, front_end, hex_digit, is_text};
 use crate::piece::Piece;
 use itoa::Buffer;
 use std::alloc::{AllocError, Global};
@@ -112,14 +112,14 @@ impl Reason {
         self.show(Buffer::new().format(number).as_bytes())
     }
 
-    // Adds the front of bytes, and dots where there are more.
+    // Adds the front of bytes, with no character cut, and dots where there are more.
     fn show_front(&mut self, bytes: &[u8], most: usize) -> Result<(), AllocError>
         ensures { IfOk result (λ _. self.new ≡ self.old ++ shown_front most bytes.now) }
     {
         if bytes.len() <= most {
             return self.show(bytes);
         }
-        self.show(&bytes[..most])?;
+        self.show(&bytes[..front_end(bytes, most)])?;
         self.show(b"...".as_slice())
     }
 
