@@ -63,3 +63,27 @@ fn each_cycle_is_told_to_the_gate(rt: HostRuntime) -> Result<(), Fail> {
     }
     Ok(())
 }
+
+// How many cycles had begun when a play of periods of eight bytes left this playback behind: one more than stand in it.
+fn begun(playback: Option<&[u8]>) -> u64 {
+    match playback {
+        Some(bytes) => (bytes.len() as u64).saturating_sub(36) / 8,
+        None => 0,
+    }
+}
+
+#[test]
+fn a_cycle_is_told_before_its_capture_is_read(rt: HostRuntime) -> Result<(), Fail> {
+    for call in 0..64_u32 {
+        let gate = CountingGate::new();
+        let mut host = drained_host(rt.alloc(), SERIAL, "run 5\n")?;
+        host.refuse("c", call)?;
+        let played = play_under(&rt, host, MemorySink::new(rt.alloc()), &gate)?;
+        if played.status == Status::Ok {
+            assert!(rt; call > 5, "each cycle reads the capture");
+            return Ok(());
+        }
+        assert_eq!(rt; gate.cycles(), begun(played.host.file("p")), "call {call}");
+    }
+    panic!(rt; "the capture is read more than 64 times")
+}
