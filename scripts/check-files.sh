@@ -201,6 +201,21 @@ else
   echo 'check-files: a full file system: passed over, none can be mounted'
 fi
 
+# A file in memory that is sealed against becoming shorter keeps its bytes: it can't be emptied, so nothing is written to it.
+begin 'a playback that may not become shorter'
+python3 - "$jackd" "$report" "$folder/errors$cases" <<'PY' || fault 'it was not refused, or its bytes were changed'
+import fcntl, os, subprocess, sys
+jackd, report, errors = sys.argv[1:]
+old = open('old', 'rb').read()
+fd = os.memfd_create('old', os.MFD_ALLOW_SEALING)
+os.write(fd, old)
+fcntl.fcntl(fd, fcntl.F_ADD_SEALS, fcntl.F_SEAL_SHRINK)
+with open(report, 'wb') as out, open(errors, 'wb') as told:
+    code = subprocess.run([jackd, 'play', 's', 'c', f'/proc/self/fd/{fd}'], stdout=out, stderr=told, pass_fds=[fd]).returncode
+sys.exit(code != 6 or os.path.getsize(report) or os.pread(fd, 2 * len(old), 0) != old)
+PY
+same s c
+
 begin 'a playback into a pipe'
 mkfifo pipe
 cat pipe > piped &

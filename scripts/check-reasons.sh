@@ -121,6 +121,7 @@ words_case('two numbers', ['rehearse', '7', '8'], 'jackd: word 3 is one too many
 words_case('a word that is no UTF-8', ['play', 's', b'c\xff', 'p'], 'jackd: word 3 is no UTF-8: c\\xff')
 words_case('a word that steers a terminal', ['pl\x1b[2Jay'], 'jackd: no command "pl\\x1b[2Jay"')
 words_case('a very long word', ['x' * 5000], 'jackd: no command "' + 'x' * 64 + '..."')
+words_case('a long word of other letters', ['x' + '\u00f6' * 40], 'jackd: no command "x' + '\u00f6' * 31 + '..."')
 
 
 # 3: a file can't be read.
@@ -247,6 +248,8 @@ body_case('very many opens', 'do open z pass', 'TooMany', 'more than 256 calls o
 script_case('very many samples', text('period 4096', 'run 122071', header=['jackd 2', *HEADER[1:]]), 8, 'TooLong',
     'more than 2000000000 bytes of samples would be played', 'run 122071')
 script_case('a very long script', GOOD + b'\n' * 1048576, 0, 'TooLong', 'more than 1048576 bytes are no script')
+script_case('a long line of other letters', text('do open ' + '\u20ac' * 50), 7, 'Name', 'a name has 1 to 32 of A-Z a-z 0-9 . _ -',
+    'do open ' + '\u20ac' * 37 + '...')
 script_case('a very long line', text('do open ' + 'n' * 500), 7, 'Name', 'a name has 1 to 32 of A-Z a-z 0-9 . _ -',
     'do open ' + 'n' * 112 + '...')
 case('a script from a pipe', ['play', '/dev/stdin', 'c', 'p'], 5, b'fault 5 script 1 Header\n', 'jackd: /dev/stdin:1: "jackd" is expected here\n')
@@ -269,9 +272,9 @@ write_case('the playback by another name', [*PLAY, '--record', './p'], 'jackd: .
 LONG = {'s': text(JOINED, 'run 2000')}
 
 
-def few_bytes():
+def few_bytes(most=65536):
     signal.signal(signal.SIGXFSZ, signal.SIG_IGN)
-    resource.setrlimit(resource.RLIMIT_FSIZE, (65536, 65536))
+    resource.setrlimit(resource.RLIMIT_FSIZE, (most, most))
 
 
 # 65,536 bytes hold a header of 44, and (65536 - 44) / 2 frames.
@@ -290,6 +293,12 @@ if os.path.exists('/dev/full'):
             'jackd: play needs SCRIPT, CAPTURE and PLAYBACK; CAPTURE is missing\n' + HELP, stdout=full)
         case('a rehearsal and a full standard output', ['rehearse', '7'], 6, None,
             'jackd: standard output: No space left on device; the lines are cut\n', stdout=full)
+with open(os.path.join(folder, 'front'), 'w+b') as front:
+    case('a fault line that finds room for five bytes', ['plya'], 2, None, 'jackd: no command "plya"; is "play" meant?\n' + HELP,
+        stdout=front, before=lambda: few_bytes(5))
+    front.seek(0)
+    if front.read() != b'fault':
+        faults.append('a fault line that finds room for five bytes: standard output is not its front')
 case('a closed standard output', PLAY, 6, None, 'jackd: standard output: Bad file descriptor' + CUT, made=['p'], stdout=subprocess.DEVNULL,
     before=lambda: os.close(1))
 case('a fault line without standard output', ['plya'], 2, None, 'jackd: no command "plya"; is "play" meant?\n' + HELP,
@@ -313,6 +322,17 @@ differs_case('a recorder without a file', 'Records 1 0', 'the script has 1 recor
 differs_case('a file without a recorder', 'Records 0 2', 'the script has 0 recorders, --record was given 2 times', None,
     [*PLAY, '--record', 'r', '--record', 'q'])
 differs_case('a disk file', 'Disks 0 1', 'the script has 0 disk files, --disk was given 1 time', {'d': wave()}, [*PLAY, '--disk', 'd'])
+
+# Two mistakes at once: a file that can't be made is told last, since no file is made before all is read.
+PLACELESS = ['play', 's', 'c', 'nod/p']
+case('a faulty script, and no place for the playback', PLACELESS, 5, b'fault 5 script 7 Unknown\n',
+    'jackd: s:7: no command "strat"; is "start" meant?\n    do strat\n', files={'s': text('do strat', 'run 2')})
+case('a text as the capture, and no place for the playback', PLACELESS, 4, b'fault 4 wave NotRiff\n',
+    'jackd: c: no RIFF WAVE file (begins "hell")\n', files={'c': b'hello, this is no sound'})
+case('a missing capture, and no place for the playback', ['play', 's', 'noc', 'nod/p'], 3, b'fault 3 read\n',
+    'jackd: noc: No such file or directory\n')
+differs_case('two channels, and no place for the playback', 'Channels 1 2',
+    'the script has capture 1, c has 2 channels: sox c -c 1 new.wav', {'c': wave(form(channels=2))}, PLACELESS)
 
 # 0: what was refused is told, and nothing else.
 case('nothing wrong', PLAY, 0, PLAYED, '', made=['p'])
