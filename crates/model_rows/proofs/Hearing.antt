@@ -1,0 +1,52 @@
+-- What the clients of a plan hear of MIDI, where three nodes are wired like this.
+use Rattle.std.proofs.Common.{◌≡◌, ℕ, List, [], ◌∷◌, length, refl}
+use Rattle.jack_types.specs.Held.{filled_to}
+use Rattle.jack_types.specs.declared.events.Event.{Event}
+use Rattle.cycle_laws.specs.Gears.{no_events}
+use Rattle.midi_wiring.specs.Hearings.{Heard, carried_at, heard_by, log_at}
+use Rattle.midi_wiring.specs.Wirings.{MidiWired}
+use Rattle.midi_wiring.specs.declared.joints.MidiFrom.TheVariants.{Played, Kept, Nothing}
+
+abbrev event : ℕ → List ℕ → Event
+event offset bytes = record { offset = offset; size = length bytes; bytes = record { 0 = filled_to 0 16 bytes } }
+
+-- node 2 has two inputs. Node 1 was connected to the first one before node 0, then the output of birth 7 by a feedback edge; no client is at the second one's connection.
+abbrev wiring : MidiWired
+wiring = record {
+  widths = record { inputs = 0; outputs = 1 } ∷ record { inputs = 0; outputs = 1 } ∷ record { inputs = 2; outputs = 1 } ∷ [];
+  joints = record { node = 2; input = 0; from = Played 1 } ∷ record { node = 2; input = 1; from = Nothing } ∷ record { node = 2; input = 0; from = Played 0 } ∷ record { node = 2; input = 0; from = Kept 7 } ∷ [];
+  given = record { birth = 5; node = 0 } ∷ record { birth = 6; node = 1 } ∷ record { birth = 7; node = 2 } ∷ [];
+}
+
+-- nodes 0 and 1 play an event at frame 3 each; the output of birth 7 had one at frame 0 in the cycle before
+abbrev heard : Heard
+heard = record {
+  lists = [];
+  period = 64;
+  played = (event 3 (0x90 ∷ []) ∷ []) ∷ (event 3 (0x91 ∷ []) ∷ []) ∷ [] ∷ [];
+  carried = record { birth = 5; events = event 3 (0x90 ∷ []) ∷ [] } ∷ record { birth = 6; events = event 3 (0x91 ∷ []) ∷ [] } ∷ record { birth = 7; events = [] } ∷ [];
+  before = record { birth = 7; events = event 0 (0x87 ∷ []) ∷ [] } ∷ [];
+  logs = [];
+}
+
+-- by offset, and of the same offset that of the connection which was made first
+heard_by_two : heard_by wiring heard 2 ≡ (event 0 (0x87 ∷ []) ∷ event 3 (0x91 ∷ []) ∷ event 3 (0x90 ∷ []) ∷ []) ∷ [] ∷ []
+heard_by_two = refl
+
+-- a node without inputs hears nothing
+heard_by_none : heard_by wiring heard 0 ≡ []
+heard_by_none = refl
+
+-- what an output carries is of this cycle, not of the one before
+carried_now : carried_at heard.carried 7 ≡ []
+carried_now = refl
+
+carried_by_another : carried_at heard.carried 8 ≡ []
+carried_by_another = refl
+
+-- before the first cycle all inputs are empty, and so are the logs
+heard_of_no_events : heard_by wiring no_events 2 ≡ [] ∷ [] ∷ []
+heard_of_no_events = refl
+
+log_of_no_events : log_at no_events 4 ≡ []
+log_of_no_events = refl
