@@ -1,14 +1,10 @@
--- What the clients of a plan hear of MIDI, where three nodes are wired like this.
-use Rattle.std.proofs.Common.{◌≡◌, ℕ, List, [], ◌∷◌, length, refl}
-use Rattle.jack_types.specs.Held.{filled_to}
-use Rattle.jack_types.specs.declared.events.Event.{Event}
+-- What the clients of a plan of three nodes hear of MIDI.
+use Rattle.std.proofs.Common.{◌≡◌, [], ◌∷◌, refl}
 use Rattle.cycle_laws.specs.Gears.{no_events}
 use Rattle.midi_wiring.specs.Hearings.{Heard, carried_at, heard_by, log_at}
 use Rattle.midi_wiring.specs.Wirings.{MidiWired}
 use Rattle.midi_wiring.specs.declared.joints.MidiFrom.TheVariants.{Played, Kept, Nothing}
-
-abbrev event : ℕ → List ℕ → Event
-event offset bytes = record { offset = offset; size = length bytes; bytes = record { 0 = filled_to 0 16 bytes } }
+use Rattle.model_rows.specs.Given.{event_at}
 
 -- node 2 has two inputs. Node 1 was connected to the first one before node 0, then the output of birth 7 by a feedback edge; no client is at the second one's connection.
 abbrev wiring : MidiWired
@@ -23,14 +19,14 @@ abbrev heard : Heard
 heard = record {
   lists = [];
   period = 64;
-  played = (event 3 (0x90 ∷ []) ∷ []) ∷ (event 3 (0x91 ∷ []) ∷ []) ∷ [] ∷ [];
-  carried = record { birth = 5; events = event 3 (0x90 ∷ []) ∷ [] } ∷ record { birth = 6; events = event 3 (0x91 ∷ []) ∷ [] } ∷ record { birth = 7; events = [] } ∷ [];
-  before = record { birth = 7; events = event 0 (0x87 ∷ []) ∷ [] } ∷ [];
+  played = (event_at 3 (0x90 ∷ []) ∷ []) ∷ (event_at 3 (0x91 ∷ []) ∷ []) ∷ [] ∷ [];
+  carried = record { birth = 5; events = event_at 3 (0x90 ∷ []) ∷ [] } ∷ record { birth = 6; events = event_at 3 (0x91 ∷ []) ∷ [] } ∷ record { birth = 7; events = [] } ∷ [];
+  before = record { birth = 7; events = event_at 0 (0x87 ∷ []) ∷ [] } ∷ [];
   logs = [];
 }
 
 -- by offset, and of the same offset that of the connection which was made first
-heard_by_two : heard_by wiring heard 2 ≡ (event 0 (0x87 ∷ []) ∷ event 3 (0x91 ∷ []) ∷ event 3 (0x90 ∷ []) ∷ []) ∷ [] ∷ []
+heard_by_two : heard_by wiring heard 2 ≡ (event_at 0 (0x87 ∷ []) ∷ event_at 3 (0x91 ∷ []) ∷ event_at 3 (0x90 ∷ []) ∷ []) ∷ [] ∷ []
 heard_by_two = refl
 
 -- a node without inputs hears nothing
