@@ -145,6 +145,7 @@ FAULTS = (
     ((SCRIPT, SCRIPT, '1'), 2, f'jackd: words 2 and 3 name one file: {SCRIPT}\n{HELP}'),
     ((SCRIPT, '', '1'), 2, 'jackd: word 3 is empty, and names no file\n' + HELP),
     ((SCRIPT, '-r', '1'), 2, 'jackd: word 3 begins with "-"; a file is named ./-r\n' + HELP),
+    ((SCRIPT, REPORT, ''), 2, None),
     ((SCRIPT, REPORT, 'x'), 2, 'jackd: "x" is no cycle: a number from 1 to 4294967295 of one to ten digits\n' + HELP),
     ((SCRIPT, REPORT, '0'), 2, 'jackd: "0" is no cycle: a number from 1 to 4294967295 of one to ten digits\n' + HELP),
     ((SCRIPT, REPORT, ' 1'), 2, 'jackd: " 1" is no cycle: a number from 1 to 4294967295 of one to ten digits\n' + HELP),

@@ -1,18 +1,26 @@
 #!/usr/bin/env bash
 # The worked rows on real files: each folder of tests/rows is played by the program in a folder of its own, and exit code,
 # standard output and every byte of every file behind it are compared. No file may be there that the row does not name, and
-# script and capture keep their bytes. The files of a row, of which NAME.py stands for what it prints:
+# script and capture keep their bytes. The files of a row, of which NAME.py stands for a file NAME of what it prints:
 #
 #   words      the program's words, a line a run; each run ends as the row says
 #   s, s-1 ..  the scripts, each played as `s`
-#   c.wave     the capture, as `c`
+#   c          the capture: c.wave as a WAVE file, c.hex by its bytes
+#   o          a report, as `o`, for `graph`
 #   status     the exit code
 #   out        standard output
 #   p, r       the files made: NAME.wave as a WAVE file, NAME.hex by its bytes, NAME.size by their number
-#   fronts     in place of status and out: how many of the script's fronts are played, and the lines of the others by exit code
 #
-# A .wave has rate, channels and bits on its first line, and then the samples in the file's units; 0*20 is a sample twenty
-# times.
+# In place of status and out a row has one of these:
+#
+#   fronts     how many of the script's fronts are played, and the lines of the others by exit code
+#   cuts       of the capture's fronts of FIRST to LAST bytes, a line each: FIRST LAST CODE, and then the fault line, with {} for
+#              the bytes, or behind code 0 the playback as a WAVE file
+#   faults     a line each: CODE FAULT: TEXT, of the script with TEXT behind it, in which \n and \r are bytes
+#   reports    a line each: CODE FAULT: TEXT, of TEXT as the report
+#
+# A .wave has rate, channels and bits on its first line, and then the samples in the file's units, of which those of 8 bits are
+# stored plus 128; 0*20 is a sample twenty times.
 #
 # A script in serial mode that threads play to the same bytes, in whatever order they run, is played with 1, 2 and 4 workers
 # too, as its row says, and where that is a play to its end $TIMES times (1). A run that does not end in 60 seconds is a fault.
@@ -34,13 +42,14 @@ threads, explained_once = 0, functools.lru_cache(None)(explained.explain)
 
 
 def wave_of(text):
-    """A WAVE file of 16 to 32 bits, header and samples."""
+    """A WAVE file, header and samples."""
     rate, channels, bits, *samples = text.split()
     rate, channels, bits = int(rate), int(channels), int(bits)
     frame, data = channels * bits // 8, b''
     for word in samples:
         sample, _, count = word.partition('*')
-        data += int(sample).to_bytes(bits // 8, 'little', signed=True) * int(count or 1)
+        stored = int(sample) + 128 if bits == 8 else int(sample)
+        data += stored.to_bytes(bits // 8, 'little', signed=bits > 8) * int(count or 1)
     shape = [(16, 4), (1, 2), (channels, 2), (rate, 4), (rate * frame, 4), (frame, 2), (bits, 2)]
     header = b'WAVEfmt ' + b''.join(number.to_bytes(size, 'little') for number, size in shape)
     header += b'data' + len(data).to_bytes(4, 'little')
@@ -61,9 +70,10 @@ def with_threads(script):
 def read(path):
     """What a file of a row stands for."""
     if path.endswith('.py'):
-        return subprocess.run([sys.executable, path], capture_output=True, check=True).stdout
-    with open(path, 'rb') as it:
-        held = it.read()
+        held, path = subprocess.run([sys.executable, path], capture_output=True, check=True).stdout, path.removesuffix('.py')
+    else:
+        with open(path, 'rb') as it:
+            held = it.read()
     if path.endswith('.wave'):
         return wave_of(held.decode())
     if path.endswith('.hex'):
@@ -122,6 +132,39 @@ def faults_of_fronts(row, words, given):
         yield f'{played} fronts are played, not {wanted}'
 
 
+def faults_of_cuts(row, words, given):
+    """Fronts of a capture end with their fault line, and make no file, or are played."""
+    whole, lines, behind = given['c'], row['cuts'].decode().splitlines(), 0
+    for line in lines:
+        first, last, code, wanted = line.split(' ', 3)
+        if int(first) != behind:
+            yield f'the cuts skip {behind} bytes'
+        behind = int(last) + 1
+        for kept in range(int(first), behind):
+            front = {**given, 'c': whole[:kept]}
+            status, out, files = play(words, front)
+            said = row['out'] if code == '0' else wanted.replace('{}', str(kept)).encode() + b'\n'
+            if (str(status), out) != (code, said):
+                yield f'the first {kept} bytes: exit code {status}, {out[:200]}'
+            made = {words.split()[3]: [wave_of(wanted)]} if code == '0' else {}
+            yield from (f'the first {kept} bytes: {fault}' for fault in faults_of_files(files, front, made))
+    if behind != len(whole) + 1:
+        yield f'the cuts end before {behind} bytes'
+
+
+def faults_of_texts(row, words, given):
+    """Each text behind the script, or as the report, ends with its fault line, and makes no file."""
+    way, of, front = ('faults', 's', given['s']) if 'faults' in row else ('reports', 'o', b'')
+    for line in row[way].decode().splitlines():
+        wanted, _, text = line.partition(': ')
+        code, wanted = wanted.split(' ', 1)
+        faulty = {**given, of: front + text.replace('\\n', '\n').replace('\\r', '\r').encode()}
+        status, out, files = play(words, faulty)
+        if (str(status), out.decode()) != (code, f'{wanted}\n'):
+            yield f'{text[:80]}: exit code {status}, {out[:200]}'
+        yield from (f'{text[:80]}: {fault}' for fault in faults_of_files(files, faulty, {}))
+
+
 def faults_of_run(row, made, words, given):
     status, out, files = play(words, given)
     if status != int(row['status']):
@@ -135,6 +178,9 @@ def faults_of_run(row, made, words, given):
         yield from (f'computed: {fault}' for fault in [*found, *explained.differences(outputs, computed)])
 
 
+WAYS = {'fronts': faults_of_fronts, 'cuts': faults_of_cuts, 'faults': faults_of_texts, 'reports': faults_of_texts}
+
+
 def faults_of_row(folder):
     global threads
     row, made, scripts, runs = {}, {}, [], 0
@@ -142,18 +188,20 @@ def faults_of_row(folder):
         held, stem = read(f'{folder}/{name}'), name.split('.')[0]
         if re.fullmatch(r's(-\d+)?', stem):
             scripts.append(held)
-        elif stem in ('words', 'status', 'out', 'c', 'fronts'):
+        elif stem in ('words', 'status', 'out', 'c', 'o', *WAYS):
             row[stem] = held
         else:
             made.setdefault(stem, []).append(held)
-    if 'fronts' not in row:
-        others = [other for script in scripts for other in with_threads(script)] * (times if int(row['status']) == 0 else 1)
+    way = next((WAYS[it] for it in WAYS if it in row), None)
+    if way is None:
+        plays = [words for words in row['words'].decode().splitlines() if words.startswith('play ')]
+        others = [other for script in scripts for other in with_threads(script) if plays] * (times if int(row['status']) == 0 else 1)
         scripts, threads = scripts + others, threads + len(others)
     for script in scripts:
-        given = {'s': script, **({'c': row['c']} if 'c' in row else {})}
+        given = {'s': script, **{it: row[it] for it in ('c', 'o') if it in row}}
         for words in row['words'].decode().splitlines():
             runs += 1
-            found = faults_of_fronts(row, words, given) if 'fronts' in row else faults_of_run(row, made, words, given)
+            found = way(row, words, given) if way else faults_of_run(row, made, words, given)
             yield from (f'{words}: {fault}' for fault in found)
     if not runs:
         yield 'no script or no words'

@@ -11,8 +11,6 @@ mod performing;
 mod playing;
 mod sounds;
 mod stage;
-#[cfg(test)]
-mod tests;
 mod turning;
 
 pub use stage::MidiStage;

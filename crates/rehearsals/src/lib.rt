@@ -6,8 +6,6 @@ mod lines;
 mod names;
 mod rehearsal;
 mod sounds;
-#[cfg(test)]
-mod tests;
 mod texts;
 mod told;
 

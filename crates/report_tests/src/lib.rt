@@ -6,8 +6,6 @@ mod checks;
 #[cfg(test)]
 mod edits;
 #[cfg(test)]
-mod graphs;
-#[cfg(test)]
 mod lines;
 #[cfg(test)]
 mod places;

@@ -25,5 +25,3 @@ mod sharing;
 mod threads;
 #[cfg(test)]
 mod told_cycles;
-#[cfg(test)]
-mod unplayed;

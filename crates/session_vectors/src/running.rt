@@ -103,18 +103,3 @@ pub fn has_length(rt: &impl Abort, played: &Played, name: &str, length: usize) {
 pub fn has_out(rt: &impl Abort, played: &Played, text: &str) {
     assert_eq!(rt; str::from_utf8(played.out.as_bytes()), Ok(text));
 }
-
-/// A script is refused with this status and line, and no file is made.
-pub fn refuses<R: Threads + Wait + Sync + AllocGlobal + Abort>(
-    rt: &R,
-    script: &[&str],
-    capture: &[u8],
-    status: Status,
-    line: &str,
-) -> Result<(), Fail> {
-    let played = play(rt, &PLAY, script, capture)?;
-    assert_eq!(rt; played.status, status);
-    has_out(rt, &played, line);
-    assert_eq!(rt; played.host.file("p"), None);
-    Ok(())
-}

@@ -5,6 +5,8 @@ mod benches;
 #[cfg(test)]
 mod diamonds;
 #[cfg(test)]
+mod ensembles;
+#[cfg(test)]
 mod graphs;
 #[cfg(test)]
 mod meetings;
