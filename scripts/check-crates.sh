@@ -1,6 +1,7 @@
 #!/usr/bin/env bash
-# Each library that crates.txt names for a crate is cited by a file of that crate, in src/, specs/ or proofs/; and few paths lead
-# down from a crate, since the toolchain reads the sources below it once for each path.
+# Each library that crates.txt names for a crate is cited by a file of that crate, in src/, specs/ or proofs/. Few paths lead down
+# from a crate, since one of the two toolchains reads the sources below it once for each path. And the gate is at most so many
+# processor minutes, by the measured seconds of scripts/gate_seconds.txt.
 set -u
 cd "$(dirname "$0")/.." || exit 1
 status=0
@@ -31,5 +32,14 @@ if [ "$most" -gt 40000 ]; then
   status=1
 fi
 
-[ $status -eq 0 ] && echo "check-crates: passed, $most paths at the most"
+minutes="no processor minutes, without python3"
+if command -v python3 > /dev/null; then
+  minutes=$(python3 scripts/gate_minutes.py model)
+  if [ "${minutes%% *}" -gt 330 ]; then
+    echo "check-crates: more than 330 processor minutes: make what is dear simpler, or its tests rows and its edits those of edits/"
+    status=1
+  fi
+fi
+
+[ $status -eq 0 ] && echo "check-crates: passed, $most paths at the most; $minutes"
 exit $status

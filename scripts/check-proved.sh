@@ -1,6 +1,7 @@
 #!/usr/bin/env bash
-# docs/PROVED.md names each promise once, of a crate that is there, by edits that are there, and each check of scripts/ once;
-# docs/CRATES.md and crates.txt have each crate, once. Where python3 is missing the check is passed over.
+# docs/PROVED.md names each promise once, of a crate that is there, each edit, in bold where the gate tries it, and each check of
+# scripts/ once; docs/CRATES.md and crates.txt have each crate, once, in the same layers and order. Where python3 is missing the
+# check is passed over.
 set -u
 cd "$(dirname "$0")/.."
 if ! command -v python3 >/dev/null; then
@@ -15,7 +16,7 @@ crates = set(os.listdir('crates'))
 page = open('docs/PROVED.md').read()
 table = page.split('## Promise by promise')[1].split('\n## ')[0]
 rows = [[cell.strip() for cell in line.strip().strip('|').split(' | ')] for line in table.splitlines() if re.match(r'\| [a-z]\w* \|', line)]
-seen, carried = set(), set()
+seen, carried, named = set(), set(), set()
 for crate, promise, *rest in rows:
     if crate == 'crate':
         continue
@@ -27,9 +28,16 @@ for crate, promise, *rest in rows:
     if (crate, promise) in seen:
         faults.append(f'PROVED.md says twice of {crate}: {promise}')
     seen.add((crate, promise))
-    for edit in re.findall(r'\b[a-z0-9]+(?:_[a-z0-9]+)+\b', rest[-1] if len(rest) > 1 else ''):
-        if not os.path.exists(f'crates/{crate}/must-fail/{edit}.edit'):
-            faults.append(f'PROVED.md names an edit of {crate} that is not there: {edit}')
+    for bold, edit in re.findall(r'(\*\*)?`([a-z0-9]+(?:_[a-z0-9]+)+)`', rest[-1] if len(rest) > 1 else ''):
+        folder = 'must-fail' if bold else 'edits'
+        named.add((crate, folder, edit))
+        if not os.path.exists(f'crates/{crate}/{folder}/{edit}.edit'):
+            faults.append(f'PROVED.md names an edit that is not there: crates/{crate}/{folder}/{edit}.edit')
+
+edits = {(crate, folder, it.removesuffix('.edit')) for crate in crates for folder in ('must-fail', 'edits')
+         if os.path.isdir(f'crates/{crate}/{folder}') for it in os.listdir(f'crates/{crate}/{folder}')}
+for crate, folder, edit in sorted(edits - named):
+    faults.append(f'PROVED.md has no promise for crates/{crate}/{folder}/{edit}.edit')
 
 checks = [it for it in os.listdir('scripts') if re.fullmatch(r'check-\w+\.sh', it)]
 told = re.findall(r'`scripts/(check-\w+\.sh)`', page.split('## What is only tested')[1].split('\n## ')[0])
@@ -37,8 +45,13 @@ for name in sorted({*checks, *told}):
     if told.count(name) != 1 or name not in checks:
         faults.append(f'PROVED.md names scripts/{name} {told.count(name)} times' + ', which is not there' * (name not in checks))
 
-for name, words in (('docs/CRATES.md', re.findall(r'^\| \[`(\w+)`\]\(\.\./crates/\1/README\.md\)', open('docs/CRATES.md').read(), re.M)),
-                    ('crates.txt', re.findall(r'^(\w+)(?: \S+=\S+)*:', open('crates.txt').read(), re.M))):
+layers = re.findall(r'^(?:## (.+)|\| \[`(\w+)`\]\(\.\./crates/\2/README\.md\).*)$', open('docs/CRATES.md').read(), re.M)
+rows = re.findall(r'^(?:# (.+)|(\w+)(?: \S+=\S+)*:.*)$', open('crates.txt').read(), re.M)[1:]
+for one, other in zip([*layers, ('', '')], [*rows, ('', '')]):
+    if one != other:
+        faults.append(f'crates.txt has {"".join(other) or "its end"} where CRATES.md has {"".join(one) or "its end"}')
+        break
+for name, words in (('docs/CRATES.md', [it for _, it in layers if it]), ('crates.txt', [it for _, it in rows if it])):
     for crate in sorted(crates - set(words)):
         faults.append(f'{name} lacks {crate}')
     for crate in sorted(set(words) - crates):
@@ -49,6 +62,6 @@ for name, words in (('docs/CRATES.md', re.findall(r'^\| \[`(\w+)`\]\(\.\./crates
 for fault in faults:
     print('check-proved:', fault)
 if not faults:
-    print(f'check-proved: passed, {len(seen)} promises of {len(crates)} crates')
+    print(f'check-proved: passed, {len(seen)} promises of {len(crates)} crates, {len(edits)} edits')
 sys.exit(bool(faults))
 PY
