@@ -34,8 +34,10 @@ fi
 
 minutes="no processor minutes, without python3"
 if command -v python3 > /dev/null; then
-  minutes=$(python3 scripts/gate_minutes.py model)
-  if [ "${minutes%% *}" -gt 330 ]; then
+  if ! minutes=$(python3 scripts/gate_minutes.py model); then
+    echo "check-crates: the gate's minutes can't be reckoned"
+    status=1
+  elif [ "${minutes%% *}" -gt 330 ]; then
     echo "check-crates: more than 330 processor minutes: make what is dear simpler, or its tests rows and its edits those of edits/"
     status=1
   fi

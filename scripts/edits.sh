@@ -33,7 +33,9 @@ for name in "${names[@]}"; do
   [ -d "$kept" ] && mkdir -p "crates/$name/out" && cp -r "$kept" "crates/$name/out"
   mv "crates/$name/edits" "crates/$name/must-fail"
 done
-[ $# -eq 0 ] && ${RT:-rt} all check --jobs "$(nproc)" > "$room/checked" 2>&1
+if [ $# -eq 0 ]; then
+  ${RT:-rt} all check --jobs "$(nproc)" > "$room/checked" 2>&1 || tail -n 20 "$room/checked"
+fi
 for name in "${names[@]}"; do
   ${RT:-rt} must-fail "$name" 2>&1 | tee -a "$room/said"
 done

@@ -54,7 +54,7 @@ def watch(top, file):
     """Looks once a second at all checks of the toolchain that are at work."""
     began, seen = time.time(), {}
 
-    def write(*_):
+    def write():
         with open(f'{file}.part', 'w') as it:
             it.writelines(f'{crate} {kind} {seconds:.1f} {end:.0f}\n' for crate, kind, seconds, end in seen.values())
         os.replace(f'{file}.part', file)
@@ -191,7 +191,6 @@ def model():
     print(f'{sum(spent):.0f} processor minutes: ' + ', '.join(f'{kind} {it:.0f}' for kind, it in zip(KINDS, spent))
           + f'; {house.minutes(4):.0f} minutes on four processors, {house.minutes(2):.0f} on two'
           + f'; reckoned by lines: {" ".join(house.guessed)}' * bool(house.guessed))
-    return sum(spent)
 
 
 def main(words):
