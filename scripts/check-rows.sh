@@ -70,7 +70,7 @@ def with_threads(script):
 def read(path):
     """What a file of a row stands for."""
     if path.endswith('.py'):
-        held, path = subprocess.run([sys.executable, path], capture_output=True, check=True).stdout, path.removesuffix('.py')
+        held, path = subprocess.run([sys.executable, '-B', path], capture_output=True, check=True).stdout, path.removesuffix('.py')
     else:
         with open(path, 'rb') as it:
             held = it.read()
