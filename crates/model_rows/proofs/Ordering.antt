@@ -1,5 +1,5 @@
--- The nodes and the links of worked plans.
-use Rattle.std.proofs.Common.{◌≡◌, ℕ, List, [], ◌∷◌, ◌++◌, refl, codes, map}
+-- The nodes and the links of worked plans, and how many links come into each node, with one for its start.
+use Rattle.std.proofs.Common.{◌≡◌, ℕ, ◌+◌, List, [], ◌∷◌, ◌++◌, refl, codes, length, map}
 use Rattle.std.specs.Fmt.{digits}
 use Rattle.cycle_plan.specs.Plans.{links_of, nodes_of}
 use Rattle.jack_types.specs.declared.commands.Command.TheVariants.{Deactivate, Disconnect}
@@ -7,7 +7,9 @@ use Rattle.jack_types.specs.declared.kinds.Kind.TheVariants.{Mix}
 use Rattle.jack_types.specs.declared.ports.Link.{Link}
 use Rattle.jack_types.specs.declared.scripts.Body.{Body}
 use Rattle.jack_types.specs.declared.scripts.Body.TheVariants.{Do, Run}
+use Rattle.session_model.specs.Activation.{incoming}
 use Rattle.session_model.specs.Courses.{graph}
+use Rattle.session_model.specs.Samples.{below}
 use Rattle.session_model.specs.State.{OpenClient, State}
 use Rattle.model_rows.specs.Given.{given, header, joins, serial_run, with_ports}
 
@@ -17,6 +19,9 @@ behind lines = graph (serial_run (given (header 48000 4 1 1 16) (lines ++ Run 1 
 
 abbrev names : State → List (List ℕ)
 names state = map (λ (client : OpenClient). client.name) (nodes_of state)
+
+abbrev counts : State → List ℕ
+counts state = map (λ n. length (incoming (links_of state) n) + 1) (below (length (nodes_of state)))
 
 abbrev link : ℕ → ℕ → Link
 link from to = record { from = from; to = to }
@@ -42,10 +47,26 @@ links : links_of (behind diamond) ≡ link 0 2 ∷ link 0 1 ∷ link 2 3 ∷ lin
 unfolding digits
 links = refl
 
+counted : counts (behind diamond) ≡ 1 ∷ 2 ∷ 2 ∷ 3 ∷ []
+unfolding digits
+counted = refl
+
+counted_apart : counts (behind four) ≡ 1 ∷ 1 ∷ 1 ∷ 1 ∷ []
+unfolding digits
+counted_apart = refl
+
+counted_less : counts (behind (diamond ++ Do (Disconnect (codes "a:out") (codes "b:in")) ∷ [])) ≡ 1 ∷ 2 ∷ 1 ∷ 3 ∷ []
+unfolding digits
+counted_less = refl
+
 -- two connections of one pair are one link, in the place of the first that is left
 doubled : links_of (behind (diamond ++ joins (codes "a:out2") (codes "b:in"))) ≡ link 0 2 ∷ link 0 1 ∷ link 2 3 ∷ link 1 3 ∷ []
 unfolding digits
 doubled = refl
+
+counted_doubled : counts (behind (diamond ++ joins (codes "a:out2") (codes "b:in"))) ≡ 1 ∷ 2 ∷ 2 ∷ 3 ∷ []
+unfolding digits
+counted_doubled = refl
 
 one_left : links_of (behind (diamond ++ joins (codes "a:out2") (codes "b:in") ++ Do (Disconnect (codes "a:out") (codes "b:in")) ∷ [])) ≡ link 0 1 ∷ link 2 3 ∷ link 1 3 ∷ link 0 2 ∷ []
 unfolding digits
