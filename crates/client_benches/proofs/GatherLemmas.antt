@@ -1,6 +1,7 @@
--- The parts of an input, gathered four at a time.
+-- The parts of an input, gathered eight at a time.
 --     gathered-few      where none is summed, all are few
 --     gains-four, long-four      four parts that are added at once
+--     eight-of      eight parts by their places
 use Rattle.std.proofs.Common.{◌≡◌, ℕ, List, [], ◌∷◌, ◌++◌, length, map, get_or, ℤ, refl, ◌∙◌, ap, subst, arith}
 use Rattle.port_mixer.specs.Sums.{GainsParts, Mix, with_parts}
 use Rattle.port_mixer.proofs.SumLemmas.{length-all_added}
@@ -28,3 +29,17 @@ pub long-four : {X : Type 0} (now : X → List ℤ) (xs : List X) (d : X) (befor
 long-four now xs d before after is =
     ap (λ (mix : Mix). length mix.sums) is
     ∙ length-all_added before.sums (now (get_or xs 0 d) ∷ now (get_or xs 1 d) ∷ now (get_or xs 2 d) ∷ now (get_or xs 3 d) ∷ [])
+
+-- eight parts
+pub eight-of : {X : Type 0} (now : X → List ℤ) (xs : List X) (d : X) → length xs ≡ 8
+    → now (get_or xs 0 d) ∷ now (get_or xs 1 d) ∷ now (get_or xs 2 d) ∷ now (get_or xs 3 d) ∷ now (get_or xs 4 d) ∷ now (get_or xs 5 d) ∷ now (get_or xs 6 d) ∷ now (get_or xs 7 d) ∷ [] ≡ map now xs
+eight-of now [] d eight = absurd (omega (arith, eight))
+eight-of now (a ∷ []) d eight = absurd (omega (arith, eight))
+eight-of now (a ∷ b ∷ []) d eight = absurd (omega (arith, eight))
+eight-of now (a ∷ b ∷ c ∷ []) d eight = absurd (omega (arith, eight))
+eight-of now (a ∷ b ∷ c ∷ e ∷ []) d eight = absurd (omega (arith, eight))
+eight-of now (a ∷ b ∷ c ∷ e ∷ f ∷ []) d eight = absurd (omega (arith, eight))
+eight-of now (a ∷ b ∷ c ∷ e ∷ f ∷ g ∷ []) d eight = absurd (omega (arith, eight))
+eight-of now (a ∷ b ∷ c ∷ e ∷ f ∷ g ∷ h ∷ []) d eight = absurd (omega (arith, eight))
+eight-of now (a ∷ b ∷ c ∷ e ∷ f ∷ g ∷ h ∷ i ∷ []) d eight = refl
+eight-of now (a ∷ b ∷ c ∷ e ∷ f ∷ g ∷ h ∷ i ∷ j ∷ xs) d eight = absurd (omega (arith, eight))

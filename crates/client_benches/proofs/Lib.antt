@@ -7,3 +7,4 @@ pub mod KeptLemmas
 pub mod InsideLemmas
 pub mod ScoreLemmas
 pub mod CountLemmas
+pub mod SixteenthLemmas

@@ -7,4 +7,4 @@ abbrev pub parts_in : Inside → List (List ℤ)
 parts_in few = map (λ part. part.now) (take few.count few.parts)
 
 pub record IsWithin (few : Inside) : Type 0 where
-  pub within : few.count ≤ 4
+  pub within : few.count ≤ 8

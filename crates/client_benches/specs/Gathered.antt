@@ -1,4 +1,4 @@
--- The parts of a mix, gathered four at a time.
+-- The parts of a mix, gathered eight at a time.
 --     AreGathered frames mix few parts      some parts: the first of them are summed, and the last are few
 use Rattle.std.specs.Prelude.{◌≡◌, ℕ, List, ◌++◌, ℤ, length}
 use Rattle.port_mixer.specs.Sums.{Mix, sums_of}

@@ -5,3 +5,4 @@ pub mod Seen
 pub mod Insides
 pub mod Gathered
 pub mod Few
+pub mod Sixteenths

@@ -1,19 +1,21 @@
-//! The parts of a mix, gathered four at a time.
+//! The parts of a mix, gathered eight at a time.
 
-ghost use Rattle.std.specs.Prelude.{◌≡◌, ◌↔◌, ◌+◌, ◌<◌, ◌++◌, ◌∷◌, [], ℤ, List, All, IsTrue, length};
-ghost use Rattle.port_mixer.specs.Sums.{sums_of};
+ghost use Rattle.std.specs.Prelude.{◌≡◌, ◌↔◌, ◌+◌, ◌<◌, ◌≤◌, ◌++◌, ◌∷◌, [], ℤ, List, All, IsTrue, length, map};
+ghost use Rattle.port_mixer.specs.Sums.{GainsParts, sums_of};
 
-use crate::passes::{copy_part, mix_four, mix_none, mix_three, mix_two};
+use crate::passes::{
+    copy_part, mix_eight, mix_five, mix_four, mix_none, mix_seven, mix_six, mix_three, mix_two,
+};
 use port_mixer::Mixer;
 use std::marker::Model;
 
-/// The last parts of a mix, which are not in its sums yet: no more than four.
+/// The last parts of a mix, which are not in its sums yet: no more than eight.
 ///
 /// A mix of no more than that is made of the parts themselves, in one pass over the frames; the parts of any other are
 /// added to the sums of a mixer, four at a time. Contracts see them as a list, in the order of making.
 #[derive(Drop)]
 pub struct Few<'a> {
-    parts: [&'a [i32]; 4],
+    parts: [&'a [i32]; 8],
     count: usize,
 }
 
@@ -56,6 +58,28 @@ fn are_all_of(frames: usize, one: &[i32], two: &[i32], three: &[i32], four: &[i3
     one.len() == frames && two.len() == frames && three.len() == frames && four.len() == frames
 }
 
+/// Adds parts to the sums, at once where they are four that fill all frames.
+fn add_all(mixer: &mut Mixer, padded: &mut [i32], parts: &[&[i32]])
+    requires frames { length mixer.old.sums ≡ length padded.old }
+    requires few { mixer.old.parts + length parts.now ≤ 512 }
+    ensures parts { GainsParts (length padded.old) mixer.old.sums mixer.new.sums (map (λ part. part.now) parts.now) }
+    ensures count { mixer.new.parts ≡ mixer.old.parts + length parts.now }
+    ensures sums { length mixer.new.sums ≡ length mixer.old.sums }
+    ensures room { mixer.new.room ≡ mixer.old.room }
+    ensures frames { length padded.new ≡ length padded.old }
+{
+    match parts {
+        [one, two, three, four] if are_all_of(padded.len(), one, two, three, four) => {
+            mixer.add_four(one, two, three, four);
+        }
+        parts => {
+            for part in parts {
+                add_part(mixer, padded, part);
+            }
+        }
+    }
+}
+
 impl<'a> Few<'a> {
     ghost use Rattle.std.specs.Prelude.{◌≡◌, ◌↔◌, ◌+◌, ◌<◌, ◌≤◌, ◌++◌, ◌∷◌, [], ℤ, List, IsTrue, length, map};
     ghost use Rattle.session_model.specs.Samples.{mix};
@@ -67,7 +91,7 @@ impl<'a> Few<'a> {
         ensures { result ≡ [] }
     {
         Few {
-            parts: [&[]; 4],
+            parts: [&[]; 8],
             count: 0,
         }
     }
@@ -75,21 +99,21 @@ impl<'a> Few<'a> {
     /// The parts themselves.
     fn parts(&self) -> &[&'a [i32]]
         ensures parts { map (λ part. part.now) result.now ≡ self.now }
-        ensures few { length result.now ≤ 4 }
+        ensures few { length result.now ≤ 8 }
     {
         &self.parts[..self.count]
     }
 
     /// Whether there is no place for one more.
     fn is_full(&self) -> bool
-        ensures { IsTrue result ↔ length self.now ≡ 4 }
+        ensures { IsTrue result ↔ length self.now ≡ 8 }
     {
-        self.count == 4
+        self.count == 8
     }
 
     /// Puts one more behind them.
     fn push(&mut self, part: &'a [i32])
-        requires { length self.old < 4 }
+        requires { length self.old < 8 }
         ensures { self.new ≡ self.old ++ part.now ∷ [] }
     {
         self.parts[self.count] = part;
@@ -106,11 +130,19 @@ impl<'a> Few<'a> {
             [one, two] => mix_two(out, one, two),
             [one, two, three] => mix_three(out, one, two, three),
             [one, two, three, four] => mix_four(out, one, two, three, four),
+            [one, two, three, four, five] => mix_five(out, one, two, three, four, five),
+            [one, two, three, four, five, six] => mix_six(out, one, two, three, four, five, six),
+            [one, two, three, four, five, six, seven] => mix_seven(
+                out, one, two, three, four, five, six, seven,
+            ),
+            [one, two, three, four, five, six, seven, eight] => mix_eight(
+                out, one, two, three, four, five, six, seven, eight,
+            ),
             _ => unreachable!(),
         }
     }
 
-    /// Adds them to the sums, at once where they are four that fill all frames.
+    /// Adds them to the sums, four at a time.
     fn add(&self, mixer: &mut Mixer, padded: &mut [i32])
         requires frames { length mixer.old.sums ≡ length padded.old }
         requires few { mixer.old.parts + length self.now ≤ 512 }
@@ -120,19 +152,13 @@ impl<'a> Few<'a> {
         ensures room { mixer.new.room ≡ mixer.old.room }
         ensures frames { length padded.new ≡ length padded.old }
     {
-        match self.parts() {
-            [one, two, three, four] if are_all_of(padded.len(), one, two, three, four) => {
-                mixer.add_four(one, two, three, four);
-            }
-            parts => {
-                for part in parts {
-                    add_part(mixer, padded, part);
-                }
-            }
-        }
+        let parts = self.parts();
+        let half = parts.len().min(4);
+        add_all(mixer, padded, &parts[..half]);
+        add_all(mixer, padded, &parts[half..]);
     }
 
-    /// Gathers one more part of any length. Where there are four already, they are added to the sums.
+    /// Gathers one more part of any length. Where there are eight already, they are added to the sums.
     ///
     /// `padded` is room for as many samples as there are sums; what it holds behind the call is not told.
     pub fn gather(&mut self, mixer: &mut Mixer, padded: &mut [i32], part: &'a [i32])

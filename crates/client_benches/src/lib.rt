@@ -15,6 +15,7 @@ mod passes;
 mod playing;
 mod reading;
 mod setting;
+mod settling;
 mod values;
 mod wires;
 

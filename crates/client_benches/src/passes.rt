@@ -1,8 +1,9 @@
-//! Mixes of no more than four parts, each in one pass over the frames.
+//! Mixes of no more than eight parts, each in one pass over the frames.
 
-ghost use Rattle.std.specs.Prelude.{◌≡◌, ℕ, ◌<◌, ◌≤◌, ◌∷◌, [], pos, negsuc, ◌+ℤ◌, ◌≤ℤ◌, length};
+ghost use Rattle.std.specs.Prelude.{◌≡◌, ℕ, ◌<◌, ◌≤◌, ◌∷◌, [], length};
 ghost use Rattle.session_model.specs.Samples.{clamp, mix, sample, total};
 
+use crate::settling::{mixed_eight, mixed_five, mixed_four, mixed_seven, mixed_six, mixed_three};
 use port_mixer::see_samples;
 
 /// Copies a part of any length: what it lacks is silence, and what lies behind the last frame is left out.
@@ -54,51 +55,12 @@ fn sample_at(part: &[i32], place: usize) -> i32
     if place < part.len() { part[place] } else { 0 }
 }
 
-/// The sum of two samples.
-fn sum_two(one: i32, two: i32) -> i64
-    ensures sum { result ≡ (pos 0 +ℤ one) +ℤ two }
-    ensures least { negsuc 4294967295 ≤ℤ result }
-    ensures most { result ≤ℤ pos 4294967296 }
-{
-    i64::from(one) + i64::from(two)
-}
-
-/// The sum of three samples.
-fn sum_three(one: i32, two: i32, three: i32) -> i64
-    ensures sum { result ≡ ((pos 0 +ℤ one) +ℤ two) +ℤ three }
-    ensures least { negsuc 6442450943 ≤ℤ result }
-    ensures most { result ≤ℤ pos 6442450944 }
-{
-    sum_two(one, two) + i64::from(three)
-}
-
-/// The sum of four samples.
-fn sum_four(one: i32, two: i32, three: i32, four: i32) -> i64
-    ensures { result ≡ (((pos 0 +ℤ one) +ℤ two) +ℤ three) +ℤ four }
-{
-    sum_three(one, two, three) + i64::from(four)
-}
-
 /// Two samples, added and clamped.
 #[tactic(auto, using(crate::proofs::PartLemmas::silence_first))]
 fn mixed_two(one: i32, two: i32) -> i32
     ensures { result ≡ clamp (total (one ∷ two ∷ [])) }
 {
     one.saturating_add(two)
-}
-
-/// Three samples, added and clamped once.
-fn mixed_three(one: i32, two: i32, three: i32) -> i32
-    ensures { result ≡ clamp (total (one ∷ two ∷ three ∷ [])) }
-{
-    samples::clamp64(sum_three(one, two, three))
-}
-
-/// Four samples, added and clamped once.
-fn mixed_four(one: i32, two: i32, three: i32, four: i32) -> i32
-    ensures { result ≡ clamp (total (one ∷ two ∷ three ∷ four ∷ [])) }
-{
-    samples::clamp64(sum_four(one, two, three, four))
 }
 
 /// Silence is the mix of no part.
@@ -121,11 +83,41 @@ pub(crate) fn mix_two(out: &mut [i32], one: &[i32], two: &[i32])
     }
 }
 
+/// As many frames as two parts have.
+fn of_two(frames: usize, one: &[i32], two: &[i32]) -> usize
+    ensures frames { result ≤ frames }
+    ensures one { result ≤ length one.now }
+    ensures two { result ≤ length two.now }
+{
+    frames.min(one.len()).min(two.len())
+}
+
+/// As many frames as three parts have.
+fn of_three(frames: usize, one: &[i32], two: &[i32], three: &[i32]) -> usize
+    ensures frames { result ≤ frames }
+    ensures one { result ≤ length one.now }
+    ensures two { result ≤ length two.now }
+    ensures three { result ≤ length three.now }
+{
+    of_two(frames, one, two).min(three.len())
+}
+
+/// As many frames as four parts have.
+fn of_four(frames: usize, one: &[i32], two: &[i32], three: &[i32], four: &[i32]) -> usize
+    ensures frames { result ≤ frames }
+    ensures one { result ≤ length one.now }
+    ensures two { result ≤ length two.now }
+    ensures three { result ≤ length three.now }
+    ensures four { result ≤ length four.now }
+{
+    of_two(of_two(frames, one, two), three, four)
+}
+
 /// Mixes three parts of any length, as [`mix_two`] does two.
 pub(crate) fn mix_three(out: &mut [i32], one: &[i32], two: &[i32], three: &[i32])
     ensures { out.new ≡ mix (length out.old) (one.now ∷ two.now ∷ three.now ∷ []) }
 {
-    let whole = out.len().min(one.len()).min(two.len()).min(three.len());
+    let whole = of_three(out.len(), one, two, three);
     for place in 0..whole {
         out[place] = mixed_three(one[place], two[place], three[place]);
     }
@@ -142,12 +134,7 @@ pub(crate) fn mix_three(out: &mut [i32], one: &[i32], two: &[i32], three: &[i32]
 pub(crate) fn mix_four(out: &mut [i32], one: &[i32], two: &[i32], three: &[i32], four: &[i32])
     ensures { out.new ≡ mix (length out.old) (one.now ∷ two.now ∷ three.now ∷ four.now ∷ []) }
 {
-    let whole = out
-        .len()
-        .min(one.len())
-        .min(two.len())
-        .min(three.len())
-        .min(four.len());
+    let whole = of_four(out.len(), one, two, three, four);
     for place in 0..whole {
         out[place] = mixed_four(one[place], two[place], three[place], four[place]);
     }
@@ -157,6 +144,156 @@ pub(crate) fn mix_four(out: &mut [i32], one: &[i32], two: &[i32], three: &[i32],
             sample_at(two, lacking),
             sample_at(three, lacking),
             sample_at(four, lacking),
+        );
+    }
+}
+
+/// Mixes five parts of any length, as [`mix_two`] does two.
+pub(crate) fn mix_five(
+    out: &mut [i32],
+    one: &[i32],
+    two: &[i32],
+    three: &[i32],
+    four: &[i32],
+    five: &[i32],
+)
+    ensures { out.new ≡ mix (length out.old) (one.now ∷ two.now ∷ three.now ∷ four.now ∷ five.now ∷ []) }
+{
+    let half = of_four(out.len(), one, two, three, four);
+    let whole = half.min(five.len());
+    for place in 0..whole {
+        out[place] = mixed_five(
+            one[place],
+            two[place],
+            three[place],
+            four[place],
+            five[place],
+        );
+    }
+    for lacking in whole..out.len() {
+        out[lacking] = mixed_five(
+            sample_at(one, lacking),
+            sample_at(two, lacking),
+            sample_at(three, lacking),
+            sample_at(four, lacking),
+            sample_at(five, lacking),
+        );
+    }
+}
+
+/// Mixes six parts of any length, as [`mix_two`] does two.
+pub(crate) fn mix_six(
+    out: &mut [i32],
+    one: &[i32],
+    two: &[i32],
+    three: &[i32],
+    four: &[i32],
+    five: &[i32],
+    six: &[i32],
+)
+    ensures { out.new ≡ mix (length out.old) (one.now ∷ two.now ∷ three.now ∷ four.now ∷ five.now ∷ six.now ∷ []) }
+{
+    let half = of_four(out.len(), one, two, three, four);
+    let whole = of_two(half, five, six);
+    for place in 0..whole {
+        out[place] = mixed_six(
+            one[place],
+            two[place],
+            three[place],
+            four[place],
+            five[place],
+            six[place],
+        );
+    }
+    for lacking in whole..out.len() {
+        out[lacking] = mixed_six(
+            sample_at(one, lacking),
+            sample_at(two, lacking),
+            sample_at(three, lacking),
+            sample_at(four, lacking),
+            sample_at(five, lacking),
+            sample_at(six, lacking),
+        );
+    }
+}
+
+/// Mixes seven parts of any length, as [`mix_two`] does two.
+pub(crate) fn mix_seven(
+    out: &mut [i32],
+    one: &[i32],
+    two: &[i32],
+    three: &[i32],
+    four: &[i32],
+    five: &[i32],
+    six: &[i32],
+    seven: &[i32],
+)
+    ensures { out.new ≡ mix (length out.old) (one.now ∷ two.now ∷ three.now ∷ four.now ∷ five.now ∷ six.now ∷ seven.now ∷ []) }
+{
+    let half = of_four(out.len(), one, two, three, four);
+    let whole = of_three(half, five, six, seven);
+    for place in 0..whole {
+        out[place] = mixed_seven(
+            one[place],
+            two[place],
+            three[place],
+            four[place],
+            five[place],
+            six[place],
+            seven[place],
+        );
+    }
+    for lacking in whole..out.len() {
+        out[lacking] = mixed_seven(
+            sample_at(one, lacking),
+            sample_at(two, lacking),
+            sample_at(three, lacking),
+            sample_at(four, lacking),
+            sample_at(five, lacking),
+            sample_at(six, lacking),
+            sample_at(seven, lacking),
+        );
+    }
+}
+
+/// Mixes eight parts of any length, as [`mix_two`] does two.
+pub(crate) fn mix_eight(
+    out: &mut [i32],
+    one: &[i32],
+    two: &[i32],
+    three: &[i32],
+    four: &[i32],
+    five: &[i32],
+    six: &[i32],
+    seven: &[i32],
+    eight: &[i32],
+)
+    ensures { out.new ≡ mix (length out.old) (one.now ∷ two.now ∷ three.now ∷ four.now ∷ five.now ∷ six.now ∷ seven.now ∷ eight.now ∷ []) }
+{
+    let half = of_four(out.len(), one, two, three, four);
+    let whole = of_four(half, five, six, seven, eight);
+    for place in 0..whole {
+        out[place] = mixed_eight(
+            one[place],
+            two[place],
+            three[place],
+            four[place],
+            five[place],
+            six[place],
+            seven[place],
+            eight[place],
+        );
+    }
+    for lacking in whole..out.len() {
+        out[lacking] = mixed_eight(
+            sample_at(one, lacking),
+            sample_at(two, lacking),
+            sample_at(three, lacking),
+            sample_at(four, lacking),
+            sample_at(five, lacking),
+            sample_at(six, lacking),
+            sample_at(seven, lacking),
+            sample_at(eight, lacking),
         );
     }
 }

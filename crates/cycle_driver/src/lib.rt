@@ -6,6 +6,7 @@ mod driver;
 mod ending;
 mod ends;
 mod faults;
+mod giving;
 mod opening;
 mod running;
 mod writing;

@@ -1,6 +1,6 @@
 //! Many cycles, one after another.
 
-ghost use Rattle.std.specs.Prelude.{◌≡◌, IsErrOf, OnOk, Some};
+ghost use Rattle.std.specs.Prelude.{◌≡◌, IsErrOf, OnOk, Some, length};
 ghost use Rattle.jack_host.specs.Causes.{Rose};
 ghost use Rattle.wave_pcm.specs.Readings.{SameReading};
 ghost use Rattle.wave_write.specs.Tapes.{Tape};
@@ -9,6 +9,7 @@ ghost use Rattle.cycle_driver.specs.Gears.{driver_of};
 ghost use Rattle.driver_laws.specs.Cycling.{CyclesMany, FailsAtRead};
 ghost use Rattle.cycle_driver.specs.Runs.{AreNext, BreaksAtWrite, IsGoing, RunsInto, StaysInRun};
 
+use crate::giving::{PATIENCE, give_way};
 use crate::{CycleFault, Driver};
 use client_kinds::Guest;
 use jack_host::{Gate, Source, Store};
@@ -16,14 +17,17 @@ use std::thread::Threads;
 
 /// Runs so many cycles, one after another, until one fails. Before each it calls the gate, with the cycle's number.
 ///
-/// It waits for nobody, and takes no memory.
+/// Where a ring is full before a cycle, it gives way for a bounded time, so that the recorder may take a block. It waits for
+/// nobody, and takes no memory.
 pub fn run_cycles<S: Source, W: Store, G: Guest + Send, T: Threads + Sync, K: Gate>(
     driver: &mut Driver<S, W, G>,
     threads: &T,
     gate: &K,
+    recorders: u8,
     cycles: u32,
     freewheel: bool,
 ) -> Result<(), CycleFault>
+    requires many { length driver.old.rings.rings ≡ recorders }
     requires next { AreNext cycles freewheel (driver_of driver.old) }
     requires going { IsGoing (driver_of driver.old) }
     ensures ok { OnOk result (CyclesMany cycles (driver_of driver.old) (driver_of driver.new)) }
@@ -35,7 +39,9 @@ pub fn run_cycles<S: Source, W: Store, G: Guest + Send, T: Threads + Sync, K: Ga
     ensures stays { StaysInRun (driver_of driver.old) (driver_of driver.new) }
     ensures capture { SameReading driver.old.capture.reading driver.new.capture.reading }
 {
+    let mut patience = PATIENCE;
     for cycle in 0..cycles {
+        patience = give_way(driver, recorders, patience);
         let number = u32::try_from(driver.numbers().len()).unwrap_or(u32::MAX);
         gate.before_cycle(number.saturating_add(1));
         match driver.cycle(threads, gate, freewheel) {

@@ -19,7 +19,7 @@ use Rattle.record_ring.specs.declared.view.ProducerView.{ProducerView}
 use Rattle.record_ring.specs.declared.view.SeatView.{SeatView}
 use Rattle.record_ring.specs.Rings.{content, items_of}
 use Rattle.record_ring.specs.Rule.{weight, HasRoomFor, IsNext, RingRule}
-use Rattle.record_ring.specs.Steps.{Sat, with_producer, look_after, Looked, send_after, Sent, Marked}
+use Rattle.record_ring.specs.Steps.{Sat, with_producer, look_after, Looked, Glanced, send_after, Sent, Marked}
 use Rattle.record_ring.proofs.Moves.{Goes, shows, reset, producer_moves, consumer_stays}
 
 pub looks : (z : Size) (n id : ℕ) (me : Sat) → me.0.is_producer ≡ true → me.0.is_consumer ≡ false → me.0.producer.holds ≡ false → Allows (RingRule z) n id me 1 (λ x. x) (Looked (step n 1 0 0 none) me)
@@ -84,6 +84,33 @@ looks z n id me produces alone free s r wide at _ =
       },
       (low, omega arith, omega arith, (λ _. refl), λ room. absurd (omega arith)),
     )))
+
+pub glances : (z : Size) (n id : ℕ) (me : Sat) → me.0.is_producer ≡ true → me.0.is_consumer ≡ false → Allows (RingRule z) n id me 1 (λ x. x) (Glanced (step n 1 0 0 none) me)
+glances z n id me produces alone s r wide at _ =
+    let k : ℕ = get_or s.words 1 0 in let mine = (r.each_producer id me.0 at produces).1 in let is : k ≡ r.taken = ap (λ (ws : List ℕ). get_or ws 1 0) r.words_are in
+    let low : me.0.producer.least ≤ k = le_trans mine.least_low (omega arith) in (
+      me.0,
+      keeps,
+      tt,
+      record {
+        put = r.put;
+        taken = r.taken;
+        ended = r.ended;
+        producer = r.producer;
+        consumer = r.consumer;
+        lent = r.lent;
+        drawn = r.drawn;
+        words_are = set-get_or s.words 1 0 ∙ r.words_are;
+        valid = r.valid;
+        behind = r.behind;
+        within = r.within;
+        waiting = r.waiting;
+        spare = r.spare;
+        each_producer = producer_moves z s r id me.0 at produces r.put r.ended r.lent me.0.producer mine;
+        each_consumer = consumer_stays z s r id me.0 at alone r.put r.ended me.0.producer (λ u h. h);
+      },
+      (low, refl),
+    )
 
 -- a longer list of blocks put has the same first ones
 longer_next : (put : List RingBlock) (x : RingBlock) (taken out : ℕ) (next : List RingBlock) → IsNext put taken out next → IsNext (put ++ x ∷ []) taken out next

@@ -30,6 +30,10 @@ Looked st m r m' =
     × (sent ≡ r + st.slots → m' ≡ (with_producer m.0 (look_after m.0.producer r false), m.1))
     × (sent < r + st.slots → (m'.0 ≡ with_producer m.0 (look_after m.0.producer r true)) × ((y : Block) × HasRoomFor m.0.size.samples y × (m'.1 ≡ (sent % st.slots, y) ∷ m.1)))
 
+-- a load of the number taken, of which nothing is noted
+abbrev pub Glanced : Step Block → Sat → ℕ → Sat → Type 0
+Glanced st m r m' = (m.0.producer.least ≤ r) × (m' ≡ m)
+
 -- the block that a seat took last, if it has one
 abbrev pub in_hand : List (ℕ × Block) → List RingBlock
 in_hand [] = []

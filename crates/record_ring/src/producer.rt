@@ -1,6 +1,6 @@
 //! The end of a ring that puts blocks.
 use crate::block::Block;
-use crate::steps::{Look, Mark, Send};
+use crate::steps::{Glance, Look, Mark, Send};
 use crate::view::{Board, Place, SENT, TAKEN};
 use std::alloc::Global;
 use std::marker::Model;
@@ -66,6 +66,18 @@ impl Producer {
         words.store::<Send>(&mut self.seat, SENT, 2 * (self.sent + 1));
         self.sent += 1;
         Ok(())
+    }
+
+    /// Whether the ring has no free place now. Where the two ends met with room since the last put, it has one.
+    ///
+    /// It loads the number taken once, and notes nothing.
+    pub fn is_full(&mut self) -> bool
+        ensures full { result ≡ true → self.old.least + self.old.capacity ≤ length self.old.put }
+        ensures same { self.new ≡ self.old }
+    {
+        let words = &self.table.shared;
+        let taken = words.load::<Glance>(&mut self.seat, TAKEN);
+        self.sent.saturating_sub(taken) >= self.capacity
     }
 
     /// Sets the end mark: no block follows until `renew` takes it away. One store.

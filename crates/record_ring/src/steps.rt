@@ -12,6 +12,15 @@ impl Play<Block, SeatView> for Look {
     ghost then = { Looked };
 }
 
+/// The producer's load of the number taken, of which it notes nothing.
+pub(crate) struct Glance;
+
+impl Play<Block, SeatView> for Glance {
+    ghost use Rattle.record_ring.specs.Steps.{Glanced};
+
+    ghost then = { Glanced };
+}
+
 /// The producer's store of the number sent.
 pub(crate) struct Send;
 

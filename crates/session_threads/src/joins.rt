@@ -145,7 +145,7 @@ fn drive<S: Source, W: Store, G: Guest + Send, T: Threads + Sync, K: Gate>(
     requires going { IsGoing (driver_of driver) }
     ensures { (driven : Gear) × HasDriven cycles driver driven result.1 × (result.0 ≡ with_ends driven) }
 {
-    let ran = run_cycles(&mut driver, threads, gate, cycles, false);
+    let ran = run_cycles(&mut driver, threads, gate, recorders, cycles, false);
     end_rings(&mut driver, recorders);
     if ran.is_err() {
         over.store(true, Ordering::SeqCst);
