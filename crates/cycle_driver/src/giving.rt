@@ -4,11 +4,15 @@ ghost use Rattle.std.specs.Prelude.{◌≡◌, length};
 
 use crate::Driver;
 use client_kinds::Guest;
-use crossbeam_utils::Backoff;
 use jack_host::{Source, Store};
+use std::{hint, thread};
 
-/// How often the driver backs off at most until a ring has room: for some 50 ms.
-pub(crate) const PATIENCE: u32 = 100_000;
+/// How often the driver lets another thread run at most until each ring has room: with its looks in between for some 50 ms.
+pub(crate) const PATIENCE: u32 = 200;
+// For how many of these it looks once behind each, so that a recorder on the same processor goes on at once.
+const EAGER: u32 = 100;
+// How often it looks behind each later one.
+const LOOKS: u32 = 8_000;
 
 /// Whether the ring of a recorder has no free place. There are so many recorders.
 fn has_full_ring<S: Source, W: Store, G: Guest>(driver: &mut Driver<S, W, G>, recorders: u8) -> bool
@@ -23,6 +27,30 @@ fn has_full_ring<S: Source, W: Store, G: Guest>(driver: &mut Driver<S, W, G>, re
     false
 }
 
+/// Looks at most so many times until the ring of each recorder has room, and answers whether it has.
+fn has_room_soon<S: Source, W: Store, G: Guest>(
+    driver: &mut Driver<S, W, G>,
+    recorders: u8,
+    looks: u32,
+) -> bool
+    requires all { length driver.old.rings.rings ≡ recorders }
+    ensures { driver.new ≡ driver.old }
+{
+    for _ in 0..looks {
+        let is_full = has_full_ring(driver, recorders);
+        if !is_full {
+            return true;
+        }
+        hint::spin_loop();
+    }
+    false
+}
+
+// How often the driver looks behind its turn of that number.
+fn looks_in(turn: u32) -> u32 {
+    if turn < EAGER { 1 } else { LOOKS }
+}
+
 /// Gives way until the ring of each recorder has room, but not for longer than the patience that is left. Answers what is left
 /// of it for the next time: all, where they have room.
 pub(crate) fn give_way<S: Source, W: Store, G: Guest>(
@@ -33,13 +61,14 @@ pub(crate) fn give_way<S: Source, W: Store, G: Guest>(
     requires all { length driver.old.rings.rings ≡ recorders }
     ensures { driver.new ≡ driver.old }
 {
-    if !has_full_ring(driver, recorders) {
+    let is_full = has_full_ring(driver, recorders);
+    if !is_full {
         return PATIENCE;
     }
-    let backoff = Backoff::new();
-    for _ in 0..patience {
-        backoff.snooze();
-        if !has_full_ring(driver, recorders) {
+    for turn in 0..patience {
+        thread::yield_now();
+        let has_room = has_room_soon(driver, recorders, looks_in(turn));
+        if has_room {
             return PATIENCE;
         }
     }
