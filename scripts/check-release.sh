@@ -1,10 +1,10 @@
 #!/usr/bin/env bash
 # The newest archive of release/ is whole, is what scripts/release.sh makes of its commit, and works: its sums are right; its
 # program plays the examples, and the worked rows of its commit; scripts/install.sh installs it, says which it is, and takes it
-# away again; it makes a package that installs; the first commands of README.md play a session. Where its sources are those of this checkout, and its toolchain the one here,
-# the gate's own program is byte for byte the released one. Else the check says of which commit the release is, and whether
-# the formats of scripts and reports have changed since. Where the commit is not in this checkout's history what needs it is
-# passed over.
+# away again; so does a package of it; and the first commands of README.md play a session. Where its sources are those of this
+# checkout, and its toolchain the one here, the gate's own program is byte for byte the released one. Else the check says of
+# which commit the release is, and whether the formats of scripts and reports have changed since. What needs that commit is
+# passed over where it is not in this checkout's history.
 set -u
 cd "$(dirname "$0")/.." || exit 1
 top=$PWD
