@@ -37,6 +37,15 @@ for name in bin/jackd share/man/man1/jackd.1 share/bash-completion/completions/j
 done
 [ "$(head -n 1 "$folder/kept/share/zsh/site-functions/_sagbufe-jackd")" = '#compdef sagbufe-jackd' ] || fault "zsh completes another jackd"
 
+# What was installed is taken away, and nothing else; the help is told.
+touch "$folder/kept/bin/jackd" "$folder/kept/bin/mine"
+bash scripts/install.sh --uninstall "$folder/kept" > "$folder/said" || fault "not taken away: $(cat "$folder/said")"
+[ "$(cd "$folder/kept" && find . ! -type d | sort | xargs)" = './bin/jackd ./bin/mine' ] || fault "behind --uninstall there is: $(find "$folder/kept" ! -type d)"
+bash scripts/install.sh --uninstall "$folder/kept" > "$folder/said" 2>&1 && fault "what is not there was taken away"
+bash scripts/install.sh --help | grep -q -e --uninstall || fault "no help"
+bash scripts/install.sh --nothing > "$folder/said" 2>&1
+[ $? -eq 2 ] || fault "an option that is none was taken"
+
 # The man page.
 page=$folder/free/share/man/man1/jackd.1
 if command -v man >/dev/null; then
