@@ -1,7 +1,7 @@
 #!/usr/bin/env bash
 # scripts/install.sh installs a program that plays, under its two names or under one, with a man page that is read and
-# with completion that bash, zsh and fish take. Where another jackd is on the path already the check is passed over, and
-# so is a tool that is missing.
+# with completion that bash, zsh and fish take, and takes away what it installed. Where another jackd is on the path already
+# the check is passed over, and so is a tool that is missing.
 set -u
 # shellcheck source=scripts/program.sh
 . "$(dirname "$0")/program.sh"
