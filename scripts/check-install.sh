@@ -1,7 +1,7 @@
 #!/usr/bin/env bash
 # scripts/install.sh installs a program that plays, under its two names or under one, with a man page that is read and
-# with completion that bash, zsh and fish take. Where another jackd is on the path already the check is passed over, and
-# so is a tool that is missing.
+# with completion that bash, zsh and fish take, and takes away what it installed. Where another jackd is on the path already
+# the check is passed over, and so is a tool that is missing.
 set -u
 # shellcheck source=scripts/program.sh
 . "$(dirname "$0")/program.sh"
@@ -36,6 +36,15 @@ for name in bin/jackd share/man/man1/jackd.1 share/bash-completion/completions/j
   [ -e "$folder/kept/$name" ] && fault "$name is there beside another jackd"
 done
 [ "$(head -n 1 "$folder/kept/share/zsh/site-functions/_sagbufe-jackd")" = '#compdef sagbufe-jackd' ] || fault "zsh completes another jackd"
+
+# What was installed is taken away, and nothing else; the help is told.
+touch "$folder/kept/bin/jackd" "$folder/kept/bin/mine"
+bash scripts/install.sh --uninstall "$folder/kept" > "$folder/said" || fault "not taken away: $(cat "$folder/said")"
+[ "$(cd "$folder/kept" && find . ! -type d | sort | xargs)" = './bin/jackd ./bin/mine' ] || fault "behind --uninstall there is: $(find "$folder/kept" ! -type d)"
+bash scripts/install.sh --uninstall "$folder/kept" > "$folder/said" 2>&1 && fault "what is not there was taken away"
+bash scripts/install.sh --help | grep -q -e --uninstall || fault "no help"
+bash scripts/install.sh --nothing > "$folder/said" 2>&1
+[ $? -eq 2 ] || fault "an option that is none was taken"
 
 # The man page.
 page=$folder/free/share/man/man1/jackd.1

@@ -1,10 +1,10 @@
 #!/usr/bin/env bash
 # The newest archive of release/ is whole, is what scripts/release.sh makes of its commit, and works: its sums are right; its
 # program plays the examples, and the worked rows of its commit; scripts/install.sh installs it, says which it is, and takes it
-# away again; it makes a package that installs. Where its sources are those of this checkout, and its toolchain the one here,
-# the gate's own program is byte for byte the released one. Else the check says of which commit the release is, and whether
-# the formats of scripts and reports have changed since. Where the commit is not in this checkout's history what needs it is
-# passed over.
+# away again; so does a package of it; and the first commands of README.md play a session. Where its sources are those of this
+# checkout, and its toolchain the one here, the gate's own program is byte for byte the released one. Else the check says of
+# which commit the release is, and whether the formats of scripts and reports have changed since. What needs that commit is
+# passed over where it is not in this checkout's history.
 set -u
 cd "$(dirname "$0")/.." || exit 1
 top=$PWD
@@ -57,7 +57,7 @@ straight "$jackd" || fault "straight.session is not played"
 if git cat-file -e "$commit^{commit}" 2> /dev/null; then
   git clone -q --shared --no-checkout . "$folder/then" && git -C "$folder/then" checkout -q "$commit" || exit 1
   for check in rows examples waves; do
-    PROGRAM=$jackd bash "$folder/then/scripts/check-$check.sh" > "$folder/said" || fault "check-$check.sh of its commit: $(tail -n 5 "$folder/said")"
+    PROGRAM=$jackd bash "$folder/then/scripts/check-$check.sh" > "$folder/said" 2>&1 || fault "check-$check.sh of its commit: $(tail -n 5 "$folder/said")"
     echo "check-release: $(tail -n 1 "$folder/said")"
   done
   # The release is made again, in another folder.
@@ -70,13 +70,22 @@ if git cat-file -e "$commit^{commit}" 2> /dev/null; then
     fault "release.sh does not make it again: $(cat "$folder/said")"
   fi
   if ls "$folder"/made/*.deb > /dev/null 2>&1; then
-    dpkg-deb -x "$folder"/made/*.deb "$folder/root" && straight "$folder/root/usr/bin/sagbufe-jackd" || fault "the package does not play"
+    { dpkg-deb -x "$folder"/made/*.deb "$folder/root" && straight "$folder/root/usr/bin/sagbufe-jackd"; } || fault "the package does not play"
     [ -e "$folder/root/usr/bin/jackd" ] && fault "the package takes the name jackd"
   else
     over "no package, without dpkg-deb"
   fi
 else
   over "the commit of the release, $commit, is not here"
+fi
+
+# The first block of the README, as a new user types it.
+mkdir "$folder/home" "$folder/tmp"
+sed -n '/^```sh$/,/^```$/p' README.md | sed '1d; /^```$/,$d' | sed "s|/tmp|$folder/tmp|g" > "$folder/first"
+if env -u PROGRAM -u JACKD HOME="$folder/home" bash -e "$folder/first" > "$folder/said" 2>&1; then
+  [ "$(od -An -v -td2 -j44 "$folder/tmp/straight.playback.wav" | xargs)" = '1 2 3 4 5 0 0 0' ] || fault "the first commands of README.md play other samples"
+else
+  fault "the first commands of README.md do not play: $(cat "$folder/said")"
 fi
 
 # Beside this checkout.
@@ -94,7 +103,11 @@ if [ "$(told sources)" = "$(scripts/sources.sh)" ]; then
 else
   echo "check-release: the release is of $commit, and the sources have changed since"
   if git cat-file -e "$commit^{commit}" 2> /dev/null; then
-    git diff --quiet "$commit" -- docs/FORMATS.md && echo "check-release: docs/FORMATS.md has not changed since" || echo "check-release: docs/FORMATS.md has changed since"
+    if git diff --quiet "$commit" -- docs/FORMATS.md; then
+      echo "check-release: docs/FORMATS.md has not changed since"
+    else
+      echo "check-release: docs/FORMATS.md has changed since"
+    fi
   fi
 fi
 [ $status -eq 0 ] && echo "check-release: passed, $name"

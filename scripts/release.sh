@@ -49,6 +49,17 @@ The gate proved each crate from these sources, refused each wrong body, ran each
 In a checkout of the commit \`scripts/sources.sh\` prints the sum of the sources, and .ci/run does it all again: with
 the same toolchain it makes the program byte for byte. \`sha256sum jackd\` prints the sum of the program.
 END
+cat > "$tree/README" <<END
+Sagbufe $version: an audio server whose output is proved.
+
+To install the program below ~/.local, and to play a first session:
+
+    scripts/install.sh
+    sh examples/captures.sh /tmp
+    ~/.local/bin/sagbufe-jackd play examples/straight.session /tmp/straight.capture.wav /tmp/straight.playback.wav
+
+docs/TUTORIAL.md goes on from an empty file. PROOF says what was proved, and how to make this program again.
+END
 (cd "$tree" && find . -type f ! -name SHA256SUMS -print0 | LC_ALL=C sort -z | xargs -0 sha256sum > SHA256SUMS)
 
 SOURCE_DATE_EPOCH=$(git show -s --format=%ct "$commit")
