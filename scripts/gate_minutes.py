@@ -3,7 +3,8 @@
 
 gate_minutes.py watch PID FILE   writes the processor seconds of each check below the process PID into FILE, until it is told to end
 gate_minutes.py tell FILE        what FILE says: the minutes of proofs, tests and edits, and when the last of each was done
-gate_minutes.py keep FILE        writes scripts/gate_seconds.txt by it: a line a crate, with the seconds of its proof, tests and edits
+gate_minutes.py keep FILE        writes scripts/gate_seconds.txt by it: a line a crate, with the seconds of its proof, tests and edits, as
+                                 long as the machine of the seconds that it has now would take: it tells how far the two differ
 gate_minutes.py model            processor minutes by scripts/gate_seconds.txt, and how long the gate takes on four and on two processors
 
 A crate that gate_seconds.txt lacks is reckoned by its lines, as those that it has are. The model gives each free processor the
@@ -99,11 +100,23 @@ def tell(file):
         print(f'{kind}: {spent / 60:.0f} processor minutes' + f', the last after {ends[kind] / 60:.0f} minutes' * (ends[kind] > 0))
 
 
+def kept():
+    """The seconds of proof, tests and edits by crate, as gate_seconds.txt has them."""
+    with open(KEPT) as it:
+        return {name: list(map(float, rest)) for name, *rest in (line.split() for line in it if not line.startswith('#'))}
+
+
 def keep(file):
+    """Machines differ by half, and the bound of check-crates.sh is one number: so all seconds are of one machine."""
     seconds, _ = read(file)
+    before = kept() if os.path.exists(KEPT) else {}
+    pairs = [(seconds[crate][kind], told) for crate in seconds if crate in before for kind, told in zip(KINDS, before[crate])]
+    ratios = sorted(now / told for now, told in pairs if min(now, told) >= 20)
+    ratio = ratios[len(ratios) // 2] if ratios else 1.0
     with open(KEPT, 'w') as it:
         it.write('# crate, and the seconds of a processor that its proof, its tests and its edits took\n')
-        it.writelines(f'{crate} ' + ' '.join(f'{seconds[crate][kind]:.0f}' for kind in KINDS) + '\n' for crate in sorted(seconds))
+        it.writelines(f'{crate} ' + ' '.join(f'{seconds[crate][kind] / ratio:.0f}' for kind in KINDS) + '\n' for crate in sorted(seconds))
+    print(f'this machine took {ratio:.2f} times as long')
 
 
 def lines_of(crate, folder, ending):
@@ -129,8 +142,7 @@ class House:
             rows = [line.split(':') for line in it if line.strip() and not line.startswith('#')]
         known = {name.split()[0] for name, _ in rows}
         self.below = {name.split()[0]: [it for it in names.split() if it in known] for name, names in rows}
-        with open(KEPT) as it:
-            told = {name: list(map(float, rest)) for name, *rest in (line.split() for line in it if not line.startswith('#'))}
+        told = kept()
         weights = {it: 40 + lines_of(it, 'src', '.rt') + lines_of(it, 'proofs', '.antt') / 10 for it in known}
         both = [it for it in known if it in told]
         rate = sum(told[it][0] + told[it][1] for it in both) / max(sum(weights[it] for it in both), 1)
