@@ -8,6 +8,8 @@ mod feeds;
 #[cfg(test)]
 mod files;
 #[cfg(test)]
+mod inputs;
+#[cfg(test)]
 mod players;
 #[cfg(test)]
 mod readers;
