@@ -286,36 +286,41 @@ def judge(session, changes):
         verdicts_told[part] += 1
 
 
-# The exit codes of what is no case.
+# What is no case, by the words at these places, and what is answered in its place.
+NO_CASES = (
+    ({0: 'Check'}, 2, 'fault 2 words'), ({3: ''}, 2, 'fault 2 words'), ({4: '-x'}, 2, 'fault 2 words'), ({4: 'c'}, 2, 'fault 2 words'), ({-2: '--records'}, 2, 'fault 2 words'),
+    ({1: 'nothing'}, 3, 'fault 3 read'), ({2: 'nothing'}, 3, 'fault 3 read'), ({3: 'nothing'}, 3, 'fault 3 read'), ({4: 'nothing'}, 3, 'fault 3 read'), ({-1: 'nothing'}, 3, 'fault 3 read'),
+    ({3: '.'}, 3, 'fault 3 read'), ({3: 'text', -1: 'nothing'}, 3, 'fault 3 read'), ({2: 'text'}, 4, 'fault 4 wave NotRiff'), ({2: 'text', 3: 'nothing'}, 4, 'fault 4 wave NotRiff'),
+    ({1: 'faulty'}, 5, 'fault 5 script 1 Choice'), ({1: 'later'}, 5, 'fault 5 script 1 Choice'), ({1: 'text'}, 5, 'fault 5 script 1 Header'),
+    ({1: 'faster'}, 7, 'fault 7 differs Rate 9000 8000'), ({1: 'wider'}, 7, 'fault 7 differs Channels 3 2'), ({1: 'faster', 3: 'nothing'}, 7, 'fault 7 differs Rate 9000 8000'),
+    ({3: 'text'}, 8, 'check wrong report 1'),
+)
+
 
 def judge_words(session):
-    words = ['check', 's', 'c', 'o', *session.words(session.outputs)]
-    session.write('other', session.held['s'].replace(b'jackd 2', b'jackd 9', 1))
-    session.write('later', session.held['s'].replace(b'jackd 2', b'jackd 3', 1))
-    session.write('faster', session.held['s'].replace(b'rate 8000', b'rate 9000', 1))
-    session.write('text', b'no WAVE file')
-    cases = (
-        ((1, 'nothing'), 3, 'fault 3 read\n'), ((2, 'nothing'), 3, 'fault 3 read\n'), ((3, 'nothing'), 3, 'fault 3 read\n'), ((4, 'nothing'), 3, 'fault 3 read\n'),
-        ((-1, 'nothing'), 3, 'fault 3 read\n'), ((3, '.'), 3, 'fault 3 read\n'), ((1, 'other'), 5, 'fault 5 script 1 Choice\n'), ((1, 'later'), 5, 'fault 5 script 1 Choice\n'),
-        ((2, 'text'), 4, 'fault 4 wave NotRiff\n'), ((1, 'faster'), 7, 'fault 7 differs Rate 9000 8000\n'), ((4, '-x'), 2, 'fault 2 words\n'), ((4, 'c'), 2, 'fault 2 words\n'),
-        ((3, ''), 2, 'fault 2 words\n'), ((0, 'Check'), 2, 'fault 2 words\n'),
-    )
-    for (place, word), code, line in cases:
+    words, script = ['check', 's', 'c', 'o', *session.words(session.outputs)], session.held['s']
+    files = {
+        'text': b'no WAVE file', 'faulty': script.replace(b'jackd 2', b'jackd 9', 1), 'later': script.replace(b'jackd 2', b'jackd 3', 1),
+        'faster': script.replace(b'rate 8000', b'rate 9000', 1), 'wider': script.replace(b'capture 2', b'capture 3', 1),
+    }
+    for name, held in files.items():
+        session.write(name, held)
+    cases = [([*words, 'more'], 2, 'fault 2 words'), ([*words, '--record'], 2, 'fault 2 words'), (words[:4], 2, 'fault 2 words'), (words[:-2], 7, 'fault 7 differs Records 2 1')]
+    for changed, code, line in NO_CASES:
         other = list(words)
-        other[place] = word
+        for place, word in changed.items():
+            other[place] = word
+        cases.append((other, code, line))
+    for other, code, line in cases:
         got = run(other, session.folder)
-        if got[:2] != (code, line.encode()) or not got[2]:
-            faults.append(f'{" ".join(other)}: {got}, and not {code} {line!r}')
-    for other, code, line in ((words[:-2], 7, 'fault 7 differs Records 2 1\n'), (words[:4], 2, 'fault 2 words\n'), ([*words, 'more'], 2, 'fault 2 words\n'), ([*words, '--record'], 2, 'fault 2 words\n')):
-        got = run(other, session.folder)
-        if got[:2] != (code, line.encode()) or not got[2]:
-            faults.append(f'{" ".join(other)}: {got}, and not {code} {line!r}')
+        if got[:2] != (code, f'{line}\n'.encode()) or not got[2]:
+            faults.append(f'{" ".join(other)}: {got}, and not {code} {line}')
     if os.path.exists('/dev/full'):
         with open('/dev/full', 'wb') as full:
             got = run(words, session.folder, stdout=full)
         if got[0] != 6 or not got[2]:
             faults.append(f'a full standard output: {got}')
-    for name in ('other', 'later', 'faster', 'text'):
+    for name in files:
         os.remove(f'{session.folder}/{name}')
 
 

@@ -12,6 +12,8 @@ mod overruns;
 #[cfg(test)]
 mod scripts;
 #[cfg(test)]
+mod sources;
+#[cfg(test)]
 mod told;
 #[cfg(test)]
 mod verdicts;
