@@ -6,23 +6,28 @@
 #       clients and all commands, of several segments and periods, and one whose cycles have so much work that workers share
 #       them; with 1, 2, 4 and 16 workers
 #   $RUNS runs (12) of one script with forty calls on four lanes
+#   $RECORDINGS runs (3) each of 3,000 cycles with one and with four recorders, which lose no block: a driver gives way while a
+#       ring is full, so that the recorders' side can empty it
 #
 # A report or a file that is altered has to be found. A run that does not end in 100 seconds is a fault. That explained.py
-# computes what is right is shown in serial mode: check-rows.sh and check-examples.sh hold it against values from paper.
+# computes what is right is shown in serial mode: check-rows.sh and check-examples.sh hold it against values from paper. Where the
+# program has `check`, it says of each of these plays that the report explains the files.
 set -u
 # shellcheck source=scripts/program.sh
 . "$(dirname "$0")/program.sh" python3
 
-python3 - "$jackd" <<'PY'
+checks=no
+"$jackd" --help | grep -q 'jackd check ' && checks=checks
+python3 - "$jackd" "$checks" <<'PY'
 import os, random, subprocess, sys, tempfile
 
 sys.dont_write_bytecode = True
 sys.path.insert(0, 'scripts')
 import explained
 
-jackd = sys.argv[1]
-sessions, first, runs = (int(os.environ.get(name, value)) for name, value in (('SESSIONS', 24), ('SEED', 0), ('RUNS', 12)))
-faults, beside, reports = [], 0, set()
+jackd, checks = sys.argv[1], sys.argv[2] == 'checks'
+sessions, first, runs, recordings = (int(os.environ.get(name, value)) for name, value in (('SESSIONS', 24), ('SEED', 0), ('RUNS', 12), ('RECORDINGS', 3)))
+faults, beside, checked, reports = [], 0, 0, set()
 
 
 def head(version, period, channels, bits, workers, *rest):
@@ -89,31 +94,52 @@ def commands(chance, workers):
     return lines
 
 
-def played(lines, capture, what):
-    """Plays a script; its report and files, or none where that is a fault. Each has to be explained."""
-    script = ''.join(f'{line}\n' for line in lines)
-    recorders = [line for line in lines if line.startswith('recorder ')]
-    records = [f'r{k}' for k in range(len(recorders))]
+def answer(folder, words, what):
+    """Standard output of the program, or none where its exit code is another than 0."""
+    try:
+        ran = subprocess.run([jackd, *words], cwd=folder, capture_output=True, timeout=100)
+    except subprocess.TimeoutExpired:
+        faults.append(f'{what}: {words[0]}: no end in 100 seconds')
+        return None
+    if ran.returncode:
+        faults.append(f'{what}: {words[0]}: exit code {ran.returncode}: {ran.stdout.decode()[-200:]}')
+        return None
+    return ran.stdout
+
+
+def made(lines, capture, what):
+    """Plays a script and checks the play: its report and files, or none where that is a fault."""
+    global checked
+    records = [f'r{k}' for k in range(sum(line.startswith('recorder ') for line in lines))]
+    outputs = ['p', *(word for name in records for word in ('--record', name))]
     with tempfile.TemporaryDirectory() as folder:
-        for name, held in (('s', script.encode()), ('c', capture)):
+        for name, held in (('s', ''.join(f'{line}\n' for line in lines).encode()), ('c', capture)):
             with open(f'{folder}/{name}', 'wb') as it:
                 it.write(held)
-        words = [word for name in records for word in ('--record', name)]
-        try:
-            ran = subprocess.run([jackd, 'play', 's', 'c', 'p', *words], cwd=folder, capture_output=True, timeout=100)
-        except subprocess.TimeoutExpired:
-            faults.append(f'{what}: no end in 100 seconds')
-            return None
-        if ran.returncode:
-            faults.append(f'{what}: exit code {ran.returncode}: {ran.stdout.decode()[-200:]}')
+        report = answer(folder, ['play', 's', 'c', *outputs], what)
+        if report is None:
             return None
         files = []
         for name in ['p', *records]:
             with open(f'{folder}/{name}', 'rb') as it:
                 files.append(it.read())
-    report = ran.stdout.decode()
-    faults.extend(f'{what}: {fault}' for fault in explained.faults_of(script, capture, report, files)[:5])
-    return script, report, files
+        if checks:
+            with open(f'{folder}/o', 'wb') as it:
+                it.write(report)
+            verdict = answer(folder, ['check', 's', 'c', 'o', *outputs], what)
+            checked += verdict == b'check ok\n'
+            if verdict not in (None, b'check ok\n'):
+                faults.append(f'{what}: check: {verdict}')
+    return report.decode(), files
+
+
+def played(lines, capture, what):
+    """Plays a script; it, its report and files, or none where that is a fault. Each has to be explained."""
+    script, play = ''.join(f'{line}\n' for line in lines), made(lines, capture, what)
+    if play is None:
+        return None
+    faults.extend(f'{what}: {fault}' for fault in explained.faults_of(script, capture, *play)[:5])
+    return script, *play
 
 
 def wave(chance, channels, frames):
@@ -138,6 +164,26 @@ one += [f'lane {lane} at {asked} {command(chance)}' for lane in range(1, 5) for 
 for k in range(runs):
     run = played(one, capture, f'run {k}')
     reports.add(run and run[1])
+
+
+def recorded(count, what):
+    """Recorders that hear the capture in each of 3,000 cycles keep each of its blocks."""
+    lines = head(1, 64, 2, 16, 2, 'ring 16', *['recorder 2 16'] * count)
+    for tape in range(count):
+        lines += [f'do open t{tape} record {tape}', f'do activate t{tape}']
+        for channel in (1, 2):
+            lines += [f'do register t{tape}:{channel} in audio', f'do connect system:capture_{channel} t{tape}:{channel}']
+    heard = explained.wave_of(8000, 2, 16, [chance.randrange(-2**15, 2**15) * 65536 for _ in range(2 * 64 * 30)] * 100)
+    play = made([*lines, 'run 3000'], heard, what)
+    if play and 'overrun' in play[0]:
+        faults.append(f'{what}: blocks and overruns: ' + ', '.join(line for line in play[0].splitlines() if line.startswith('recorder')))
+    elif play and any(file != heard for file in play[1][1:]):
+        faults.append(f'{what}: a record is not what was captured')
+
+
+for k in range(recordings):
+    recorded(1, f'recording {k}')
+    recorded(4, f'recording {k} by four recorders')
 
 # What is altered is found: a line that is missing, that stands twice, or that has another number; and one byte of each file. The
 # number of a cycle is raised by more than there are calls, since one that is raised by one may be another report that can be.
@@ -164,6 +210,7 @@ if run:
 for fault in faults[:40]:
     print('check-threads:', fault)
 if not faults:
-    print(f'check-threads: passed, {sessions} sessions, {beside} of them with calls between their cycles; {runs} runs of one script with {len(reports)} reports; {len(altered)} alterations found')
+    print(f'check-threads: passed, {sessions} sessions, {beside} of them with calls between their cycles; {runs} runs of one script with {len(reports)} reports; '
+          f'{2 * recordings} recordings without an overrun; {len(altered)} alterations found; {checked} plays checked by the program')
 sys.exit(bool(faults))
 PY

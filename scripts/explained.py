@@ -340,11 +340,11 @@ class Transport:
 
 
 class Tape:
-    """A recorder's blocks and overruns; `lost` has the cycles of these, and is None where serial mode says them."""
+    """A recorder's blocks, the cycles in which it kept them, and overruns; `lost` has the cycles of these, and is None where serial mode says them."""
 
     def __init__(self, script, recorder, lost):
         self.script, self.recorder, self.lost = script, recorder, lost
-        self.width, self.samples, self.overruns, self.faults = script.recorders[recorder][0], [], [], []
+        self.width, self.samples, self.cycles, self.overruns, self.faults = script.recorders[recorder][0], [], [], [], []
         # How many blocks went into the ring, how many had before this segment, and how many left it in serial mode.
         self.kept, self.begun, self.left = 0, 0, 0
 
@@ -365,12 +365,14 @@ class Tape:
         elif inputs is not None:
             silence = [0] * segment.period
             self.samples += [x for frame in zip(*(inputs + [silence] * self.width)[:self.width]) for x in frame]
+            self.cycles.append(k)
             self.kept += 1
         self.left = self.kept if segment.freewheel else min(self.kept, self.left + self.script.drain)
 
     def lose(self, k):
         """A full ring: so many were taken, no fewer than before, and with threads than were sent before this segment."""
-        taken, least = self.kept - self.script.ring, max([self.begun, *(taken for _, _, taken in self.overruns)])
+        begun = self.begun if self.script.threads else 0
+        taken, least = self.kept - self.script.ring, max([begun, *(taken for _, _, taken in self.overruns)])
         if self.lost is not None and taken < least:
             self.faults.append(f'recorder {self.recorder} has an overrun in cycle {k}, and at most {self.kept - least} blocks were in its ring')
         self.overruns.append((k, self.kept, taken))
