@@ -91,7 +91,7 @@ Architecture: amd64
 Maintainer: The Sagbufe developers <sagbufe@localhost>
 Section: sound
 Priority: optional
-Depends: libc6
+Depends: libc6 (>= 2.34)
 Description: audio server whose output is proved
  Plays sessions in the manner of the JACK Audio Connection Kit over WAVE
  files, and prints the one history of changes that explains what it wrote.
