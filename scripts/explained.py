@@ -521,6 +521,8 @@ def samples_of(wave):
     """The channels of a lawful WAVE file, as samples of 32 bits."""
     at, data = 12, None
     while data is None:
+        if at >= len(wave):
+            raise ValueError('the capture is no WAVE file')
         name, size = wave[at:at + 4], int.from_bytes(wave[at + 4:at + 8], 'little')
         if name == b'fmt ':
             channels, bits = (int.from_bytes(wave[at + k:at + k + 2], 'little') for k in (10, 22))

@@ -292,7 +292,7 @@ def main(words):
     try:
         checker = Checker(script.decode('ascii', 'replace'), capture)
     except (ValueError, IndexError) as fault:
-        sys.exit(f'verdicts: the script is not lawful in version 1 or 2: {fault}')
+        sys.exit(f'verdicts: script and capture are no session of version 1 or 2: {fault}')
     line, code = line_of(checker.verdict(report, files))
     sys.stdout.write(line)
     return code
