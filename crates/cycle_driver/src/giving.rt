@@ -7,12 +7,15 @@ use client_kinds::Guest;
 use jack_host::{Source, Store};
 use std::{hint, thread};
 
-/// How often the driver lets another thread run at most until each ring has room: with its looks in between for some 50 ms.
-pub(crate) const PATIENCE: u32 = 200;
+// How often the driver lets another thread run at most until each ring has room. With its looks in between that takes some 25 to
+// 200 ms on an idle machine, by how long its processor pauses.
+const PATIENCE: u32 = 200;
 // For how many of these it looks once behind each, so that a recorder on the same processor goes on at once.
 const EAGER: u32 = 100;
 // How often it looks behind each later one.
-const LOOKS: u32 = 8_000;
+const LOOKS: u32 = 32_000;
+// For how many cycles it goes on without giving way where that was in vain.
+const REST: u32 = 1_000;
 
 /// Whether the ring of a recorder has no free place. There are so many recorders.
 fn has_full_ring<S: Source, W: Store, G: Guest>(driver: &mut Driver<S, W, G>, recorders: u8) -> bool
@@ -51,26 +54,29 @@ fn looks_in(turn: u32) -> u32 {
     if turn < EAGER { 1 } else { LOOKS }
 }
 
-/// Gives way until the ring of each recorder has room, but not for longer than the patience that is left. Answers what is left
-/// of it for the next time: all, where they have room.
+/// Gives way until the ring of each recorder has room, but only so often, and not while the driver rests from giving way. Answers
+/// for how many cycles it rests from now on: for none, where the rings have room.
 pub(crate) fn give_way<S: Source, W: Store, G: Guest>(
     driver: &mut Driver<S, W, G>,
     recorders: u8,
-    patience: u32,
+    rest: u32,
 ) -> u32
     requires all { length driver.old.rings.rings ≡ recorders }
     ensures { driver.new ≡ driver.old }
 {
     let is_full = has_full_ring(driver, recorders);
     if !is_full {
-        return PATIENCE;
+        return 0;
     }
-    for turn in 0..patience {
+    if rest > 0 {
+        return rest - 1;
+    }
+    for turn in 0..PATIENCE {
         thread::yield_now();
         let has_room = has_room_soon(driver, recorders, looks_in(turn));
         if has_room {
-            return PATIENCE;
+            return 0;
         }
     }
-    0
+    REST
 }

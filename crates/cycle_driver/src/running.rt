@@ -9,7 +9,7 @@ ghost use Rattle.cycle_driver.specs.Gears.{driver_of};
 ghost use Rattle.driver_laws.specs.Cycling.{CyclesMany, FailsAtRead};
 ghost use Rattle.cycle_driver.specs.Runs.{AreNext, BreaksAtWrite, IsGoing, RunsInto, StaysInRun};
 
-use crate::giving::{PATIENCE, give_way};
+use crate::giving::give_way;
 use crate::{CycleFault, Driver};
 use client_kinds::Guest;
 use jack_host::{Gate, Source, Store};
@@ -39,9 +39,9 @@ pub fn run_cycles<S: Source, W: Store, G: Guest + Send, T: Threads + Sync, K: Ga
     ensures stays { StaysInRun (driver_of driver.old) (driver_of driver.new) }
     ensures capture { SameReading driver.old.capture.reading driver.new.capture.reading }
 {
-    let mut patience = PATIENCE;
+    let mut rest = 0;
     for cycle in 0..cycles {
-        patience = give_way(driver, recorders, patience);
+        rest = give_way(driver, recorders, rest);
         let number = u32::try_from(driver.numbers().len()).unwrap_or(u32::MAX);
         gate.before_cycle(number.saturating_add(1));
         match driver.cycle(threads, gate, freewheel) {
