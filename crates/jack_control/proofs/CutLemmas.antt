@@ -23,7 +23,7 @@ use Rattle.run_laws.specs.Sessions.{IsGiven}
 use Rattle.play_words.specs.Words.{Play}
 use Rattle.session_run.specs.Seen.{Parts, session_of}
 use Rattle.jack_control.specs.Files.{AreOut, IsHeld, Stand}
-use Rattle.jack_control.specs.Inputs.{Files}
+use Rattle.play_inputs.specs.Inputs.{Files}
 use Rattle.jack_control.specs.Openings.{IsSessionOf}
 use Rattle.jack_control.specs.Performances.{Explain, HaveCut, HaveCutSoFar, HaveFronts, MadeSome, front_at, front_so_far}
 use Rattle.jack_control.specs.Plays.{AreMadeInOrder, Cuts, IsExplained, IsMadeOrKept, IsPlayCut, Plays, TouchesOnly, made_by}

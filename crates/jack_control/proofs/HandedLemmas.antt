@@ -12,7 +12,7 @@ use Rattle.jack_host.specs.Files.{IsNamedThere, Replaces, Stands}
 use Rattle.recorder_files.specs.Recorders.{Stored}
 use Rattle.session_model.specs.Soundness.{Apart}
 use Rattle.jack_control.specs.Files.{AreOut, AreRaised, HasBytes, IsOut, Stand}
-use Rattle.jack_control.specs.Inputs.{Files}
+use Rattle.play_inputs.specs.Inputs.{Files}
 use Rattle.jack_control.proofs.FileLemmas.{has-kept, out-kept, out-named, stands-told, touches-first, touches_none}
 
 pub err_of : {T E P : Type 0} (r : Result T E) → is_err r ≡ true → OnErr r P → P

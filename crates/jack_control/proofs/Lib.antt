@@ -1,7 +1,3 @@
-pub mod InputLemmas
-pub mod DifferenceLemmas
-pub mod ScriptLemmas
-pub mod CaptureLemmas
 pub mod NameLemmas
 pub mod FileLemmas
 pub mod MadeLemmas

@@ -26,7 +26,7 @@ use Rattle.session_run.specs.Seen.{Parts, stores_in}
 use Rattle.session_run.specs.Standings.{IsAttaching, IsBegun, format_at, format_next}
 use Rattle.wave_write.specs.Tapes.{IsCut, Tape}
 use Rattle.jack_control.specs.Files.{AreFronts, AreOut, IsOut, KeepsRest, MakesOne, OneFailed}
-use Rattle.jack_control.specs.Inputs.{Files}
+use Rattle.play_inputs.specs.Inputs.{Files}
 use Rattle.jack_control.specs.Plays.{TouchesOnly}
 use Rattle.jack_control.proofs.FileLemmas.{out-kept, out_same, touches-more, touches-wider, touches_none, touches_same}
 use Rattle.jack_control.proofs.NameLemmas.{Contains-front, last_or}

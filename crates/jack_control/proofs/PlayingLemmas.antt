@@ -32,10 +32,10 @@ use Rattle.session_run.specs.Seen.{AreLater, IsLater, OneRose, Parts, bytes_of, 
 use Rattle.session_run.specs.Faults.{SessionFault}
 use Rattle.session_run.specs.Faults.{Read, Write}
 use Rattle.session_run.specs.Standings.{IsAttaching}
-use Rattle.jack_control.specs.declared.status.Status.{Status}
-use Rattle.jack_control.specs.declared.status.Status.TheVariants.{ReadFault, WriteFault}
+use Rattle.play_inputs.specs.declared.status.Status.{Status}
+use Rattle.play_inputs.specs.declared.status.Status.TheVariants.{ReadFault, WriteFault}
 use Rattle.jack_control.specs.Files.{AreFronts, AreOut, IsOut, OneFailed}
-use Rattle.jack_control.specs.Inputs.{Files}
+use Rattle.play_inputs.specs.Inputs.{Files}
 use Rattle.jack_control.specs.Performances.{Explain, HaveCut, MadeSome, status_of_session}
 use Rattle.jack_control.specs.Plays.{TouchesOnly}
 use Rattle.jack_control.proofs.ExplainedLemmas.{AreHeld, IsExplainedEach, begun-so_far, ended-so_far, explain, fronts-begun, fronts-ended, fronts-so_far, fronts-told, printed-serial}

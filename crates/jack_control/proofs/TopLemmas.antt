@@ -7,11 +7,11 @@ use Rattle.session_model.specs.Explanations.{Given}
 use Rattle.play_words.specs.Words.{Play}
 use Rattle.run_laws.specs.Sessions.{IsGiven as TellsGiven}
 use Rattle.session_run.specs.Seen.{Parts, session_of}
-use Rattle.jack_control.specs.Inputs.{Files, IfBytes, IsInput}
-use Rattle.jack_control.specs.Answers.{IfInput}
+use Rattle.play_inputs.specs.Inputs.{Files, IfBytes, IsInput}
+use Rattle.play_inputs.specs.Answers.{IfInput}
 use Rattle.jack_control.specs.Openings.{IsSessionOf}
 use Rattle.jack_control.specs.Plays.{TouchesOnly}
-use Rattle.jack_control.proofs.InputLemmas.{if_bytes_map}
+use Rattle.play_inputs.proofs.InputLemmas.{if_bytes_map}
 
 -- what is touched behind reading is touched in all
 pub touches-after : (a b c : Option Files) (names : List (List ℕ)) → SameFiles a b → TouchesOnly b c names → TouchesOnly a c names

@@ -12,7 +12,7 @@ use Rattle.recorder_files.specs.Recorders.{Stored}
 use Rattle.session_run.specs.Seen.{Parts, stores_in}
 use Rattle.session_run.specs.Standings.{format_at}
 use Rattle.wave_write.specs.Tapes.{IsCut}
-use Rattle.jack_control.specs.Inputs.{Files}
+use Rattle.play_inputs.specs.Inputs.{Files}
 use Rattle.jack_control.specs.Plays.{TouchesOnly}
 
 -- the store tells its name, which is there, and its bytes

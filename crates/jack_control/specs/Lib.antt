@@ -1,10 +1,4 @@
-pub mod Statuses
-pub mod FaultLines
-pub mod Inputs
 pub mod Plays
-pub mod Answers
-pub mod Scripts
-pub mod Captures
 pub mod Openings
 pub mod Files
 pub mod Performances

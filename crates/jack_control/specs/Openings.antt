@@ -1,17 +1,13 @@
 -- A session as a play opens it. No public clause cites this module.
 --     IsSessionOf files scores play parts      its script, its capture and its guests are what the files and the guests give
---     OpeningStatus files scores play status      what a status says that ended the opening of a session
-use Rattle.std.specs.Prelude.{◌≡◌, List, [], length, ⊤, Option}
+use Rattle.std.specs.Prelude.{◌≡◌, List, [], length, Option}
 use Rattle.jack_types.specs.declared.kinds.Score.{Score}
 use Rattle.session_model.specs.Explanations.{Given}
 use Rattle.play_words.specs.Words.{Play}
 use Rattle.run_laws.specs.Sessions.{IsGiven as TellsGiven}
 use Rattle.session_run.specs.Seen.{Parts, session_of, stores_in}
 use Rattle.session_run.specs.Standings.{IsAttaching}
-use Rattle.jack_control.specs.declared.status.Status.{Status}
-use Rattle.jack_control.specs.declared.status.Status.TheVariants.{Ok, NoMemory, Words, ReadFault, BadWave, BadScript, WriteFault, Differs, Wrong}
-use Rattle.jack_control.specs.Answers.{PlayStatus}
-use Rattle.jack_control.specs.Inputs.{Files, IfBytes, IsInput}
+use Rattle.play_inputs.specs.Inputs.{Files, IfBytes, IsInput}
 
 -- no store is attached, and there are as many recorders as files that are named for them
 pub record IsSessionOf (files : Option Files) (scores : List Score) (play : Play) (parts : Parts) : Type 0 where
@@ -20,14 +16,3 @@ pub record IsSessionOf (files : Option Files) (scores : List Score) (play : Play
   pub no_stores : stores_in parts ≡ []
   pub recorders : length parts.recorders ≡ length play.records
   pub given : IfBytes files play.script (λ script_bytes. IfBytes files play.capture (λ capture_bytes. (given : Given) × IsInput script_bytes capture_bytes scores play given × TellsGiven (session_of parts) given))
-
-abbrev pub OpeningStatus : Option Files → List Score → Play → Status → Type 0
-OpeningStatus files scores play Ok = ⊥
-OpeningStatus files scores play NoMemory = ⊤
-OpeningStatus files scores play Words = ⊥
-OpeningStatus files scores play ReadFault = ⊤
-OpeningStatus files scores play (BadWave fault) = PlayStatus files scores play (BadWave fault)
-OpeningStatus files scores play (BadScript fault) = PlayStatus files scores play (BadScript fault)
-OpeningStatus files scores play WriteFault = ⊥
-OpeningStatus files scores play (Differs difference) = PlayStatus files scores play (Differs difference)
-OpeningStatus files scores play (Wrong row) = ⊥

@@ -18,11 +18,11 @@ use Rattle.serial_laws.specs.Faults.{playback_front, record_front}
 use Rattle.recorder_files.specs.Recorders.{Stored}
 use Rattle.session_run.specs.Faults.{SessionFault}
 use Rattle.session_run.specs.Faults.{Read, Write}
-use Rattle.jack_control.specs.declared.status.Status.{Status}
-use Rattle.jack_control.specs.declared.status.Status.TheVariants.{ReadFault, WriteFault}
-use Rattle.jack_control.specs.Answers.{IfScript}
+use Rattle.play_inputs.specs.declared.status.Status.{Status}
+use Rattle.play_inputs.specs.declared.status.Status.TheVariants.{ReadFault, WriteFault}
+use Rattle.play_inputs.specs.Answers.{IfScript}
 use Rattle.jack_control.specs.Files.{AreOut}
-use Rattle.jack_control.specs.Inputs.{Files}
+use Rattle.play_inputs.specs.Inputs.{Files}
 use Rattle.jack_control.specs.Plays.{CameTo, PlaybackSoFar, RecordSoFar, TouchesOnly}
 
 abbrev pub status_of_session : SessionFault → Status

@@ -19,7 +19,7 @@ use Rattle.driver_laws.specs.Keeping.{kept_blocks, played_so_far}
 use Rattle.serial_laws.specs.Faults.{playback_front, record_front}
 use Rattle.session_run.specs.Seen.{HasCome}
 use Rattle.play_words.specs.Words.{Play}
-use Rattle.jack_control.specs.Inputs.{Files, IsInput}
+use Rattle.play_inputs.specs.Inputs.{Files, IsInput}
 
 -- the files that a play makes: the playback and then the recorders'
 abbrev pub made_by : Play → List (List ℕ)

@@ -3,15 +3,13 @@
 ghost use Rattle.std.specs.Prelude.{◌≡◌, ◌+◌, ◌<◌, ◌≤◌, ◌⊎◌, IfErr, IfOk, IsErrOf, OnErr, OnOk, map};
 ghost use Rattle.jack_host.specs.Causes.{Rose};
 ghost use Rattle.jack_host.specs.Files.{SameFiles};
-ghost use Rattle.jack_control.specs.Answers.{HasOwnFault, LacksInput};
-ghost use Rattle.jack_control.specs.Openings.{IsSessionOf, OpeningStatus};
+ghost use Rattle.play_inputs.specs.Answers.{HasOwnFault, LacksInput};
+ghost use Rattle.play_inputs.specs.Openings.{OpeningStatus};
+ghost use Rattle.jack_control.specs.Openings.{IsSessionOf};
 
-use crate::Status;
-use crate::captures::open_capture;
-use crate::comparing::difference_of;
-use crate::scripts::read_script;
 use client_kinds::Guest;
 use jack_host::Host;
+use play_inputs::{Inputs, Status, open_inputs};
 use play_words::Names;
 use session_run::Session;
 use std::alloc::Global;
@@ -39,12 +37,7 @@ pub(crate) fn open_session<H: Host, G: Guest>(
     ensures out { OnOk result (H.lent host.new ≡ H.lent host.old + 1) }
     ensures back { OnErr result (H.lent host.new ≡ H.lent host.old) }
 {
-    let script = read_script(alloc, host, names.script)?;
-    if let Some(difference) = difference_of(&script, guests.len(), names.records(), names.disks()) {
-        return Err(Status::Differs(difference));
-    }
-    let header = script.header();
-    let capture = open_capture(host, names.capture, &header)?;
+    let Inputs { script, capture } = open_inputs(alloc, host, names, guests.len())?;
     match Session::new(alloc, &script, capture, guests) {
         Ok(session) => Ok(session),
         Err((capture, _)) => {

@@ -11,13 +11,13 @@ ghost use Rattle.jack_control.specs.Plays.{IsExplained};
 ghost use Rattle.jack_control.specs.Rehearsals.{IsRehearsed};
 ghost use Rattle.jack_control.specs.Rehearsing.{HasFiles, IsDone, rehearsal_play};
 
-use crate::Status;
 use crate::files::hand_back;
 use crate::opening::open_session;
 use crate::playing::perform;
 use client_kinds::Guest;
 use jack_host::{Gate, Host, MemoryHost, Sink};
 use jack_types::{Entry, Memory};
+use play_inputs::Status;
 use play_words::laws::words_name_one_play;
 use play_words::{Names, play_names};
 use rehearsal_laws::captures::rehearsal_is_a_wave;

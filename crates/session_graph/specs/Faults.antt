@@ -5,8 +5,7 @@
 use Rattle.std.specs.Prelude.{◌≡◌, ℕ, ◌≤◌, ◌⊎◌, List, [], ◌∷◌, ◌++◌, length, take, codes, decimal, Option, Some, None}
 use Rattle.jack_types.specs.declared.scripts.Cause.{Cause}
 use Rattle.jack_types.specs.declared.scripts.Cause.TheVariants as cause
-use Rattle.jack_types.specs.declared.replies.Part.{Part}
-use Rattle.jack_types.specs.declared.replies.Part.TheVariants as part
+use Rattle.check_sights.specs.Parts.{part_name}
 use Rattle.jack_host.specs.Bytes.{Gains}
 use Rattle.jack_host.specs.Causes.{Rose}
 use Rattle.session_graph.specs.declared.faults.GraphFault.{GraphFault}
@@ -32,19 +31,6 @@ cause_name (cause.Lane before given) = codes "Lane"
 cause_name (cause.TooMany many limit) = codes "TooMany"
 cause_name cause.TooLong = codes "TooLong"
 cause_name cause.Memory = codes "Memory"
-
-abbrev pub part_name : Part → List ℕ
-part_name part.Report = codes "report"
-part_name part.Call = codes "call"
-part_name part.Cycle = codes "cycle"
-part_name part.Meter = codes "meter"
-part_name part.Midi = codes "midi"
-part_name part.Recorder = codes "recorder"
-part_name part.Overrun = codes "overrun"
-part_name part.Disk = codes "disk"
-part_name part.Underrun = codes "underrun"
-part_name part.Record = codes "record"
-part_name part.Playback = codes "playback"
 
 -- want of memory and a text that could not be written have none
 abbrev pub fault_line : GraphFault → Option (List ℕ)

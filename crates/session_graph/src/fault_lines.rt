@@ -1,13 +1,14 @@
 //! The line that tells why no graph is put out.
 
 ghost use Rattle.std.specs.Prelude.{◌≡◌, ◌+◌, ◌≤◌, ◌++◌, IfNone, IfSome, None, Some, decimal, length};
-ghost use Rattle.session_graph.specs.Faults.{PutsFault, cause_name, fault_line, part_name};
+ghost use Rattle.session_graph.specs.Faults.{PutsFault, cause_name, fault_line};
 
 use crate::faults::GraphFault;
 use arrayvec::ArrayString;
+use check_sights::name_of_part;
 use itoa::Buffer;
 use jack_host::Sink;
-use jack_types::{Cause, Part, Row, ScriptFault};
+use jack_types::{Cause, Row, ScriptFault};
 
 /// A line, with room for the longest.
 type Line = ArrayString<64>;
@@ -46,25 +47,6 @@ fn name_of_cause(cause: Cause) -> &'static str
         Cause::TooMany { .. } => "TooMany",
         Cause::TooLong => "TooLong",
         Cause::Memory => "Memory",
-    }
-}
-
-fn name_of_part(part: Part) -> &'static str
-    ensures name { result.now ≡ part_name part }
-    ensures short { length result.now ≤ 8 }
-{
-    match part {
-        Part::Report => "report",
-        Part::Call => "call",
-        Part::Cycle => "cycle",
-        Part::Meter => "meter",
-        Part::Midi => "midi",
-        Part::Recorder => "recorder",
-        Part::Overrun => "overrun",
-        Part::Disk => "disk",
-        Part::Underrun => "underrun",
-        Part::Record => "record",
-        Part::Playback => "playback",
     }
 }
 

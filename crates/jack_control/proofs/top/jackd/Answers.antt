@@ -1,10 +1,11 @@
 use Rattle.std.proofs.Common.{◌⊎◌, ap, Err, inl, inr, map, refl, subst, sym}
 use Rattle.jack_host.specs.Causes.{Rose}
 use Rattle.play_words.specs.Words.{Play}
-use Rattle.jack_control.specs.Answers.{HasInput, HasRefusal, IfInput, LacksInput, PlayStatus}
+use Rattle.play_inputs.specs.Answers.{HasInput, HasRefusal, IfInput, LacksInput, PlayStatus}
 use Rattle.jack_control.specs.Plays.{IsExplained, IsOutCut, IsPlayCut, TouchesOnly, made_by}
-use Rattle.jack_control.proofs.ExactLemmas.{complete-err, exact-err, exact-ok}
-use Rattle.jack_control.proofs.InputLemmas.{rose-later}
+use Rattle.play_inputs.proofs.ExactLemmas.{complete-err, exact-err}
+use Rattle.jack_control.proofs.ExactLemmas.{exact-ok}
+use Rattle.play_inputs.proofs.InputLemmas.{rose-later}
 use Rattle.jack_control.proofs.RehearsalLemmas.{finished-of}
 use Rattle.jack_control.proofs.top.jackd.Goals as goal
 

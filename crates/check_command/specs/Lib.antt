@@ -1,0 +1,5 @@
+pub mod Cases
+pub mod Lines
+pub mod Answers
+pub mod Files
+pub mod Verdicts

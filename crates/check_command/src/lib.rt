@@ -1,0 +1,9 @@
+//! The command `check`: whether a report explains its files, over a host and a sink.
+#![tactic(auto)]
+
+mod checking;
+mod files;
+mod top;
+mod verdicts;
+
+pub use top::check_named;

@@ -1,0 +1,6 @@
+pub mod InputLemmas
+pub mod DifferenceLemmas
+pub mod ScriptLemmas
+pub mod CaptureLemmas
+pub mod OpeningLemmas
+pub mod ExactLemmas

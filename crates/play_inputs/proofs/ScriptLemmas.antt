@@ -1,0 +1,33 @@
+-- The script that was read of a file, or the status that it has.
+use Rattle.std.proofs.Common.{◌≡◌, ◌⊎◌, ℕ, List, Ok, Err, inl, inr, subst, sym, take}
+use Rattle.std.specs.Prelude.{IfErr, IfOk, Option, Result}
+use Rattle.jack_types.specs.declared.scripts.ScriptFault.{ScriptFault}
+use Rattle.session_model.specs.Grammar.{Spells}
+use Rattle.session_model.specs.Scripts.{Script}
+use Rattle.play_inputs.specs.declared.status.Status.{Status}
+use Rattle.play_inputs.specs.declared.status.Status.TheVariants.{BadScript, NoMemory}
+use Rattle.play_inputs.specs.Inputs.{Files, IfBytes, IsBadScript, IsFaulty, IsScriptOf}
+use Rattle.play_inputs.specs.Scripts.{IsRead, ScriptStatus}
+use Rattle.play_inputs.proofs.InputLemmas.{if_bytes_map}
+
+-- what the first bytes of a file spell is the file's script
+pub script-of-whole : (whole bytes : List ℕ) (script : Script) → bytes ≡ take 1048577 whole → IsRead bytes script → IsScriptOf whole script
+script-of-whole whole bytes script e is = record {
+  spelled = subst (λ (read : List ℕ). Spells read script) e is.spelled;
+  played = is.played;
+}
+
+pub script-told : (r : Result Script Status) (files : Option Files) (name bytes : List ℕ) → IfBytes files name (λ whole. bytes ≡ take 1048577 whole)
+    → IfOk r (λ script. IsRead bytes script) → IfOk r (λ script. IfBytes files name (λ whole. IsScriptOf whole script))
+script-told (Ok script) files name bytes h is =
+    if_bytes_map files name (λ whole. bytes ≡ take 1048577 whole) (λ whole. IsScriptOf whole script) (λ whole e. script-of-whole whole bytes script e is) h
+script-told (Err status) files name bytes h is = tt
+
+pub fault-told : (r : Result Script Status) (files : Option Files) (name bytes : List ℕ) → IfBytes files name (λ whole. bytes ≡ take 1048577 whole)
+    → IfErr r (λ status. (status ≡ NoMemory) ⊎ ((fault : ScriptFault) × (status ≡ BadScript fault) × IsFaulty bytes fault))
+    → IfErr r (ScriptStatus files name)
+fault-told (Ok script) files name bytes h is = tt
+fault-told (Err status) files name bytes h (inl none) = subst (ScriptStatus files name) (sym none) tt
+fault-told (Err status) files name bytes h (inr told) =
+    subst (ScriptStatus files name) (sym told.1)
+    (if_bytes_map files name (λ whole. bytes ≡ take 1048577 whole) (λ whole. IsBadScript whole told.0) (λ whole e. subst (λ (read : List ℕ). IsFaulty read told.0) e told.2) h)
