@@ -4,9 +4,17 @@ ghost use Rattle.std.specs.Prelude.{◌≡◌, ◌≢◌, ◌<◌, ◌≤◌, �
 ghost use Rattle.jack_host.specs.Causes.{Rose};
 ghost use Rattle.jack_host.specs.Files.{SameFiles};
 ghost use Rattle.session_model.specs.Soundness.{Apart};
-ghost use Rattle.play_words.specs.Rehearsals.{IsCommand, IsRehearse};
+ghost use Rattle.jack_types.specs.declared.replies.Row.{Row as RowValue};
+ghost use Rattle.check_sights.specs.declared.sights.Sight.{Sight as SightValue};
+ghost use Rattle.session_model.specs.Checking.{IsFirstWrong};
+ghost use Rattle.play_words.specs.Checks.{Check, IsCheck};
+ghost use Rattle.play_words.specs.Commands.{IsCommand};
+ghost use Rattle.play_words.specs.Rehearsals.{IsRehearse};
 ghost use Rattle.play_words.specs.Words.{IsPlay, Play, names_of};
-ghost use Rattle.play_inputs.specs.Answers.{ForPlay, ForRehearsal, HasInput, HasLine, HasOwnFault, HasRefusal, IfInput, IsDoneOrNoMemory, IsEarly, IsLate, LacksInput, PlayStatus};
+ghost use Rattle.check_command.specs.Answers.{CheckStatus, IsDecided, IsVerdictCut, IsWrongAt, PutsVerdict};
+ghost use Rattle.check_command.specs.Cases.{HasCase, IfCase, LacksCase, OfCase};
+ghost use Rattle.check_command.specs.Lines.{IsExplained as HasExplanation};
+ghost use Rattle.play_inputs.specs.Answers.{ForCheck, ForPlay, ForRehearsal, HasInput, HasLine, HasOwnFault, HasRefusal, IfInput, IsDoneOrNoMemory, IsEarly, IsLate, LacksInput, PlayStatus};
 ghost use Rattle.play_inputs.specs.FaultLines.{PutsFault};
 ghost use Rattle.jack_control.specs.Plays.{IsExplained, IsOutCut, IsPlayCut, TouchesOnly, made_by};
 ghost use Rattle.jack_control.specs.Rehearsals.{IsRehearsed};
@@ -69,6 +77,10 @@ fn play<T: Threads + Sync, R: Wait + Sync, H: Host, K: Sink, G: Guest + Send, A:
 /// returns.
 ///
 /// `rehearse N` makes a session of 10,000 cycles from a number below 2^32, plays it in memory, and puts out six lines on it.
+///
+/// `check SCRIPT CAPTURE REPORT PLAYBACK`, with the same pairs as a play, decides whether the report explains the playback and the
+/// records, and puts out one line: `check ok`, or the first wrong part. It makes no file, and waits for nothing.
+///
 /// Any other words are refused.
 pub fn jackd<T: Threads + Sync, R: Wait + Sync, H: Host, K: Sink, G: Guest + Send, A: Gate>(
     threads: &T,
@@ -94,6 +106,47 @@ pub fn jackd<T: Threads + Sync, R: Wait + Sync, H: Host, K: Sink, G: Guest + Sen
     ensures untouched { ForRehearsal (map string_bytes words.now) (λ n. host.new ≡ host.old) }
     ensures finished { ForRehearsal (map string_bytes words.now) (λ n.
         ¬ Rose (K.faults out.old) (K.faults out.new) → IsDoneOrNoMemory result) }
+
+    // A check is Ok exactly where the report explains the files, and names the first wrong part exactly where there is one, if no
+    // read and no put fails and memory is found.
+    ensures checked { result ≡ Status.Ok → ForCheck (map string_bytes words.now) (λ check.
+        IfCase (H.files host.old) (map G.score guests.items) check HasExplanation) }
+    ensures wrong { (row : RowValue) (sight : SightValue) → result ≡ Status.Wrong row sight →
+        (check : Check) × IsCheck (map string_bytes words.now) check
+        × IfCase (H.files host.old) (map G.score guests.items) check (λ given written. IsFirstWrong given written row) }
+    ensures decides { ForCheck (map string_bytes words.now) (λ check.
+        OfCase (H.files host.old) (map G.score guests.items) check (λ given written. HasExplanation given written →
+        ¬ Rose (H.read_faults host.old) (H.read_faults host.new) →
+        ¬ Rose (K.faults out.old) (K.faults out.new) → IsDoneOrNoMemory result)) }
+    ensures names { ForCheck (map string_bytes words.now) (λ check.
+        OfCase (H.files host.old) (map G.score guests.items) check (λ given written.
+        (row : RowValue) → IsFirstWrong given written row →
+        ¬ Rose (H.read_faults host.old) (H.read_faults host.new) →
+        ¬ Rose (K.faults out.old) (K.faults out.new) → IsWrongAt row result ⊎ (result ≡ Status.NoMemory))) }
+    ensures decided { ForCheck (map string_bytes words.now) (λ check.
+        HasCase (H.files host.old) (map G.score guests.items) check →
+        ¬ Rose (H.read_faults host.old) (H.read_faults host.new) →
+        ¬ Rose (K.faults out.old) (K.faults out.new) → IsDecided result) }
+
+    // The line is that of the verdict, or a front of it where the sink failed; no file is touched.
+    ensures verdict { ForCheck (map string_bytes words.now) (λ check.
+        PutsVerdict (K.content out.old) (K.content out.new) result) }
+    ensures unwritten { ForCheck (map string_bytes words.now) (λ check. SameFiles (H.files host.old) (H.files host.new)
+        × (H.write_faults host.new ≡ H.write_faults host.old)) }
+
+    // A check refuses what a play refuses, and only that.
+    ensures check_fault { ForCheck (map string_bytes words.now) (λ check. result ≢ Status.Ok → CheckStatus
+        (H.files host.old) (map G.score guests.items) check result) }
+    ensures check_read { result ≡ Status.ReadFault → ForCheck (map string_bytes words.now) (λ check.
+        Rose (H.read_faults host.old) (H.read_faults host.new)
+        ⊎ LacksCase (H.files host.old) (map G.score guests.items) check) }
+    ensures check_write { result ≡ Status.WriteFault → ForCheck (map string_bytes words.now) (λ check.
+        Rose (K.faults out.old) (K.faults out.new) × IsVerdictCut
+        (H.files host.old) (map G.score guests.items) check (K.content out.old) (K.content out.new)) }
+    ensures check_exact { ForCheck (map string_bytes words.now) (λ check. (status : StatusValue) →
+        HasRefusal (H.files host.old) (map G.score guests.items) check.play status →
+        ¬ Rose (H.read_faults host.old) (H.read_faults host.new) →
+        (result ≡ status) ⊎ (result ≡ Status.NoMemory)) }
 
     ensures words { result ≡ Status.Words → ¬ IsCommand (map string_bytes words.now) }
     ensures uncalled { result ≡ Status.Words → host.new ≡ host.old }
@@ -161,7 +214,11 @@ pub fn jackd<T: Threads + Sync, R: Wait + Sync, H: Host, K: Sink, G: Guest + Sen
         ¬ Rose (K.faults out.old) (K.faults out.new) → IsDoneOrNoMemory result) }
 {
     words_name_one_play();
+    words_name_one_check();
     words_name_one_command();
+    if let Some(checked) = check_names(words) {
+        return check_named(threads, alloc, &checked, host, out, guests, gate);
+    }
     let Some(names) = play_names(words) else {
         return rehearse_named::<T, R, K, G, A>(threads, wait, alloc, words, out, gate);
     };

@@ -1,5 +1,5 @@
 -- What a status says of the files of a play.
---     ForPlay, ForRehearsal      of what the words name
+--     ForPlay, ForRehearsal, ForCheck      of what the words name
 --     IsEarly, IsLate status      it comes before any file is made; it may come behind
 --     IsDoneOrNoMemory status      all was done, or want of memory
 --     HasLine status      a line of the fault is put out
@@ -17,6 +17,7 @@ use Rattle.jack_types.specs.declared.scripts.ScriptFault.{ScriptFault}
 use Rattle.jack_host.specs.Files.{IsThere}
 use Rattle.session_model.specs.Explanations.{Given}
 use Rattle.session_model.specs.Scripts.{Script}
+use Rattle.play_words.specs.Checks.{Check, IsCheck}
 use Rattle.play_words.specs.Rehearsals.{IsRehearse}
 use Rattle.play_words.specs.Words.{IsPlay, Play}
 use Rattle.play_inputs.specs.declared.status.Difference.{Difference}
@@ -29,6 +30,9 @@ ForPlay words P = (play : Play) → IsPlay words play → P play
 
 abbrev pub ForRehearsal : List (List ℕ) → (ℕ → Type 0) → Type 0
 ForRehearsal words P = (number : ℕ) → IsRehearse words number → P number
+
+abbrev pub ForCheck : List (List ℕ) → (Check → Type 0) → Type 0
+ForCheck words P = (check : Check) → IsCheck words check → P check
 
 abbrev pub IsDoneOrNoMemory : Status → Type 0
 IsDoneOrNoMemory status = (status ≡ Ok) ⊎ (status ≡ NoMemory)
