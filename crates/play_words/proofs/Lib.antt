@@ -1,4 +1,5 @@
 pub mod LawfulLemmas
 pub mod PairLemmas
 pub mod PlayLemmas
+pub mod CheckLemmas
 pub mod RehearsalLemmas

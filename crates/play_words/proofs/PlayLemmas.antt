@@ -1,7 +1,7 @@
 -- The form of a play's words, and what is asked of its names.
 --     IsPlay-formed, IsFormed-play, AreLawful-play      a play has the form and lawful names, and is what has both
 --     formed_once, one_play      words have the form of one play at most, and are those of one at most
---     first_four      a list is its first four items and the rest
+--     first_four, first_five      a list is its first four items and the rest, and its first five and the rest
 use Rattle.std.proofs.Common.{◌≡◌, ℕ, ◌-◌, ◌≤◌, List, [], ◌∷◌, ◌++◌, codes, drop, get_or, length, map, take, take_all, refl, sym, ap, subst, ◌∙◌, arith}
 use Rattle.play_words.specs.Lawful.{AreLawful}
 use Rattle.play_words.specs.Pairs.{ArePairs, IsFormed}
@@ -52,3 +52,14 @@ first_four f (v ∷ w ∷ x ∷ []) a b c d many e g h i = absurd (omega (arith,
 first_four f (v ∷ w ∷ x ∷ y ∷ xs) a b c d many e g h i =
     let rest : xs ≡ take (length (v ∷ w ∷ x ∷ y ∷ xs) - 4) xs = sym (take_all (length (v ∷ w ∷ x ∷ y ∷ xs) - 4) xs (omega arith)) in
     rw (e, g, h, i) (ap (λ (ys : List _). f v ∷ f w ∷ f x ∷ f y ∷ map f ys) rest)
+
+pub first_five : {X : Type 0} (f : X → List ℕ) (xs : List X) (a b c d j : X) → 5 ≤ length xs → a ≡ get_or xs 0 a → b ≡ get_or xs 1 b → c ≡ get_or xs 2 c → d ≡ get_or xs 3 d → j ≡ get_or xs 4 j
+    → map f xs ≡ f a ∷ f b ∷ f c ∷ f d ∷ f j ∷ map f (take (length xs - 5) (drop 5 xs))
+first_five f [] a b c d j many e g h i k = absurd (omega (arith, many))
+first_five f (v ∷ xs) a b c d j many e g h i k =
+    let front : f a ≡ f v = ap f e in
+    let rest = first_four f xs b c d j (omega (arith, many)) g h i k in
+    let left : length xs - 4 ≡ length (v ∷ xs) - 5 = omega arith in
+    ap (λ (ys : List _). f v ∷ ys) rest
+    ∙ ap (λ (y : List ℕ). y ∷ f b ∷ f c ∷ f d ∷ f j ∷ map f (take (length xs - 4) (drop 4 xs))) (sym front)
+    ∙ ap (λ (n : ℕ). f a ∷ f b ∷ f c ∷ f d ∷ f j ∷ map f (take n (drop 4 xs))) left

@@ -3,7 +3,9 @@
 --     words_in_pairs option words      how many words in front are pairs of this option
 --     ArePairs words records disks      pairs of the recorders' names, and then of the disks'
 --     IsFormed words play      the words have the form of this play, whatever its names are
+--     IsCheckFormed words check      and of this check
 use Rattle.std.specs.Prelude.{◌≡◌, ℕ, ◌+◌, ◌≤◌, List, [], ◌∷◌, ◌++◌, bytes_eq, codes, if◌then◌else◌, length}
+use Rattle.play_words.specs.Checks.{Check}
 use Rattle.play_words.specs.Words.{Play, pairs_of}
 
 abbrev pub seconds : List (List ℕ) → List (List ℕ)
@@ -25,3 +27,8 @@ pub record IsFormed (words : List (List ℕ)) (play : Play) : Type 0 where
   pub pairs : List (List ℕ)
   pub words_are : words ≡ codes "play" ∷ play.script ∷ play.capture ∷ play.playback ∷ pairs
   pub are_pairs : ArePairs pairs play.records play.disks
+
+pub record IsCheckFormed (words : List (List ℕ)) (check : Check) : Type 0 where
+  pub pairs : List (List ℕ)
+  pub words_are : words ≡ codes "check" ∷ check.play.script ∷ check.play.capture ∷ check.report ∷ check.play.playback ∷ pairs
+  pub are_pairs : ArePairs pairs check.play.records check.play.disks
