@@ -5,7 +5,7 @@ _sagbufe_jackd()
     local word=${COMP_WORDS[COMP_CWORD]}
     COMPREPLY=()
     if ((COMP_CWORD == 1)); then
-        mapfile -t COMPREPLY < <(compgen -W 'play rehearse graph --help --version' -- "$word")
+        mapfile -t COMPREPLY < <(compgen -W 'play rehearse graph check --help --version' -- "$word")
         return
     fi
     if [[ ${COMP_WORDS[1]} == graph ]]; then
@@ -18,11 +18,17 @@ _sagbufe_jackd()
         fi
         return
     fi
-    [[ ${COMP_WORDS[1]} == play ]] || return
-    # Words 2 to 4 are SCRIPT, CAPTURE and PLAYBACK; then come at most four pairs of --record and PATH.
-    if ((COMP_CWORD >= 5 && COMP_CWORD % 2 == 1)); then
-        ((COMP_CWORD <= 11)) && mapfile -t COMPREPLY < <(compgen -W --record -- "$word")
-    elif ((COMP_CWORD <= 12)); then
+    # Words 2 to 4 are SCRIPT, CAPTURE and PLAYBACK, and of a check REPORT stands before PLAYBACK; then come at most four pairs
+    # of --record and PATH.
+    local first
+    case ${COMP_WORDS[1]} in
+        play) first=5 ;;
+        check) first=6 ;;
+        *) return ;;
+    esac
+    if ((COMP_CWORD >= first && (COMP_CWORD - first) % 2 == 0)); then
+        ((COMP_CWORD <= first + 6)) && mapfile -t COMPREPLY < <(compgen -W --record -- "$word")
+    elif ((COMP_CWORD <= first + 7)); then
         compopt -o filenames 2>/dev/null
         mapfile -t COMPREPLY < <(compgen -f -- "$word")
     fi

@@ -14,6 +14,12 @@ function __sagbufe_jackd_graph_at
     test (count $words) -ge 2; and test $words[2] = graph; and contains (math (count $words) - 2) $argv
 end
 
+# Whether a check is completed behind one of these numbers of its words.
+function __sagbufe_jackd_check_at
+    set -l words (commandline -opc)
+    test (count $words) -ge 2; and test $words[2] = check; and contains (math (count $words) - 2) $argv
+end
+
 # Whether no word stands behind the program's name.
 function __sagbufe_jackd_first
     test (count (commandline -opc)) -eq 1
@@ -23,11 +29,15 @@ complete -c $name -f
 complete -c $name -n __sagbufe_jackd_first -a play -d 'Plays a session, and prints its report'
 complete -c $name -n __sagbufe_jackd_first -a rehearse -d 'Plays a large session made from a number, and sums it up'
 complete -c $name -n __sagbufe_jackd_first -a graph -d 'Prints the graph that a cycle of a play used'
+complete -c $name -n __sagbufe_jackd_first -a check -d 'Checks whether a report explains the files of a play'
 complete -c $name -n __sagbufe_jackd_first -l help -d 'Print how the program is called'
 complete -c $name -n __sagbufe_jackd_first -l version -d 'Print the version'
 # SCRIPT, CAPTURE and PLAYBACK, and then at most four pairs of --record and PATH.
 complete -c $name -n '__sagbufe_jackd_play_at 0 1 2 4 6 8 10' -F
 complete -c $name -n '__sagbufe_jackd_play_at 3 5 7 9' -l record -d 'The file of the next recorder'
+# SCRIPT, CAPTURE, REPORT and PLAYBACK, and then at most four pairs of --record and PATH.
+complete -c $name -n '__sagbufe_jackd_check_at 0 1 2 3 5 7 9 11' -F
+complete -c $name -n '__sagbufe_jackd_check_at 4 6 8 10' -l record -d 'The file of the next recorder'
 # SCRIPT and REPORT, and behind CYCLE the option.
 complete -c $name -n '__sagbufe_jackd_graph_at 0 1' -F
 complete -c $name -n '__sagbufe_jackd_graph_at 3' -l dot -d 'Prints the graph for graphviz'

@@ -1,6 +1,7 @@
 //! The program: the real files, standard output and the exit code.
 #![tactic(auto)]
 
+mod checks;
 mod handed;
 mod telling;
 mod usage;
@@ -19,8 +20,9 @@ use std::{env, io};
 // The exit code where the help or the version can't be made or printed.
 const UNPRINTED: u8 = 6;
 
-// The most files of a play: the script, the capture, the playback, and a file of each of four recorders.
-const MOST_FILES: usize = 7;
+// The most files of a command: the script, the capture, the report of a check, the playback, and a file of each of four
+// recorders.
+const MOST_FILES: usize = 8;
 
 // The files of a graph: the script and the report.
 const GRAPH_FILES: usize = 2;
@@ -41,7 +43,8 @@ fn ask_help(words: &[String]) -> bool {
         [command, help] => {
             (command.as_str() == "play"
                 || command.as_str() == "rehearse"
-                || command.as_str() == "graph")
+                || command.as_str() == "graph"
+                || command.as_str() == "check")
                 && (help.as_str() == "--help" || help.as_str() == "-h")
         }
         _ => false,

@@ -1,9 +1,10 @@
 //! The reason of an exit code, on standard error.
 
+use crate::checks::{hint_of_wrong, reason_of_wrong};
 use jack_control::{Difference, Status, What};
 use jack_host::{FailureKind, FileHost, WriterSink};
 use jack_types::{ScriptFault, WaveFault};
-use play_words::{Names, play_names, rehearsal_number};
+use play_words::{CheckNames, Names, check_names, play_names, rehearsal_number};
 use refused_calls::Notes;
 use report_listener::ListeningSink;
 use session_graph::GraphFault;
@@ -14,8 +15,8 @@ use std::os::unix::fs::MetadataExt;
 use std::{fs, io};
 use told_reasons::{
     Reason, of_channels, of_disks, of_foreign_word, of_graph, of_guests, of_input, of_making,
-    of_open_output, of_rate, of_records, of_refusals, of_report, of_script, of_summary, of_wave,
-    of_words, of_writing, of_wrong, read_again, standing_in,
+    of_open_output, of_rate, of_records, of_refusals, of_report, of_script, of_summary, of_verdict,
+    of_wave, of_words, of_writing, of_wrong, read_again, standing_in,
 };
 
 /// The reason of exit code 1.
@@ -24,14 +25,14 @@ pub(crate) const NO_MEMORY: &str = "jackd: out of memory; no file was made\n";
 // What is told where no memory is left for the reason.
 const UNTOLD: &str = "jackd: no memory is left to tell the reason\n";
 
-// The most bytes of a report that are read again.
-const MOST_OF_REPORT: usize = 1_048_576;
+/// The most bytes of a report that are read again.
+pub(crate) const MOST_OF_REPORT: usize = 1_048_576;
 
-// The most bytes of a script that are read: one more than it may have.
-const MOST_OF_SCRIPT: usize = 1_048_577;
+/// The most bytes of a script that are read: one more than it may have.
+pub(crate) const MOST_OF_SCRIPT: usize = 1_048_577;
 
-// The bytes of the header of a file that is made.
-const HEADER: usize = 44;
+/// The bytes of the header of a file that is made.
+pub(crate) const HEADER: usize = 44;
 
 // The bytes that tell what a file is.
 const MARK: usize = 4;
@@ -39,7 +40,8 @@ const MARK: usize = 4;
 // The most bytes of a word that is no UTF-8 that are told.
 const MOST_OF_WORD: usize = 4096;
 
-type Told = Result<Option<Reason>, AllocError>;
+/// A reason, where there is one.
+pub(crate) type Told = Result<Option<Reason>, AllocError>;
 
 /// Tells on standard error why a call ended as it did, and which calls of a session were refused.
 pub(crate) fn tell<R: Files<File = File> + Env + AllocGlobal + Eprint, W>(
@@ -50,6 +52,7 @@ pub(crate) fn tell<R: Files<File = File> + Env + AllocGlobal + Eprint, W>(
     status: Status,
 ) {
     print_told(rt, &reason_of(rt, words, host, out, status));
+    print_told(rt, &hint_of(rt, words, status));
 }
 
 /// Tells on standard error why no graph was put out.
@@ -78,6 +81,16 @@ fn print(rt: &impl Eprint, reason: &Reason) -> io::Result<()> {
     }
 }
 
+// What may have led to a wrong part.
+fn hint_of<R: Files<File = File> + AllocGlobal>(rt: &R, words: &[String], status: Status) -> Told {
+    match (status, check_names(words)) {
+        (Status::Wrong(row, sight), Some(names)) => {
+            hint_of_wrong(rt, rt.alloc(), &names, row, sight)
+        }
+        _ => Ok(None),
+    }
+}
+
 fn reason_of<R: Files<File = File> + Env + AllocGlobal + Eprint, W>(
     rt: &R,
     words: &[String],
@@ -93,6 +106,9 @@ fn reason_of<R: Files<File = File> + Env + AllocGlobal + Eprint, W>(
     if rehearsal_number(words).is_some() {
         return reason_of_summary(alloc, out.inner());
     }
+    if let Some(names) = check_names(words) {
+        return reason_of_check(rt, &names, host, out.inner(), status);
+    }
     let Some(names) = play_names(words) else {
         return reason_of_words(rt, words);
     };
@@ -100,9 +116,40 @@ fn reason_of<R: Files<File = File> + Env + AllocGlobal + Eprint, W>(
         Status::Ok => reason_of_refusals(rt, alloc, &names, out.notes()),
         Status::ReadFault => reason_of_reading(alloc, host),
         Status::WriteFault => reason_of_output(rt, alloc, &names, host, out.inner()),
+        _ => reason_of_given(rt, alloc, &names, status),
+    }
+}
+
+fn reason_of_check<R: Files<File = File> + AllocGlobal, W>(
+    rt: &R,
+    names: &CheckNames<'_>,
+    host: &FileHost<'_, R>,
+    out: &WriterSink<W>,
+    status: Status,
+) -> Told {
+    let alloc = rt.alloc();
+    match status {
+        Status::Wrong(row, sight) => reason_of_wrong(rt, alloc, names, row, sight),
+        Status::ReadFault => reason_of_reading(alloc, host),
+        Status::WriteFault => match out.last_failure() {
+            Some(error) => Ok(Some(of_verdict(alloc, error)?)),
+            None => Ok(None),
+        },
+        _ => reason_of_given(rt, alloc, &names.play, status),
+    }
+}
+
+// What is wrong of the script and of what it is played with.
+fn reason_of_given<R: Files<File = File>>(
+    rt: &R,
+    alloc: Global,
+    names: &Names<'_>,
+    status: Status,
+) -> Told {
+    match status {
         Status::BadWave(fault) => reason_of_wave(rt, alloc, names.capture, fault),
         Status::BadScript(fault) => reason_of_script(rt, alloc, names.script, fault),
-        Status::Differs(difference) => reason_of_difference(rt, alloc, &names, difference),
+        Status::Differs(difference) => reason_of_difference(rt, alloc, names, difference),
         _ => Ok(None),
     }
 }

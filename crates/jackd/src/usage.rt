@@ -8,6 +8,7 @@ use std::io;
 const USAGE: &str = "jackd play SCRIPT CAPTURE PLAYBACK [--record PATH]..
        jackd rehearse NUMBER
        jackd graph SCRIPT REPORT CYCLE [--dot]
+       jackd check SCRIPT CAPTURE REPORT PLAYBACK [--record PATH]..
        jackd --help
        jackd --version";
 
@@ -24,9 +25,13 @@ on it go to standard output.
 REPORT is what a play of SCRIPT printed, and CYCLE the number of one of its cycles. The graph that
 the cycle used goes to standard output: as lines, or with --dot as a digraph for graphviz.
 
-Exit codes: 0 played, 1 no memory, 2 other words or no such cycle, 3 a file could not be read, 4 the
-capture is no WAVE file that is read, 5 the script can't be played, 6 a file could not be written, 7
-the script and what it is played with differ, 8 the report is none of the script's.
+A check decides whether REPORT explains PLAYBACK and each PATH: \"check ok\", or the first wrong part,
+goes to standard output. It makes no file.
+
+Exit codes: 0 played, or explained, 1 no memory, 2 other words or no such cycle, 3 a file could not
+be read, 4 the capture is no WAVE file that is read, 5 the script can't be played, 6 a file could
+not be written, 7 the script and what it is played with differ, 8 the report is none of the script's,
+or does not explain its files.
 
 The sources have the formats of scripts and reports in docs/FORMATS.md, and sessions in examples/.";
 
@@ -37,6 +42,9 @@ fn program<'a>(alloc: Global) -> Result<Command<'a>, AllocError> {
         "Plays a large session made from a number, and sums it up",
     );
     let graph = Command::new(alloc, "graph").about("Prints the graph that a cycle of a play used");
+    let check = Command::new(alloc, "check").about(
+        "Checks whether a report explains the files of a play",
+    );
     let help = Arg::new(alloc, "help")
         .long("help")
         .action(ArgAction::SetTrue)
@@ -58,6 +66,7 @@ fn program<'a>(alloc: Global) -> Result<Command<'a>, AllocError> {
         .subcommand(play)?
         .subcommand(rehearse)?
         .subcommand(graph)?
+        .subcommand(check)?
         .arg(help)?
         .arg(version)
 }

@@ -10,8 +10,10 @@ use reason_text::Reason;
 use script_words::Words;
 use std::alloc::{AllocError, Global};
 
-// The words of a play before its options.
-const NAMED: [&str; 3] = ["SCRIPT", "CAPTURE", "PLAYBACK"];
+// The words of a play before its options, and those of a check.
+const PLAYED: [&str; 3] = ["SCRIPT", "CAPTURE", "PLAYBACK"];
+
+const CHECKED: [&str; 4] = ["SCRIPT", "CAPTURE", "REPORT", "PLAYBACK"];
 
 // The words of a graph before its option.
 const SHOWN: [&str; 3] = ["SCRIPT", "REPORT", "CYCLE"];
@@ -80,7 +82,8 @@ fn say_words(alloc: Global, reason: &mut Reason, words: &[String]) -> Result<(),
         return reason.say("no command is given");
     };
     match command.as_str() {
-        "play" => say_play(alloc, reason, rest),
+        "play" => say_named(alloc, reason, rest, play()),
+        "check" => say_named(alloc, reason, rest, check()),
         "rehearse" => say_rehearsal(reason, rest),
         "graph" => say_graph(alloc, reason, rest),
         _ => say_no_command(alloc, reason, command),
@@ -164,7 +167,7 @@ fn say_shown_word(reason: &mut Reason, word: &String, place: usize) -> Result<bo
     if place >= SHOWN.len() - 1 {
         return Ok(false);
     }
-    say_name(reason, word, place)
+    say_name(reason, word, place, play())
 }
 
 fn is_cycle(word: &[u8]) -> bool {
@@ -187,35 +190,78 @@ fn say_no_graph_option(
     say_meant(alloc, reason, word.as_bytes(), &GRAPH_OPTIONS)
 }
 
-// Why the words behind `play` are no play.
-fn say_play(alloc: Global, reason: &mut Reason, words: &[String]) -> Result<(), AllocError> {
-    for place in 0..NAMED.len() {
+// A command that names files, and others behind options.
+#[derive(Clone, Copy, Drop)]
+struct Naming {
+    names: &'static [&'static str],
+    // What it needs, and where an option stands.
+    needs: &'static str,
+    behind: &'static str,
+}
+
+impl Naming {
+    // Whether the word at a place behind the command is a name, and no option.
+    fn is_name(&self, place: usize) -> bool {
+        let names = self.names.len();
+        place < names || (place - names) % 2 == 1
+    }
+}
+
+fn play() -> Naming {
+    Naming {
+        names: PLAYED.as_slice(),
+        needs: "play needs SCRIPT, CAPTURE and PLAYBACK; ",
+        behind: " comes behind SCRIPT, CAPTURE and PLAYBACK",
+    }
+}
+
+fn check() -> Naming {
+    Naming {
+        names: CHECKED.as_slice(),
+        needs: "check needs SCRIPT, CAPTURE, REPORT and PLAYBACK; ",
+        behind: " comes behind SCRIPT, CAPTURE, REPORT and PLAYBACK",
+    }
+}
+
+// Why the words behind a command do not name its files.
+fn say_named(
+    alloc: Global,
+    reason: &mut Reason,
+    words: &[String],
+    naming: Naming,
+) -> Result<(), AllocError> {
+    for place in 0..naming.names.len() {
         if place >= words.len() {
             return reason.tell(&[
-                Text("play needs SCRIPT, CAPTURE and PLAYBACK; "),
-                Text(NAMED[place]),
+                Text(naming.needs),
+                Text(naming.names[place]),
                 Text(" is missing"),
             ]);
         }
-        if say_name(reason, &words[place], place)? {
+        if say_name(reason, &words[place], place, naming)? {
             return Ok(());
         }
     }
-    if say_pairs(alloc, reason, words)? {
+    if say_pairs(alloc, reason, words, naming)? {
         return Ok(());
     }
-    say_same(reason, words)
+    say_same(reason, words, naming)
 }
 
 // Tells why a word is no name of a file, if it is none.
-fn say_name(reason: &mut Reason, word: &String, place: usize) -> Result<bool, AllocError> {
+fn say_name(
+    reason: &mut Reason,
+    word: &String,
+    place: usize,
+    naming: Naming,
+) -> Result<bool, AllocError> {
     match word.as_bytes() {
         [] => reason.tell(&[
             Text("word "),
             Number(number_of(place)),
             Text(" is empty, and names no file"),
         ])?,
-        [b'-', ..] if is_option(word) => say_early_option(reason, word, place)?,
+        [b'-', ..] if is_option(word) => say_early_option(reason, word, place, naming)?,
         [b'-', ..] => reason.tell(&[
             Text("word "),
             Number(number_of(place)),
@@ -228,9 +274,14 @@ fn say_name(reason: &mut Reason, word: &String, place: usize) -> Result<bool, Al
 }
 
 // Tells of an option where a name is expected.
-fn say_early_option(reason: &mut Reason, word: &String, place: usize) -> Result<(), AllocError> {
-    let wrong = if place < NAMED.len() {
-        " comes behind SCRIPT, CAPTURE and PLAYBACK"
+fn say_early_option(
+    reason: &mut Reason,
+    word: &String,
+    place: usize,
+    naming: Naming,
+) -> Result<(), AllocError> {
+    let wrong = if place < naming.names.len() {
+        naming.behind
     } else {
         " stands where a path is needed"
     };
@@ -261,15 +312,20 @@ impl Met {
 }
 
 // Tells what is wrong of the options and their paths, if something is.
-fn say_pairs(alloc: Global, reason: &mut Reason, words: &[String]) -> Result<bool, AllocError> {
+fn say_pairs(
+    alloc: Global,
+    reason: &mut Reason,
+    words: &[String],
+    naming: Naming,
+) -> Result<bool, AllocError> {
     let mut met = Met {
         records: 0,
         disks: 0,
     };
-    for place in NAMED.len()..words.len() {
+    for place in naming.names.len()..words.len() {
         let word = &words[place];
-        let is_wrong = if place % 2 == 0 {
-            say_name(reason, word, place)?
+        let is_wrong = if naming.is_name(place) {
+            say_name(reason, word, place, naming)?
         } else {
             let is_last = place + 1 == words.len();
             say_pair(alloc, reason, word, place, is_last, &mut met)?
@@ -305,7 +361,7 @@ fn say_pair(
     Ok(true)
 }
 
-// Tells of a word that is no option of a play.
+// Tells of a word that is no option.
 fn say_no_option(
     alloc: Global,
     reason: &mut Reason,
@@ -331,9 +387,9 @@ fn say_one_too_many(reason: &mut Reason, word: &String, place: usize) -> Result<
 }
 
 // Tells which two words name one file.
-fn say_same(reason: &mut Reason, words: &[String]) -> Result<(), AllocError> {
+fn say_same(reason: &mut Reason, words: &[String], naming: Naming) -> Result<(), AllocError> {
     for second in 0..words.len() {
-        if let Some(first) = same_before(words, second) {
+        if let Some(first) = same_before(words, second, naming) {
             return reason.tell(&[
                 Text("words "),
                 Number(number_of(first)),
@@ -348,19 +404,14 @@ fn say_same(reason: &mut Reason, words: &[String]) -> Result<(), AllocError> {
 }
 
 // The place of the first word that names the file of a later one.
-fn same_before(words: &[String], place: usize) -> Option<usize> {
-    if place >= words.len() || !is_name(place) {
+fn same_before(words: &[String], place: usize, naming: Naming) -> Option<usize> {
+    if place >= words.len() || !naming.is_name(place) {
         return None;
     }
     for first in 0..place {
-        if is_name(first) && words[first] == words[place] {
+        if naming.is_name(first) && words[first] == words[place] {
             return Some(first);
         }
     }
     None
-}
-
-// Whether the word at a place behind `play` is a name, and no option.
-fn is_name(place: usize) -> bool {
-    place < NAMED.len() || place % 2 == 0
 }

@@ -1,17 +1,14 @@
 //! Failures of files and of standard output.
 
-ghost use Rattle.std.specs.Prelude.{◌≡◌, ◌+◌, ◌≤◌, IfOk, length};
-ghost use Rattle.session_model.specs.WaveFiles.{u16_at as u16_number, u32_at as u32_number};
+ghost use Rattle.std.specs.Prelude.{◌≡◌, IfOk};
 ghost use Rattle.reason_text.specs.Reasons.{IsReason};
 ghost use Rattle.told_reasons.specs.Standings.{frames_in, is_unfinished};
 
+use crate::formats::{HEADER, u16_at, u32_at};
 use reason_text::Piece::{Counted, Shown, Text};
 use reason_text::Reason;
 use std::alloc::{AllocError, Global};
 use std::io;
-
-// How many bytes stand before the samples.
-const HEADER: usize = 44;
 
 // A size that is not set.
 const UNSET: u32 = 0xffff_ffff;
@@ -37,22 +34,6 @@ fn say_system(alloc: Global, reason: &mut Reason, error: io::Error) -> Result<()
         Some(end) if end <= bytes.len() => reason.tell(&[Shown(&bytes[..end])]),
         _ => reason.tell(&[Shown(bytes)]),
     }
-}
-
-// The number in two bytes at a place.
-fn u16_at(bytes: &[u8], at: usize) -> u16
-    requires { at + 2 ≤ length bytes.now }
-    ensures { result ≡ u16_number bytes.now at }
-{
-    u16::from_le_bytes([bytes[at], bytes[at + 1]])
-}
-
-// The number in four bytes at a place.
-fn u32_at(bytes: &[u8], at: usize) -> u32
-    requires { at + 4 ≤ length bytes.now }
-    ensures { result ≡ u32_number bytes.now at }
-{
-    u32::from_le_bytes([bytes[at], bytes[at + 1], bytes[at + 2], bytes[at + 3]])
 }
 
 // Whether these are the first bytes of a WAVE file whose sizes are not set.
@@ -158,6 +139,13 @@ pub fn of_summary(alloc: Global, error: io::Error) -> Result<Reason, AllocError>
     ensures { IfOk result IsReason }
 {
     of_sink(alloc, error, "the lines are cut")
+}
+
+/// Why the verdict of a check could not be put out.
+pub fn of_verdict(alloc: Global, error: io::Error) -> Result<Reason, AllocError>
+    ensures { IfOk result IsReason }
+{
+    of_sink(alloc, error, "the verdict is cut")
 }
 
 /// Why a graph could not be put out.

@@ -82,10 +82,11 @@ pub const SIDES: [&str; 2] = ["capture", "playback"];
 pub const AT: [&str; 1] = ["at"];
 
 /// The program's commands and options.
-pub const PROGRAM: [&str; 8] = [
+pub const PROGRAM: [&str; 9] = [
     "play",
     "rehearse",
     "graph",
+    "check",
     "help",
     "--help",
     "--version",
@@ -93,7 +94,7 @@ pub const PROGRAM: [&str; 8] = [
     "-V",
 ];
 
-/// The options of a play.
+/// The options of a play and of a check.
 pub const OPTIONS: [&str; 2] = ["--record PATH", "--disk PATH"];
 
 /// The option of a graph.

@@ -1,4 +1,4 @@
-//! The lines of a script's text.
+//! The lines of a text.
 
 ghost use Rattle.std.specs.Prelude.{◌≤◌, length};
 
@@ -18,8 +18,8 @@ pub fn readable(text: &[u8]) -> &[u8]
     }
 }
 
-// The first line, and what stands behind its end.
-fn first_line(text: &[u8]) -> (&[u8], &[u8]) {
+/// The first line, and what stands behind its end.
+pub fn first_line(text: &[u8]) -> (&[u8], &[u8]) {
     for place in 0..text.len() {
         if text[place] == b'\n' {
             return (&text[..place], &text[place + 1..]);
@@ -42,6 +42,40 @@ pub fn line_at(text: &[u8], number: u32) -> &[u8] {
         [front @ .., b'\r'] => front,
         _ => line,
     }
+}
+
+/// Whether a text has a line of this number, from 1, with its end.
+pub fn has_line(text: &[u8], number: u32) -> bool {
+    let mut left = number;
+    for byte in text {
+        if *byte == b'\n' {
+            if left <= 1 {
+                return true;
+            }
+            left -= 1;
+        }
+    }
+    false
+}
+
+/// The number of the line that is the one of this count, from 1, among those that begin with a word.
+pub fn nth_line(text: &[u8], word: &[u8], count: u32) -> Option<u32> {
+    let mut rest = text;
+    let mut left = count;
+    for number in 1..u32::MAX {
+        if rest.is_empty() {
+            return None;
+        }
+        let (line, behind) = first_line(rest);
+        if word_at(line, 0) == word {
+            if left <= 1 {
+                return Some(number);
+            }
+            left -= 1;
+        }
+        rest = behind;
+    }
+    None
 }
 
 /// How many lines that say something stand before the line of this number.
