@@ -17,7 +17,7 @@ use crate::checking::decide;
 use crate::verdicts::put_verdict;
 use client_kinds::Guest;
 use jack_host::{Gate, Host, Sink};
-use play_inputs::{Status, put_fault};
+use play_inputs::{Status, put_line};
 use play_words::CheckNames;
 use std::alloc::Global;
 use std::thread::Threads;
