@@ -54,7 +54,8 @@ fn open_records<H: Host>(
     ensures files { SameFiles (H.files host.old) (H.files host.new) }
     ensures out { H.lent host.new ≡ H.lent host.old + length records.new.items }
 {
-    for place in 0..names.records() {
+    let count = names.records();
+    for place in 0..count {
         let source = host.open_in(names.record(place))?;
         records.push_reserved(Compare::of(source));
     }
