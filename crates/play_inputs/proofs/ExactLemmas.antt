@@ -17,8 +17,7 @@ use Rattle.play_inputs.specs.declared.status.Difference.{Difference}
 use Rattle.play_inputs.specs.declared.status.Status.{Status}
 use Rattle.play_inputs.specs.declared.status.Status.TheVariants.{Ok, NoMemory, Words, ReadFault, BadWave, BadScript, WriteFault, Differs, Wrong}
 use Rattle.play_inputs.specs.Answers.{HasInput, HasRefusal, IfCapture, IfInput, IfScript, IsFirstDifference, LacksInput, PlayStatus}
-use Rattle.play_inputs.specs.Inputs.{Files, IfBytes, IsBadScript, IsBadWave, IsCapture, IsDifferent, IsInput, IsScriptOf, difference_in}
-use Rattle.cycle_laws.specs.Gears.{IsServed}
+use Rattle.play_inputs.specs.Inputs.{Files, IfBytes, IsBadScript, IsBadWave, IsCapture, IsDifferent, IsInput, IsPlayed, IsScriptOf, difference_in}
 use Rattle.play_inputs.proofs.OpeningLemmas.{differs}
 
 -- ---- a script
@@ -42,7 +41,7 @@ one_some o x y e f = cc
 good_script : (whole : List ℕ) (script : Script) (fault : ScriptFault) → IsScriptOf whole script → IsBadScript whole fault → ⊥
 good_script whole script fault is (inl found) = some_none (script_fault (take 1048577 whole)) fault found (no_fault (take 1048577 whole) script is.spelled)
 good_script whole script fault is (inr other) =
-    other.2 (subst (λ (s : Script). IsServed s) (one_script (take 1048577 whole) script other.0 is.spelled other.1) is.played)
+    other.2 (subst (λ (s : Script). IsPlayed s) (one_script (take 1048577 whole) script other.0 is.spelled other.1) is.played)
 
 -- and a script has one fault
 one_fault : (whole : List ℕ) (a b : ScriptFault) → IsBadScript whole a → IsBadScript whole b → a ≡ b
