@@ -140,13 +140,13 @@ module _ (scores : List Score) (check : Check) where
       → OfCase files scores check (λ given written. IsExplained given written → ¬ read → ¬ rose → IsDoneOrNoMemory result)
   put-decides None verdict result same rose read law told put = tt
   put-decides (Some files) verdict result same rose read law told put = λ given written is explained no_read no_put.
-      done given written is.input.script.played.lawful law verdict result same rose put no_put (case-of files scores check (IsVerdict verdict) told given written is) explained
+      done given written is.input.script.spelled.1 law verdict result same rose put no_put (case-of files scores check (IsVerdict verdict) told given written is) explained
 
   pub put-names : (files : Option Files) (verdict : Verdict) (result : Status) (same rose read : Type 0) → Unexplained → OneWrong → IfCase files scores check (IsVerdict verdict) → IsPut verdict result same rose
       → OfCase files scores check (λ given written. (row : Row) → IsFirstWrong given written row → ¬ read → ¬ rose → IsWrongAt row result ⊎ (result ≡ NoMemory))
   put-names None verdict result same rose read law one told put = tt
   put-names (Some files) verdict result same rose read law one told put = λ given written is row first no_read no_put.
-      named given written is.input.script.played.lawful law one verdict result same rose put no_put (case-of files scores check (IsVerdict verdict) told given written is) row first
+      named given written is.input.script.spelled.1 law one verdict result same rose put no_put (case-of files scores check (IsVerdict verdict) told given written is) row first
 
   pub put-exact : (files : Option Files) (verdict : Verdict) (status : Status) → IfCase files scores check (IsVerdict verdict) → HasRefusal files scores check.play status → ⊥
   put-exact None verdict status told refused = refused

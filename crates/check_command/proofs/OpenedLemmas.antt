@@ -56,7 +56,7 @@ gives-next (Some a) (Some b) names place lefts (Some bytes) within same all give
     let here : bytes_under a name ≡ Some bytes = sym (same name) ∙ gives in (
       all.0 ++ bytes ∷ [],
       ap (map (bytes_under a)) (take-suc names place [] within) ∙ map-append (bytes_under a) (take place names) (name ∷ []) ∙ ap (λ os. os ++ bytes_under a name ∷ []) all.1 ∙ ap (λ o. map Some all.0 ++ o ∷ []) here
-      ∙ sym (map-append Some all.0 (bytes ∷ [])),
+          ∙ sym (map-append Some all.0 (bytes ∷ [])),
       ap (λ os. os ++ Some bytes ∷ []) all.2 ∙ sym (map-append Some all.0 (bytes ∷ [])),
     )
 
