@@ -27,7 +27,7 @@ most=$(sed -e 's/#.*//' -e 's/:/ /' crates.txt | awk '
     return found[crate] = sum
   }
   END { for (at in name) if (paths(name[at]) > most) most = paths(name[at]); print most }')
-if [ "$most" -gt 40000 ]; then
+if [ "$most" -gt 70000 ]; then
   echo "check-crates: $most paths lead down from a crate: pass on by \`pub use\` what it cites of far lower ones"
   status=1
 fi

@@ -1,7 +1,8 @@
 #!/usr/bin/env bash
-# Want of memory, at each allocation of a play in turn, in serial mode and with threads, is answered by exit code 1, which is
+# A lack of memory, at each allocation of a play in turn, in serial mode and with threads, is answered by exit code 1, which is
 # told, with no report and no file made, or makes no difference, as where a vector's growth then asks for less (two at most);
-# and a longer session makes no more allocations. Each start of a thread takes memory of its own; where that is refused or the
+# and a longer session makes no more allocations. So is it at each allocation of a check, whose files stay; and behind the
+# report a check of a longer session makes no more either: from the first cycle on it takes none. Each start of a thread takes memory of its own; where that is refused or the
 # start is, each in turn and all of them, the play is as with it. Workers are started in heavy cycles alone. The program runs
 # under an allocator that refuses one call, and a start of threads that refuses one or all.
 set -u
@@ -132,14 +133,25 @@ def light(cycles):
 
 
 def play(text, refused=0, unstarted=0):
-    for name in [*made, 'count']:
+    for name in made:
         if os.path.exists(name):
             os.remove(name)
     with open('script', 'w') as it:
         it.write(text)
+    return run(['play', 'script', 'capture', 'playback', '--record', 'record'], refused, unstarted)
+
+
+def check(report, refused=0):
+    with open('report', 'wb') as it:
+        it.write(report)
+    return run(['check', 'script', 'capture', 'report', 'playback', '--record', 'record'], refused)
+
+
+def run(words, refused, unstarted=0):
+    if os.path.exists('count'):
+        os.remove('count')
     where = {**os.environ, 'LD_PRELOAD': f'{folder}/refusing.so', 'COUNT': 'count', 'REFUSED': str(refused), 'UNSTARTED': str(unstarted)}
-    words = [jackd, 'play', 'script', 'capture', 'playback', '--record', 'record']
-    ran = subprocess.run(words, env=where, capture_output=True, timeout=60)
+    ran = subprocess.run([jackd, *words], env=where, capture_output=True, timeout=60)
     files = [open(name, 'rb').read() if os.path.exists(name) else None for name in made]
     counts = open('count').read().split() if os.path.exists('count') else [0, 0]
     return (ran.returncode, ran.stdout, ran.stderr, *files), *map(int, counts)
@@ -179,10 +191,35 @@ def faults(session, workers):
         f'{harmless} made no difference; {starts} threads not started, one a play and all')
 
 
+def check_faults(session):
+    """A check of a play; a report without its last line is wrong before memory for a cycle is asked for."""
+    behind = []
+    for cycles in (800, 8):
+        (code, report, _, *files), *_ = play(session(cycles))
+        whole, count, starts = check(report)
+        short, fewer, _ = check(report.removesuffix(b'end\n'))
+        if whole != (0, b'check ok\n', b'', *files) or short[0] != 8 or starts:
+            yield f'with ample memory {told(whole)}, {starts} threads, and without the last line {told(short)}'
+            return
+        behind.append(count - fewer)
+    if len(set(behind)) != 1:
+        yield f'{behind[1]} allocations behind the report for 8 cycles, and {behind[0]} for 800'
+    harmless = 0
+    for refused in range(1, count + 1):
+        got, *_ = check(report, refused)
+        harmless += got == whole
+        if got != whole and got != (1, b'', b'jackd: out of memory; no file was made\n', *files):
+            yield f'allocation {refused} of {count} refused: {told(got)}'
+    if harmless > 2:
+        yield f'{harmless} allocations make no difference'
+    print(f'check-memory: check of {session.__name__}: {count} allocations refused, one a check: {count - harmless} answered by 1, {harmless} made no difference')
+
+
 with open('capture', 'wb') as it:
     it.write(wave(bytes(range(256)) * 8))
 sessions = ((serial, 0), (threads, 1), (light, 0))
 wrong = [f'{session.__name__}: {fault}' for session, workers in sessions for fault in faults(session, workers)]
+wrong += [f'check of {session.__name__}: {fault}' for session in (serial, threads) for fault in check_faults(session)]
 for fault in wrong[:10]:
     print('check-memory:', fault)
 sys.exit(bool(wrong))

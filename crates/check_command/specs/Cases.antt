@@ -3,6 +3,7 @@
 --     IfCase files scores check P      where the files are told, there is such a case, and this holds of it
 --     OfCase files scores check P      where they are told, this holds of each such case
 --     HasCase files scores check      they are told, and there is one
+--     LacksOne files names      one of these names is not there
 --     LacksCase files scores check      a name that a step opens is not there
 use Rattle.std.specs.Prelude.{◌≡◌, ◌⊎◌, ℕ, List, ◌∷◌, map, ⊤, Contains, Option, Some, None}
 use Rattle.jack_types.specs.declared.kinds.Score.{Score}
@@ -39,8 +40,11 @@ HasCase (Some files) scores check = (given : Given) × (written : Written) × Is
 abbrev pub checked_names : Check → List (List ℕ)
 checked_names check = check.report ∷ check.play.playback ∷ check.play.records
 
+abbrev pub LacksOne : Option Files → List (List ℕ) → Type 0
+LacksOne files names = (name : List ℕ) × Contains names name × (¬ IsThere files name)
+
 -- a file that a play of the names would read is not there; or they fit, and one that is compared is not there
 abbrev pub LacksCase : Option Files → List Score → Check → Type 0
 LacksCase files scores check =
     LacksInput files scores check.play
-    ⊎ (IfInput files scores check.play × ((name : List ℕ) × Contains (checked_names check) name × (¬ IsThere files name)))
+    ⊎ (IfInput files scores check.play × LacksOne files (checked_names check))

@@ -1,5 +1,14 @@
 //! A check whose files are named.
 
+ghost use Rattle.std.specs.Prelude.{◌≡◌, ◌+◌, ◌<◌, ◌≤◌, ◌⊎◌, IfErr, IfOk, IsErrOf, OnOk, length, map};
+ghost use Rattle.jack_host.specs.Causes.{Adds, Rose};
+ghost use Rattle.jack_host.specs.Files.{SameFiles};
+ghost use Rattle.play_inputs.specs.Answers.{HasOwnFault};
+ghost use Rattle.play_inputs.specs.Openings.{OpeningStatus};
+ghost use Rattle.check_command.specs.Cases.{IfCase, LacksCase};
+ghost use Rattle.check_command.specs.Files.{faults_in_all};
+ghost use Rattle.check_command.specs.Verdicts.{IsVerdict, answer_of as answer};
+
 use crate::files::{WrittenFiles, back_records, open_written};
 use client_kinds::Guest;
 use jack_host::{Gate, Host};
@@ -9,12 +18,39 @@ use session_check::{CheckFault, Checked, Verdict, check};
 use std::alloc::Global;
 use std::thread::Threads;
 
-// The status of a check without a verdict.
-fn status_of(fault: CheckFault) -> Status {
-    match fault {
-        CheckFault::Read => Status::ReadFault,
-        CheckFault::Memory => Status::NoMemory,
+// What a check answers, where it has no verdict its status.
+fn answer_of(verdict: Result<Verdict, CheckFault>) -> Result<Verdict, Status>
+    ensures { result ≡ answer verdict }
+{
+    match verdict {
+        Ok(verdict) => Ok(verdict),
+        Err(CheckFault::Read) => Err(Status::ReadFault),
+        Err(CheckFault::Memory) => Err(Status::NoMemory),
     }
+}
+
+// Hands the sources of a check back to the host, and answers its verdict.
+fn hand_back<H: Host>(host: &mut H, checked: Checked<H::In>) -> Result<Verdict, Status>
+    requires { 3 + length checked.records.items ≤ H.lent host.old }
+    ensures answer { result ≡ answer checked.verdict }
+    ensures reads { Adds (H.read_faults host.old) (faults_in_all checked.capture.faults checked.report.faults checked.playback checked.records.items) (H.read_faults host.new) }
+    ensures no_more { H.read_faults host.new ≤ H.read_faults host.old + faults_in_all checked.capture.faults checked.report.faults checked.playback checked.records.items }
+    ensures writes { H.write_faults host.new ≡ H.write_faults host.old }
+    ensures files { SameFiles (H.files host.old) (H.files host.new) }
+    ensures lent { H.lent host.new + 3 + length checked.records.items ≡ H.lent host.old }
+{
+    let Checked {
+        verdict,
+        capture,
+        report,
+        playback,
+        records,
+    } = checked;
+    back_records(host, records);
+    host.back(playback.into_source());
+    host.back(report.into_source());
+    host.back(capture.into_source());
+    answer_of(verdict)
 }
 
 /// Opens the files of a check, decides, and hands them back.
@@ -25,7 +61,20 @@ pub(crate) fn decide<T: Threads + Sync, H: Host, G: Guest + Send, A: Gate>(
     host: &mut H,
     guests: Vec<G>,
     gate: &A,
-) -> Result<Verdict, Status> {
+) -> Result<Verdict, Status>
+    requires { H.lent host.old < 900 }
+    ensures verdict { IfOk result (λ verdict. IfCase (H.files host.old) (map G.score guests.items) names.now (IsVerdict verdict)) }
+    ensures fault { IfErr result (OpeningStatus (H.files host.old) (map G.score guests.items) names.now.play) }
+    ensures own { IfErr result HasOwnFault }
+    ensures read { IsErrOf result Status.ReadFault →
+        Rose (H.read_faults host.old) (H.read_faults host.new) ⊎ LacksCase (H.files host.old) (map G.score guests.items) names.now }
+
+    ensures later { H.read_faults host.old ≤ H.read_faults host.new }
+    ensures kept { OnOk result (H.read_faults host.new ≡ H.read_faults host.old) }
+    ensures writes { H.write_faults host.new ≡ H.write_faults host.old }
+    ensures files { SameFiles (H.files host.old) (H.files host.new) }
+    ensures lent { H.lent host.new ≡ H.lent host.old }
+{
     let Inputs { script, capture } = open_inputs(alloc, host, &names.play, guests.len())?;
     let written = match open_written(alloc, host, names) {
         Ok(written) => written,

@@ -1,16 +1,16 @@
 //! The files that a check compares.
 
-ghost use Rattle.std.specs.Prelude.{◌≡◌, ◌+◌, ◌<◌, ◌≤◌, ◌⊎◌, ℕ, List, All, IfErr, IfOk, IsErrOf, OnErr, OnOk, length, map};
-ghost use Rattle.jack_host.specs.Causes.{Rose};
+ghost use Rattle.std.specs.Prelude.{◌≡◌, ◌+◌, ◌<◌, ◌≤◌, ◌⊎◌, [], All, IfErr, IfOk, IsErrOf, OnErr, OnOk, length, map, vec_capacity};
+ghost use Rattle.jack_host.specs.Causes.{Adds, Rose};
 ghost use Rattle.jack_host.specs.Files.{SameFiles};
-ghost use Rattle.file_compare.specs.Comparisons.{Compared};
-ghost use Rattle.session_check.specs.Cases.{IsUntouched, left_of};
-ghost use Rattle.check_command.specs.Files.{GivesWritten, LacksWritten, are_fresh};
+ghost use Rattle.session_check.specs.Cases.{left_of};
+ghost use Rattle.check_command.specs.Cases.{LacksOne, checked_names};
+ghost use Rattle.check_command.specs.Files.{GivesAll, GivesWritten, IsFresh, faults_in};
 
 use file_compare::Compare;
-use jack_host::{Host, Source};
+use jack_host::{Failed, Host, Source};
 use play_inputs::Status;
-use play_words::CheckNames;
+use play_words::{CheckNames, Names};
 use report_reader::Lines;
 use std::alloc::Global;
 
@@ -22,20 +22,44 @@ pub(crate) struct WrittenFiles<S: Source> {
     pub records: Vec<Compare<S>>,
 }
 
-/// Hands the records back to the host.
-pub(crate) fn back_records<H: Host>(host: &mut H, records: Vec<Compare<H::In>>)
+/// Hands records back to the host.
+pub(crate) fn back_records<H: Host>(host: &mut H, mut records: Vec<Compare<H::In>>)
     requires { length records.items ≤ H.lent host.old }
-    ensures lent { H.lent host.new + length records.items ≡ H.lent host.old }
-    ensures later { H.read_faults host.old ≤ H.read_faults host.new }
-    ensures raised { (i : ℕ) (one : Compared) → slice_get records.items i ≡ Some one → 1 ≤ one.faults → Rose (H.read_faults host.old) (H.read_faults host.new) }
-    ensures kept { All (λ (one : Compared). one.faults ≡ 0) records.items → H.read_faults host.new ≡ H.read_faults host.old }
+    ensures reads { Adds (H.read_faults host.old) (faults_in records.items) (H.read_faults host.new) }
+    ensures no_more { H.read_faults host.new ≤ H.read_faults host.old + faults_in records.items }
     ensures writes { H.write_faults host.new ≡ H.write_faults host.old }
     ensures files { SameFiles (H.files host.old) (H.files host.new) }
+    ensures lent { H.lent host.new + length records.items ≡ H.lent host.old }
 {
-    let mut records = records;
-    'backing: while let Some(record) = records.pop() {
+    'handing: while let Some(record) = records.pop() {
         host.back(record.into_source());
     }
+}
+
+// Opens the records one after another, into a list that has room for them, up to the first that fails.
+fn open_records<H: Host>(
+    host: &mut H,
+    names: &Names<'_>,
+    records: &mut Vec<Compare<H::In>>,
+) -> Result<(), Failed>
+    requires lent { H.lent host.old < 950 }
+    requires room { (records.old.items ≡ []) × (length names.now.records ≤ vec_capacity records.old) }
+    ensures opened { OnOk result (GivesAll (H.files host.old) names.now.records (map left_of records.new.items)) }
+    ensures many { OnOk result (length records.new.items ≡ length names.now.records) }
+    ensures fresh { All IsFresh records.new.items }
+    ensures read { OnErr result (Rose (H.read_faults host.old) (H.read_faults host.new) ⊎ LacksOne (H.files host.old) names.now.records) }
+    ensures later { H.read_faults host.old ≤ H.read_faults host.new }
+    ensures kept { OnOk result (H.read_faults host.new ≡ H.read_faults host.old) }
+    ensures writes { H.write_faults host.new ≡ H.write_faults host.old }
+    ensures files { SameFiles (H.files host.old) (H.files host.new) }
+    ensures out { H.lent host.new ≡ H.lent host.old + length records.new.items }
+{
+    let count = names.records();
+    for place in 0..count {
+        let source = host.open_in(names.record(place))?;
+        records.push_reserved(Compare::of(source));
+    }
+    Ok(())
 }
 
 /// Opens the report, then the playback, and then the records in their order. Then so many objects more of the host are out.
@@ -44,13 +68,14 @@ pub(crate) fn open_written<H: Host>(
     host: &mut H,
     names: &CheckNames<'_>,
 ) -> Result<WrittenFiles<H::In>, Status>
-    requires { H.lent host.old < 950 }
+    requires { H.lent host.old < 940 }
     ensures opened { IfOk result (λ written. GivesWritten (H.files host.old) names.now written.report.left written.playback.left (map left_of written.records.items)) }
-    ensures records { IfOk result (λ written. length written.records.items ≡ length names.now.play.records) }
-    ensures fresh { IfOk result (λ written. (written.report.faults ≡ 0) × (written.playback.faults ≡ 0) × All (λ (one : Compared). one.faults ≡ 0) written.records.items) }
-    ensures untouched { IfOk result (λ written. IsUntouched written.playback × All IsUntouched written.records.items) }
+    ensures many { IfOk result (λ written. length written.records.items ≡ length names.now.play.records) }
+    ensures fresh { IfOk result (λ written. (written.report.faults ≡ 0) × IsFresh written.playback × All IsFresh written.records.items) }
     ensures fault { IfErr result (λ status. (status ≡ Status.NoMemory) ⊎ (status ≡ Status.ReadFault)) }
-    ensures read { IsErrOf result Status.ReadFault → Rose (H.read_faults host.old) (H.read_faults host.new) ⊎ LacksWritten (H.files host.old) names.now }
+    ensures read { IsErrOf result Status.ReadFault →
+        Rose (H.read_faults host.old) (H.read_faults host.new) ⊎ LacksOne (H.files host.old) (checked_names names.now) }
+
     ensures later { H.read_faults host.old ≤ H.read_faults host.new }
     ensures kept { OnOk result (H.read_faults host.new ≡ H.read_faults host.old) }
     ensures writes { H.write_faults host.new ≡ H.write_faults host.old }
@@ -58,25 +83,27 @@ pub(crate) fn open_written<H: Host>(
     ensures out { IfOk result (λ written. H.lent host.new ≡ H.lent host.old + 2 + length written.records.items) }
     ensures back { OnErr result (H.lent host.new ≡ H.lent host.old) }
 {
+    let Ok(mut records) = Vec::with_capacity(alloc, names.play.records()) else {
+        return Err(Status::NoMemory);
+    };
     let Ok(report) = host.open_in(names.report) else {
         return Err(Status::ReadFault);
     };
-    let report = Lines::of(report);
     let Ok(playback) = host.open_in(names.play.playback) else {
-        host.back(report.into_source());
+        host.back(report);
         return Err(Status::ReadFault);
     };
-    let playback = Compare::of(playback);
-    match open_records(alloc, host, names) {
-        Ok(records) => Ok(WrittenFiles {
-            report,
-            playback,
+    match open_records(host, &names.play, &mut records) {
+        Ok(()) => Ok(WrittenFiles {
+            report: Lines::of(report),
+            playback: Compare::of(playback),
             records,
         }),
-        Err(status) => {
-            host.back(playback.into_source());
-            host.back(report.into_source());
-            Err(status)
+        Err(_) => {
+            back_records(host, records);
+            host.back(playback);
+            host.back(report);
+            Err(Status::ReadFault)
         }
     }
 }

@@ -15,9 +15,10 @@ ghost use Rattle.check_command.specs.Lines.{IsExplained};
 
 use crate::checking::decide;
 use crate::verdicts::put_verdict;
+use check_laws::laws::{one_first_wrong, wrong_is_unexplained};
 use client_kinds::Guest;
 use jack_host::{Gate, Host, Sink};
-use play_inputs::{Status, put_fault};
+use play_inputs::{Status, put_line};
 use play_words::CheckNames;
 use std::alloc::Global;
 use std::thread::Threads;
@@ -66,6 +67,8 @@ pub fn check_named<T: Threads + Sync, H: Host, K: Sink, G: Guest + Send, A: Gate
     ensures reads { result ≡ Status.Ok → H.read_faults host.new ≡ H.read_faults host.old }
     ensures puts { result ≡ Status.Ok → K.faults out.new ≡ K.faults out.old }
 {
+    wrong_is_unexplained();
+    one_first_wrong();
     match decide(threads, alloc, names, host, guests, gate) {
         Ok(verdict) => put_verdict(out, verdict),
         Err(status) => {

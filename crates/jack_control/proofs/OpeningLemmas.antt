@@ -1,17 +1,20 @@
 -- What a session that was opened was given.
-use Rattle.std.proofs.Common.{◌≡◌, ◌∙◌, ℕ, ℤ, List, refl, sym, ap}
+use Rattle.std.proofs.Common.{◌≡◌, ◌∙◌, ℕ, ℤ, List, [], refl, sym, ap}
 use Rattle.std.specs.Prelude.{Option}
 use Rattle.jack_types.specs.declared.kinds.Score.{Score}
 use Rattle.session_model.specs.Explanations.{Given}
 use Rattle.session_model.specs.Scripts.{Script}
-use Rattle.cycle_laws.specs.Gears.{IsServed}
+use Rattle.session_run.specs.Seen.{IsServed}
 use Rattle.play_words.specs.Words.{Play}
 use Rattle.run_laws.specs.Sessions.{IsGiven as TellsGiven}
 use Rattle.session_run.specs.Seen.{Parts, session_of}
 use Rattle.play_inputs.specs.Inputs.{Files, IfBytes, IsInput}
 use Rattle.play_inputs.specs.Openings.{GivesInput}
 use Rattle.play_inputs.proofs.InputLemmas.{if_bytes_map}
-use Rattle.play_inputs.proofs.OpeningLemmas.{no_disks}
+
+-- a script that is played yet has no disk
+no_disks : (script : Script) → IsServed script → script.header.disks ≡ []
+no_disks script served = (served.lawful.old served.version).1
 
 module _ (files : Option Files) (scores : List Score) (play : Play) (script : Script) (left : Option (List ℤ)) (parts : Parts) (served : IsServed script) (script_is : parts.gear.script ≡ script)
     (scores_are : parts.gear.stage.staged.owned.scores ≡ scores) (left_is : parts.gear.capture.reading.left ≡ left) where

@@ -25,7 +25,7 @@ use crate::playing::play_session;
 use crate::rehearsing::rehearse;
 use client_kinds::Guest;
 use jack_host::{Gate, Host, Sink};
-use play_inputs::{Status, put_fault};
+use play_inputs::{Status, put_fault, put_line};
 use play_words::laws::{words_name_one_command, words_name_one_play};
 use play_words::{Names, play_names, rehearsal_number};
 use std::alloc::Global;
@@ -256,16 +256,4 @@ fn rehearse_named<T: Threads + Sync, R: Wait + Sync, K: Sink, G: Guest + Send, A
         return Status::Words;
     };
     rehearse::<T, R, K, G, A>(threads, wait, alloc, number, out, gate)
-}
-
-// Puts out the line of a fault, where it has one.
-fn put_line<K: Sink>(out: &mut K, status: Status)
-    ensures line { HasLine status → PutsFault (K.content out.old) (K.content out.new) (K.faults out.old) (K.faults out.new) status }
-    ensures silent { (status ≡ Status.NoMemory) ⊎ (status ≡ Status.WriteFault) → out.new ≡ out.old }
-    ensures later { K.faults out.old ≤ K.faults out.new }
-{
-    match status {
-        Status::NoMemory | Status::WriteFault => (),
-        _ => put_fault(out, status),
-    }
 }

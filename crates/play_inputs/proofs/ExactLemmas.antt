@@ -10,15 +10,14 @@ use Rattle.session_model.specs.Explanations.{Given}
 use Rattle.session_model.specs.Grammar.{Spells}
 use Rattle.session_model.specs.Reading.{fault_of, script_fault}
 use Rattle.session_model.specs.Scripts.{Script}
-use Rattle.session_model.specs.WaveOpening.{Opened}
+use Rattle.session_model.specs.WaveOpening.{Opened, wave_in}
 use Rattle.session_laws.proofs.GrammarLaws.{read}
 use Rattle.play_words.specs.Words.{Play}
 use Rattle.play_inputs.specs.declared.status.Difference.{Difference}
 use Rattle.play_inputs.specs.declared.status.Status.{Status}
 use Rattle.play_inputs.specs.declared.status.Status.TheVariants.{Ok, NoMemory, Words, ReadFault, BadWave, BadScript, WriteFault, Differs, Wrong}
 use Rattle.play_inputs.specs.Answers.{HasInput, HasRefusal, IfCapture, IfInput, IfScript, IsFirstDifference, LacksInput, PlayStatus}
-use Rattle.play_inputs.specs.Inputs.{Files, IfBytes, IsBadScript, IsBadWave, IsCapture, IsDifferent, IsScriptOf, difference_in}
-use Rattle.cycle_laws.specs.Gears.{IsServed}
+use Rattle.play_inputs.specs.Inputs.{Files, IfBytes, IsBadScript, IsBadWave, IsCapture, IsDifferent, IsInput, IsPlayed, IsScriptOf, difference_in}
 use Rattle.play_inputs.proofs.OpeningLemmas.{differs}
 
 -- ---- a script
@@ -42,7 +41,7 @@ one_some o x y e f = cc
 good_script : (whole : List ℕ) (script : Script) (fault : ScriptFault) → IsScriptOf whole script → IsBadScript whole fault → ⊥
 good_script whole script fault is (inl found) = some_none (script_fault (take 1048577 whole)) fault found (no_fault (take 1048577 whole) script is.spelled)
 good_script whole script fault is (inr other) =
-    other.2 (subst (λ (s : Script). IsServed s) (one_script (take 1048577 whole) script other.0 is.spelled other.1) is.played)
+    other.2 (subst (λ (s : Script). IsPlayed s) (one_script (take 1048577 whole) script other.0 is.spelled other.1) is.played)
 
 -- and a script has one fault
 one_fault : (whole : List ℕ) (a b : ScriptFault) → IsBadScript whole a → IsBadScript whole b → a ≡ b
@@ -75,6 +74,23 @@ one_difference : (header : Header) (bytes : List ℕ) (a b : Difference) → IsD
 one_difference header bytes a b x y =
     let same : y.0 ≡ x.0 = cc (x.1, y.1) in
     one_some (difference_in header x.0.format) a b x.2 (subst (λ (told : Opened). difference_in header told.format ≡ Some b) same y.2)
+
+-- ---- what two files give
+
+-- a capture is one list of samples
+pub one_capture : (bytes : List ℕ) (header other : Header) (a b : List ℤ) → IsCapture bytes header a → IsCapture bytes other b → a ≡ b
+one_capture bytes header other a b x y =
+    let same : x.told ≡ y.told = cc (x.opens, y.opens) in
+    x.samples_are ∙ ap wave_in same ∙ sym y.samples_are
+
+-- they give a play one thing
+pub one_input : (script_bytes capture_bytes : List ℕ) (scores : List Score) (play : Play) (a b : Given) → IsInput script_bytes capture_bytes scores play a → IsInput script_bytes capture_bytes scores play b → a ≡ b
+one_input script_bytes capture_bytes scores play a b x y =
+    let scripts : a.script ≡ b.script = one_script (take 1048577 script_bytes) a.script b.script x.script.spelled y.script.spelled in
+    let captures : a.capture ≡ b.capture = one_capture capture_bytes a.script.header b.script.header a.capture b.capture x.capture y.capture in
+    let disks : a.disks ≡ b.disks = x.no_disk ∙ sym y.no_disk in
+    let same : a.scores ≡ b.scores = x.scores_are ∙ sym y.scores_are in
+    (λ k. record { script = scripts k; capture = captures k; disks = disks k; scores = same k })
 
 module _ (files : Files) (scores : List Score) (play : Play) where
   -- ---- what is known of a name's bytes

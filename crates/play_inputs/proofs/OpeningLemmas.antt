@@ -5,7 +5,6 @@ use Rattle.jack_types.specs.declared.kinds.Score.{Score}
 use Rattle.jack_host.specs.Files.{IsThere, SameFiles}
 use Rattle.session_model.specs.Explanations.{Given}
 use Rattle.session_model.specs.Scripts.{Script}
-use Rattle.cycle_laws.specs.Gears.{IsServed}
 use Rattle.play_words.specs.Words.{Play}
 use Rattle.play_inputs.specs.declared.status.Difference.{Difference}
 use Rattle.play_inputs.specs.declared.status.Status.{Status}
@@ -15,10 +14,6 @@ use Rattle.play_inputs.specs.Captures.{CaptureStatus, IsOpened}
 use Rattle.play_inputs.specs.Inputs.{Files, first_difference, IfBytes, IsBadWave, IsCapture, IsDifferent, IsInput, IsScriptOf}
 use Rattle.play_inputs.specs.Openings.{GivesInput, OpeningStatus}
 use Rattle.play_inputs.proofs.InputLemmas.{if_bytes_before, if_bytes_map, there_after}
-
--- a script that is played yet has no disk
-pub no_disks : (script : Script) → IsServed script → script.header.disks ≡ []
-no_disks script served = (served.lawful.old served.version).1
 
 pub one_err : {T E : Type 0} (r : Result T E) (x y : E) → r ≡ Err x → r ≡ Err y → x ≡ y
 one_err r x y e f = cc

@@ -2,10 +2,11 @@
 --     IfBytes files name P      what holds of a name's bytes, where the files are told
 --     line_at bytes place      the number of a line among those that are said
 --     unplayable bytes      the fault of a lawful script that is not played yet
+--     IsPlayed script      a script that is played: before version 3
 --     IsBadScript bytes fault      why a script can't be played
 --     first_difference, difference_in      the comparisons, in their order
 --     IsInput script_bytes capture_bytes scores play given      what the two files and the guests give
-use Rattle.std.specs.Prelude.{◌≡◌, ◌⊎◌, ℕ, ◌==◌, nat_lt, not, List, [], length, map, slice_index_or, take, ⊤, ℤ, Option, Some, None, Ok, Err, if◌then◌else◌}
+use Rattle.std.specs.Prelude.{◌≡◌, ◌<◌, ◌⊎◌, ℕ, ◌==◌, nat_lt, not, List, [], length, map, slice_index_or, take, ⊤, ℤ, Option, Some, None, Ok, Err, if◌then◌else◌}
 use Rattle.jack_types.specs.declared.files.Format.{Format}
 use Rattle.jack_types.specs.declared.files.WaveFault.{WaveFault}
 use Rattle.jack_types.specs.declared.kinds.Score.{Score}
@@ -22,7 +23,6 @@ use Rattle.session_model.specs.WaveFiles.{IsWave, wave_fault}
 use Rattle.session_model.specs.WaveOpening.{Opened, opened, wave_in}
 use Rattle.task_laws.specs.Calls.{guests_needed}
 use Rattle.wave_pcm.specs.Readings.{AreBytes}
-use Rattle.cycle_laws.specs.Gears.{IsServed}
 use Rattle.play_words.specs.Words.{Play}
 use Rattle.play_inputs.specs.declared.status.Difference.{Difference}
 use Rattle.play_inputs.specs.declared.status.What.TheVariants.{Guests, Records, Disks, Rate, Channels}
@@ -43,9 +43,13 @@ line_at bytes place = slice_index_or (map (λ line. line.number) (said bytes)) p
 abbrev pub unplayable : List ℕ → ScriptFault
 unplayable bytes = record { line = line_at bytes 0; cause = Choice 3 }
 
+-- a version that is played
+abbrev pub IsPlayed : Script → Type 0
+IsPlayed script = script.header.version < 3
+
 -- the bytes have this fault, or spell a script that is not played yet
 abbrev pub IsFaulty : List ℕ → ScriptFault → Type 0
-IsFaulty bytes fault = (script_fault bytes ≡ Some fault) ⊎ ((script : Script) × Spells bytes script × (IsServed script → ⊥) × (fault ≡ unplayable bytes))
+IsFaulty bytes fault = (script_fault bytes ≡ Some fault) ⊎ ((script : Script) × Spells bytes script × (IsPlayed script → ⊥) × (fault ≡ unplayable bytes))
 
 -- 1,048,577 bytes are read at most
 abbrev pub IsBadScript : List ℕ → ScriptFault → Type 0
@@ -54,7 +58,7 @@ IsBadScript bytes fault = IsFaulty (take 1048577 bytes) fault
 -- the bytes spell this script, and it is played
 pub record IsScriptOf (bytes : List ℕ) (script : Script) : Type 0 where
   pub spelled : Spells (take 1048577 bytes) script
-  pub played : IsServed script
+  pub played : IsPlayed script
 
 -- the first of the comparisons that need no capture: guests, recorders' files, disk files
 abbrev pub first_difference : Script → ℕ → ℕ → ℕ → Option Difference

@@ -7,14 +7,13 @@ use Rattle.jack_types.specs.declared.scripts.Cause.TheVariants as cause
 use Rattle.jack_types.specs.declared.scripts.ScriptFault.{ScriptFault}
 use Rattle.session_model.specs.Grammar.{Spells}
 use Rattle.session_model.specs.Scripts.{Script}
-use Rattle.cycle_laws.specs.Gears.{IsServed}
 use Rattle.play_inputs.specs.declared.status.Status.{Status}
 use Rattle.play_inputs.specs.declared.status.Status.TheVariants.{Ok, NoMemory, Words, ReadFault, BadWave, BadScript, WriteFault, Differs, Wrong}
-use Rattle.play_inputs.specs.Inputs.{Files, IfBytes, IsBadScript}
+use Rattle.play_inputs.specs.Inputs.{Files, IfBytes, IsBadScript, IsPlayed}
 
 pub record IsRead (bytes : List ℕ) (script : Script) : Type 0 where
   pub spelled : Spells bytes script
-  pub played : IsServed script
+  pub played : IsPlayed script
 
 -- want of memory is no fault of the bytes
 abbrev pub status_of_cause : Cause → ScriptFault → Status

@@ -5,8 +5,9 @@ ghost use Rattle.jack_host.specs.Causes.{Rose};
 ghost use Rattle.jack_host.specs.Files.{SameFiles};
 ghost use Rattle.jack_types.specs.declared.kinds.Score.{Score as ScoreValue};
 ghost use Rattle.task_laws.specs.Calls.{guests_needed};
-ghost use Rattle.cycle_laws.specs.Gears.{IsServed};
+ghost use Rattle.session_model.specs.Grammar.{IsScript};
 ghost use Rattle.play_inputs.specs.Answers.{HasOwnFault, LacksInput};
+ghost use Rattle.play_inputs.specs.Inputs.{IsPlayed};
 ghost use Rattle.play_inputs.specs.Openings.{GivesInput, OpeningStatus};
 
 use crate::Status;
@@ -37,7 +38,7 @@ pub fn open_inputs<H: Host>(
     requires { H.lent host.old < 900 }
     ensures opened { IfOk result (λ inputs. (scores : List ScoreValue) → length scores ≡ guests →
         GivesInput (H.files host.old) scores names.now inputs.script inputs.capture.left) }
-    ensures served { IfOk result (λ inputs. IsServed inputs.script) }
+    ensures played { IfOk result (λ inputs. IsScript inputs.script × IsPlayed inputs.script) }
     ensures fits { IfOk result (λ inputs. (guests_needed inputs.script ≤ guests)
         × (length inputs.script.header.recorders ≡ length names.now.records)
         × (length inputs.script.header.disks ≡ length names.now.disks)) }

@@ -10,6 +10,6 @@ mod reading;
 mod scripts;
 mod status;
 
-pub use fault_lines::put_fault;
+pub use fault_lines::{put_fault, put_line};
 pub use inputs::{Inputs, open_inputs};
 pub use status::{Difference, Status, What};

@@ -4,9 +4,9 @@ ghost use Rattle.std.specs.Prelude.{◌≡◌, ◌<◌, ◌≤◌, ◌⊎◌, If
 ghost use Rattle.jack_host.specs.Causes.{Rose};
 ghost use Rattle.jack_host.specs.Files.{IsThere, SameFiles};
 ghost use Rattle.jack_types.specs.declared.scripts.ScriptFault.{ScriptFault as FaultValue};
-ghost use Rattle.cycle_laws.specs.Gears.{IsServed};
+ghost use Rattle.session_model.specs.Grammar.{IsScript};
 ghost use Rattle.play_inputs.specs.Answers.{HasOwnFault, IsScriptFault};
-ghost use Rattle.play_inputs.specs.Inputs.{IfBytes, IsFaulty, IsScriptOf, line_at, unplayable};
+ghost use Rattle.play_inputs.specs.Inputs.{IfBytes, IsFaulty, IsPlayed, IsScriptOf, line_at, unplayable};
 ghost use Rattle.play_inputs.specs.Scripts.{IsRead, ScriptStatus, status_of_script};
 
 use crate::Status;
@@ -25,7 +25,7 @@ const VERSION_PLACE: usize = 0;
 
 // Whether a script is one that is played yet: before version 3.
 fn is_played(script: &Script) -> bool
-    ensures { IsTrue result ↔ IsServed script.now }
+    ensures { IsTrue result ↔ IsPlayed script.now }
 {
     script.header().version < 3
 }
@@ -74,6 +74,7 @@ fn script_in(alloc: Global, bytes: &[u8]) -> Result<Script, Status>
     ensures script { IfOk result (λ script. IsRead bytes.now script) }
     ensures fault { IfErr result (λ status. (status ≡ Status.NoMemory) ⊎ ((fault : FaultValue) × (status ≡ Status.BadScript fault) × IsFaulty bytes.now fault)) }
     ensures own { IfErr result HasOwnFault }
+    ensures lawful { IfOk result (λ script. IsScript script) }
 {
     match Script::read(alloc, bytes) {
         Ok(script) => {
@@ -95,7 +96,7 @@ pub(crate) fn read_script<H: Host>(
 ) -> Result<Script, Status>
     requires { H.lent host.old < 1000 }
     ensures script { IfOk result (λ script. IfBytes (H.files host.old) name.now (λ bytes. IsScriptOf bytes script)) }
-    ensures played { IfOk result (λ script. IsServed script) }
+    ensures played { IfOk result (λ script. IsScript script × IsPlayed script) }
     ensures fault { IfErr result (ScriptStatus (H.files host.old) name.now) }
     ensures own { IfErr result HasOwnFault }
     ensures read { IsErrOf result Status.ReadFault →

@@ -1,0 +1,119 @@
+-- The case of the files of a check, which is one.
+--     one-case, case-of      two cases are the same, and so of each holds what holds of one
+--     case-map, case-told      what holds of it, and what the opened files tell of it
+--     input-of, input-told      and the input of a play in it
+--     there-none      its names are there
+use Rattle.std.proofs.Common.{◌≡◌, ◌∙◌, ℕ, zero, suc, ◌<◌, ℤ, List, [], ◌∷◌, Some, None, ap, arith, length, map, refl, sym, subst, true}
+use Rattle.std.specs.Prelude.{Contains, IsSome, Option, is_some, slice_index_or}
+use Rattle.std.proofs.lemmas.Option.{none-some}
+use Rattle.jack_types.specs.declared.kinds.Score.{Score}
+use Rattle.jack_host.specs.Files.{IsThere, bytes_under}
+use Rattle.session_model.specs.Explanations.{Given, Written}
+use Rattle.session_model.specs.Scripts.{Script}
+use Rattle.session_check.specs.Cases.{IsCase as IsGivenCase}
+use Rattle.play_words.specs.Checks.{Check}
+use Rattle.play_words.specs.Words.{Play}
+use Rattle.play_inputs.specs.Answers.{HasInput, IfInput}
+use Rattle.play_inputs.specs.Inputs.{Files, IfBytes, IsInput}
+use Rattle.play_inputs.specs.Openings.{GivesInput}
+use Rattle.play_inputs.proofs.ExactLemmas.{one_input}
+use Rattle.play_inputs.proofs.InputLemmas.{if_bytes_map}
+use Rattle.check_command.specs.Cases.{HasCase, IfCase, IsCase, LacksOne, OfCase, checked_names}
+use Rattle.check_command.specs.Files.{GivesWritten}
+
+some-same : (xs ys : List (List ℕ)) → map Some xs ≡ map Some ys → xs ≡ ys
+some-same [] [] e = refl
+some-same [] (y ∷ ys) e = cc e
+some-same (x ∷ xs) [] e = cc e
+some-same (x ∷ xs) (y ∷ ys) e =
+    let head : x ≡ y = cc e in
+    let rest : map Some xs ≡ map Some ys = cc e in
+    let tail : xs ≡ ys = some-same xs ys rest in
+    (λ k. head k ∷ tail k)
+
+module _ (files : Files) (scores : List Score) (check : Check) where
+  one-given : (given other : Given) (written more : Written) → IsCase files scores check given written → IsCase files scores check other more → given ≡ other
+  one-given given other written more a b =
+      let scripts : b.script_bytes ≡ a.script_bytes = cc (a.script_is, b.script_is) in
+      let captures : b.capture_bytes ≡ a.capture_bytes = cc (a.capture_is, b.capture_is) in
+      one_input a.script_bytes a.capture_bytes scores check.play given other a.input
+      (subst (λ (bytes : List ℕ). IsInput bytes a.capture_bytes scores check.play other) scripts (subst (λ (bytes : List ℕ). IsInput b.script_bytes bytes scores check.play other) captures b.input))
+
+  one-written : (given other : Given) (written more : Written) → IsCase files scores check given written → IsCase files scores check other more → written ≡ more
+  one-written given other written more a b =
+      let playbacks : written.playback ≡ more.playback = cc (a.playback_is, b.playback_is) in
+      let records : written.records ≡ more.records = some-same written.records more.records (sym a.records_are ∙ b.records_are) in
+      let reports : written.report ≡ more.report = cc (a.report_is, b.report_is) in
+      (λ k. record { playback = playbacks k; records = records k; report = reports k })
+
+  -- what holds of one case holds of each
+  pub case-of : (P : Given → Written → Type 0) → IfCase (Some files) scores check P → (given : Given) (written : Written) → IsCase files scores check given written → P given written
+  case-of P has given written is =
+      subst (λ (w : Written). P given w) (one-written has.0 given has.1 written has.2 is)
+      (subst (λ (g : Given). P g has.1) (one-given has.0 given has.1 written has.2 is) has.3)
+
+pub case-map : (files : Option Files) (scores : List Score) (check : Check) (P Q : Given → Written → Type 0) → ((given : Given) (written : Written) → P given written → Q given written) → IfCase files scores check P → IfCase files scores check Q
+case-map None scores check P Q f has = tt
+case-map (Some files) scores check P Q f has = (has.0, has.1, has.2, f has.0 has.1 has.3)
+
+-- the sources that were opened tell a case of the files
+pub case-told : (files : Option Files) (scores : List Score) (check : Check) (script : Script) (left : Option (List ℤ)) (report playback : Option (List ℕ)) (records : List (Option (List ℕ)))
+    (P : Given → Written → Type 0) → GivesInput files scores check.play script left → GivesWritten files check report playback records
+    → ((given : Given) (written : Written) → IsGivenCase script left scores report playback records given written → P given written) → IfCase files scores check P
+case-told None scores check script left report playback records P gives tells f = tt
+case-told (Some files) scores check script left report playback records P (script_bytes, script_is, (capture_bytes, capture_is, (given, input, of, samples))) tells f = (
+  given,
+  tells.written,
+  record {
+    script_bytes = script_bytes;
+    capture_bytes = capture_bytes;
+    script_is = script_is;
+    capture_is = capture_is;
+    input = input;
+    report_is = tells.report_there;
+    playback_is = tells.playback_there;
+    records_are = tells.records_there;
+  },
+  f given tells.written (record {
+    input = record { script_is = of; capture_is = samples; scores_are = input.scores_are; no_disks = input.no_disk };
+    report_is = tells.report_is;
+    playback_is = tells.playback_is;
+    records_are = tells.records_are;
+  }),
+)
+
+-- what a play is given is told by what was opened
+pub input-told : (files : Option Files) (scores : List Score) (play : Play) (script : Script) (left : Option (List ℤ)) → GivesInput files scores play script left → IfInput files scores play
+input-told files scores play script left =
+    if_bytes_map files play.script (λ script_bytes. IfBytes files play.capture (Reads script_bytes)) (λ script_bytes. IfBytes files play.capture (Has script_bytes))
+    (λ script_bytes. if_bytes_map files play.capture (Reads script_bytes) (Has script_bytes) (λ capture_bytes has. (has.0, has.1)))
+  where
+    Reads : List ℕ → List ℕ → Type 0
+    Reads script_bytes capture_bytes = (given : Given) × IsInput script_bytes capture_bytes scores play given × (given.script ≡ script) × (left ≡ Some given.capture)
+
+    Has : List ℕ → List ℕ → Type 0
+    Has script_bytes capture_bytes = (given : Given) × IsInput script_bytes capture_bytes scores play given
+
+-- and is there where a case is
+pub input-of : (files : Option Files) (scores : List Score) (check : Check) → HasCase files scores check → HasInput files scores check.play
+input-of None scores check has = has
+input-of (Some files) scores check has = (has.2.script_bytes, has.2.script_is, (has.2.capture_bytes, has.2.capture_is, (has.0, has.2.input)))
+
+pub has-case : (files : Files) (scores : List Score) (check : Check) (P : Given → Written → Type 0) → IfCase (Some files) scores check P → HasCase (Some files) scores check
+has-case files scores check P has = (has.0, has.1, has.2)
+
+-- each of these names has bytes
+all-there : (files : Files) (names all : List (List ℕ)) → map (bytes_under files) names ≡ map Some all → (name : List ℕ) → Contains names name → IsThere (Some files) name
+all-there files [] all e name (k, within, is) = absurd (omega (arith, within))
+all-there files (own ∷ names) [] e name (k, within, is) = cc e
+all-there files (own ∷ names) (bytes ∷ all) e name (zero, within, is) = let here : bytes_under files own ≡ Some bytes = cc e in subst (λ (n : List ℕ). IsThere (Some files) n) is (ap is_some here)
+all-there files (own ∷ names) (bytes ∷ all) e name (suc k, within, is) = let rest : map (bytes_under files) names ≡ map Some all = cc e in all-there files names all rest name (k, omega (arith, within), is)
+
+pub there-none : (files : Option Files) (scores : List Score) (check : Check) → HasCase files scores check → LacksOne files (checked_names check) → ⊥
+there-none None scores check has lacks = has
+there-none (Some files) scores check has (name, among, none) =
+    let written : Written = has.1 in
+    let report = has.2.report_is in
+    let playback = has.2.playback_is in
+    let records = has.2.records_are in
+    none (all-there files (checked_names check) (written.report ∷ written.playback ∷ written.records) (λ k. report k ∷ playback k ∷ records k) name among)

@@ -1,0 +1,4 @@
+mod OpenedLemmas
+mod CountLemmas
+mod CaseLemmas
+mod AnswerLemmas
