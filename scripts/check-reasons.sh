@@ -118,6 +118,15 @@ words_case('a misspelt rehearsal', ['rehears', '7'], 'jackd: no command "rehears
 for number in ('x', '-1', '', '4294967296', '00000000007'):
     words_case('no number', ['rehearse', number], f'jackd: "{number}" is no number of one to ten digits, 4294967295 at most')
 words_case('two numbers', ['rehearse', '7', '8'], 'jackd: word 3 is one too many: "8"')
+words_case('check alone', ['check'], 'jackd: check needs SCRIPT, CAPTURE, REPORT and PLAYBACK; SCRIPT is missing')
+words_case('a check of no playback', ['check', 's', 'c', 'r'], 'jackd: check needs SCRIPT, CAPTURE, REPORT and PLAYBACK; PLAYBACK is missing')
+words_case('a report that is the playback', ['check', 's', 'c', 'r', 'r'], 'jackd: words 4 and 5 name one file: r')
+words_case('a record that is the report', ['check', 's', 'c', 'r', 'p', '--record', 'r'], 'jackd: words 4 and 7 name one file: r')
+words_case('a check of a word too many', ['check', 's', 'c', 'r', 'p', 'q'], 'jackd: word 6 is one too many: "q"')
+words_case('a check of an option first', ['check', '--record', 't', 's', 'c', 'r', 'p'],
+    'jackd: "--record" comes behind SCRIPT, CAPTURE, REPORT and PLAYBACK')
+words_case('a check of an option without a path', ['check', 's', 'c', 'r', 'p', '--record'], 'jackd: "--record" needs a path')
+words_case('a misspelt check', ['chek', 's', 'c', 'r', 'p'], 'jackd: no command "chek"; is "check" meant?')
 words_case('a word that is no UTF-8', ['play', 's', b'c\xff', 'p'], 'jackd: word 3 is no UTF-8: c\\xff')
 words_case('a word that steers a terminal', ['pl\x1b[2Jay'], 'jackd: no command "pl\\x1b[2Jay"')
 words_case('a very long word', ['x' * 5000], 'jackd: no command "' + 'x' * 64 + '..."')
@@ -361,6 +370,133 @@ case('a refused call of a lane', PLAY, 0, report(['call 0 1 ok 1', 'call 3 1 lat
     files={'s': text('do open a pass', 'run 4', 'lane 3 at 1 latency capture system:capture_1',
         'lane 3\tat 1   disconnect system:capture_1  system:playback_1')}, made=['p'])
 
+# 8: a report does not explain its files. The playback of GOOD is the capture's first 128 samples, each of two bytes.
+CHECK = ['check', 's', 'c', 'r', 'p']
+HEARD = bytes(range(256))
+STRAIGHT = {'r': PLAYED, 'p': wave(data=HEARD)}
+
+
+def wrong_case(name, part, told, files, words=CHECK):
+    case(name, words, 8, f'check wrong {part}\n'.encode(), told + '\n', files={**STRAIGHT, **files})
+
+
+# A report with other lines: the number of the line that is wrong, what is told of it, and its text.
+def report_case(name, part, line, told, lines, files=None):
+    text = ''.join(it + '\n' for it in lines).encode()
+    below = f'\n    {lines[line - 1]}' if line else ''
+    place = f'r:{line}' if line else 'r'
+    wrong_case(name, part, f'jackd: {place}: {told}{below}', {**(files or {}), 'r': text})
+
+
+def changed(data, place, *values):
+    return data[:place] + bytes(values) + data[place + len(values):]
+
+
+def feeds(cycle, port, sources):
+    return f'\njackd: in cycle {cycle} {port} is fed by {sources}; jackd graph s r {cycle} shows all'
+
+
+case('a report that explains its files', CHECK, 0, b'check ok\n', '', files=STRAIGHT)
+# Sample 65 is 0x8382, which is -31870 of 16 bits; with 0 as its first byte it is -32000. It is frame 1 of cycle 2.
+wrong_case('a sample changed', 'playback 0 174',
+    'jackd: p: byte 174: cycle 2, frame 1 (frame 65 of the file, second 0.001): -31870 is expected, -32000 stands there'
+    + feeds(2, 'system:playback_1', 'system:capture_1'), {'p': changed(wave(data=HEARD), 174, 0)})
+# Of two channels the left one is silent, and the right one has the capture: frame 3 of it is 0x0706.
+stereo = wave(form(channels=2), b''.join(bytes(2) + HEARD[k:k + 2] for k in range(0, 256, 2)))
+two = {'s': text('do connect system:capture_1 system:playback_2', 'run 2', header=[*HEADER[:4], 'playback 2 16', HEADER[5]])}
+wrong_case('a sample of the right channel', 'playback 0 58',
+    'jackd: p: byte 58: cycle 1, frame 3 (frame 3 of the file, second 0.000), right channel: 1798 is expected, -1 stands there'
+    + feeds(1, 'system:playback_2', 'system:capture_1'), {**two, 'p': changed(stereo, 58, 255, 255)})
+wrong_case('a sample of the left channel', 'playback 0 44',
+    'jackd: p: byte 44: cycle 1, frame 0 (frame 0 of the file, second 0.000), left channel: 0 is expected, 1 stands there'
+    + feeds(1, 'system:playback_1', 'nothing'), {**two, 'p': changed(stereo, 44, 1)})
+wrong_case('a playback that ends early', 'playback 0 124', 'jackd: p: it ends behind 40 of 128 frames', {'p': wave(data=HEARD)[:124]})
+wrong_case('a playback cut in its header', 'playback 0 20', 'jackd: p: the file ends after 20 bytes, within its header',
+    {'p': wave(data=HEARD)[:20]})
+wrong_case('an empty playback', 'playback 0 0', 'jackd: p: the file is empty', {'p': b''})
+wrong_case('a playback that goes on', 'playback 0 300', 'jackd: p: it goes on behind the 128 frames that are expected',
+    {'p': wave(data=HEARD) + bytes(2)})
+# 48,000 is 0xbb80, and 44,100 0xac44.
+wrong_case('a playback of another rate', 'playback 0 24',
+    'jackd: p: byte 24, in its header, the rate: 128 is expected, 68 stands there; it has rate 44100, where the script has 48000',
+    {'p': wave(form(rate=44100), HEARD)})
+# 36 bytes stand behind the size in the header, and 256 bytes of samples: 0x124, where 100 frames of 2 bytes have 0xec.
+wrong_case('a playback of another session', 'playback 0 4',
+    'jackd: p: byte 4, in its header, the size of the file: 36 is expected, 236 stands there; it has 100 frames, where the script has 128',
+    {'p': wave(data=HEARD[:200])})
+OPENED = ['do open tape record 0', 'do register tape:in in audio', 'do activate tape', 'do connect system:capture_1 tape:in']
+TAPED = [f'call 0 {k} ok {k}' for k in range(1, 5)]
+eighth = {'s': text(*OPENED, 'run 2', header=[*HEADER, 'recorder 1 8']), 'r': report(TAPED, stopped(2, 4), ['recorder 0 2 0'])}
+wrong_case('two files exchanged', 'record 0 4',
+    'jackd: t: byte 4, in its header, the size of the file: 164 is expected, 36 stands there; it has 16 bits a sample, where the script has 8\n'
+    'jackd: p has the header that t should have; are the two exchanged?',
+    {**eighth, 'p': wave(form(bits=8), bytes(128)), 't': wave(data=bytes(256))}, [*CHECK, '--record', 't'])
+# The record of 16 bits is the capture, and the playback is silent. The last byte of frame 1 is changed.
+sixteenth = {'s': text(*OPENED, 'run 2', header=[*HEADER, 'recorder 1 16']), 'r': report(TAPED, stopped(2, 4), ['recorder 0 2 0']),
+    'p': wave(data=bytes(256))}
+wrong_case('a sample of a record', 'record 0 47',
+    'jackd: t: byte 47: cycle 1, frame 1 (frame 1 of the file, second 0.000): 770 is expected, 1026 stands there' + feeds(1, 'tape:in', 'system:capture_1'),
+    {**sixteenth, 't': changed(wave(data=HEARD), 47, 4)}, [*CHECK, '--record', 't'])
+case('a record that is explained', [*CHECK, '--record', 't'], 0, b'check ok\n', '', files={**sixteenth, 't': wave(data=HEARD)})
+
+# Lines of a report.
+CYCLES = stopped(2, 1)
+wrong_case('a report that breaks off', 'report 5', 'jackd: r:5: the report breaks off before its line "end"', {'r': PLAYED[:-4]})
+wrong_case('a report whose last line is cut', 'report 5', 'jackd: r:5: the report breaks off before its line "end"\n    en', {'r': PLAYED[:-2]})
+wrong_case('an empty report', 'report 1', 'jackd: r:1: a report begins with the line "report 1"', {'r': b''})
+wrong_case('a WAVE file as the report', 'report 1', 'jackd: r: a WAVE file, and no report', {'r': wave()})
+report_case('a script as the report', 'report 1', 1, 'a report begins with the line "report 1"', ['jackd 1', 'rate 48000'])
+report_case('a cycle too few', 'report 4', 4, "no line of this script's report, in this place", ['report 1', 'call 0 1 ok 1', CYCLES[0], 'end'])
+report_case('a line behind the end', 'report 6', 6, "no line of this script's report, in this place",
+    ['report 1', 'call 0 1 ok 1', *CYCLES, 'end', 'end'])
+report_case('another reply', 'call 1', 2, 'call 1: "ok 1" is expected', ['report 1', 'call 0 1 refused 16 Exists', *stopped(2, 0), 'end'])
+report_case("another script's call", 'call 1', 2, "call 1: the script's next call does not stand here; is it another script's report?",
+    ['report 1', 'call 1 1 ok 1', *CYCLES, 'end'])
+report_case('a call missing', 'call 1', 2, "call 1: the script's next call does not stand here; is it another script's report?",
+    ['report 1', *stopped(2, 0), 'end'])
+report_case('a number that falls', 'cycle 2', 4, 'cycle 2: its graph has at least change 1, and 0 stands there',
+    ['report 1', 'call 0 1 ok 1', CYCLES[0], 'cycle 2 0 stopped 0 -', 'end'])
+report_case('a number past all calls', 'cycle 2', 4, 'cycle 2: its graph has at most change 1, and 9 stands there',
+    ['report 1', 'call 0 1 ok 1', CYCLES[0], 'cycle 2 9 stopped 0 -', 'end'])
+report_case('another frame', 'cycle 2', 4, 'cycle 2: the frame is 0, and 5 stands there',
+    ['report 1', 'call 0 1 ok 1', CYCLES[0], 'cycle 2 1 stopped 5 -', 'end'])
+report_case('another state', 'cycle 2', 4, 'cycle 2: the state is stopped, and rolling stands there',
+    ['report 1', 'call 0 1 ok 1', CYCLES[0], 'cycle 2 1 rolling 0 -', 'end'])
+# A meter that never played has 0, and one that could not be opened has no line.
+metered = {'s': text('do open m meter', 'do open m meter', 'run 1'), 'p': wave(data=bytes(128))}
+METERS = ['report 1', 'call 0 1 ok 1', 'call 0 2 refused 3 IsOpen', 'cycle 1 1 stopped 0 -']
+report_case('another peak', 'meter 1', 5, 'meter 1: the peak is 0, and 7 stands there', [*METERS, 'meter m 7', 'end'], metered)
+report_case('a meter missing', 'meter 1', 0, 'meter 1: its line is missing', [*METERS, 'end'], metered)
+report_case('a meter too many', 'meter 2', 6, 'meter 2: nothing in the session asks for this line', [*METERS, 'meter m 0', 'meter m 0', 'end'], metered)
+
+
+# A ring of two places that nothing leaves, of one recorder, and cycles that find it full from the third on.
+def overrun_case(name, part, line, told, rest):
+    lines = ['report 1', *TAPED, *stopped(4, 4), *rest, 'end']
+    told = f'jackd: r:{line}: {told}\n    {lines[line - 1]}'
+    wrong_case(name, part, told, {'s': text(*OPENED, 'run 4', header=[*HEADER, 'ring 2', 'drain 0', 'recorder 1 16']),
+        'r': ''.join(it + '\n' for it in lines).encode(), 'p': wave(data=bytes(512)), 't': wave(data=HEARD)}, [*CHECK, '--record', 't'])
+
+
+overrun_case('another number of blocks', 'recorder 1', 10, 'recorder 1: the number of blocks is 2, and 3 stands there',
+    ['recorder 0 3 2', 'overrun 0 3 2 0', 'overrun 0 4 2 0'])
+overrun_case('another number of blocks sent', 'overrun 2', 12, 'overrun 2: the number of blocks sent is 2, and 3 stands there',
+    ['recorder 0 2 2', 'overrun 0 3 2 0', 'overrun 0 4 3 0'])
+
+# A check ends as a play does where what is given is wrong.
+case('a check of no report', ['check', 's', 'c', 'nor', 'p'], 3, b'fault 3 read\n', 'jackd: nor: No such file or directory\n', files=STRAIGHT)
+case('a check of no playback file', ['check', 's', 'c', 'r', 'nop'], 3, b'fault 3 read\n', 'jackd: nop: No such file or directory\n', files=STRAIGHT)
+case('a check of a misspelt script', CHECK, 5, b'fault 5 script 7 Unknown\n', 'jackd: s:7: no command "strat"; is "start" meant?\n    do strat\n',
+    files={**STRAIGHT, 's': text('do strat', 'run 2')})
+case('a check of two channels', CHECK, 7, b'fault 7 differs Channels 1 2\n', 'jackd: the script has capture 1, c has 2 channels: sox c -c 1 new.wav\n',
+    files={**STRAIGHT, 'c': wave(form(channels=2))})
+case('a check of a text as the capture', CHECK, 4, b'fault 4 wave NotRiff\n', 'jackd: c: no RIFF WAVE file (begins "hell")\n',
+    files={**STRAIGHT, 'c': b'hello, this is no sound'})
+if os.path.exists('/dev/full'):
+    with open('/dev/full', 'wb') as full:
+        case('a check and a full standard output', CHECK, 6, None, 'jackd: standard output: No space left on device; the verdict is cut\n',
+            files=STRAIGHT, stdout=full)
+
 # The help and the version.
 version = subprocess.run([program, '--version'], stdout=subprocess.PIPE).stdout
 if not re.fullmatch(rb'jackd \d+\.\d+\.\d+\n', version):
@@ -370,7 +506,7 @@ case('the version, short', ['-V'], 0, version, '')
 help_text = subprocess.run([program, '--help'], stdout=subprocess.PIPE).stdout
 if b'jackd play SCRIPT CAPTURE PLAYBACK' not in help_text or b'docs/FORMATS.md' not in help_text:
     faults.append('the help does not name play and the formats')
-for words in [['-h'], ['help'], ['play', '--help'], ['play', '-h']]:
+for words in [['-h'], ['help'], ['play', '--help'], ['play', '-h'], ['check', '--help']]:
     case('the help, as ' + ' '.join(words), words, 0, help_text, '')
 
 for fault in faults[:30]:

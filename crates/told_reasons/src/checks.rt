@@ -38,6 +38,7 @@ pub fn of_check(
 // The number of the line that a row is of, where the report has it.
 fn line_of(text: &[u8], row: Row) -> Option<u32> {
     match row.what {
+        Part::Report if is_wave(text) => None,
         Part::Report => Some(row.number),
         // Calls stand behind the report's first line.
         Part::Call => Some(row.number.saturating_add(1)),
@@ -85,12 +86,22 @@ fn say_row(reason: &mut Reason, text: &[u8], row: Row, sight: Sight) -> Result<(
 
 // Why a line is none of a report.
 fn wrong_line(text: &[u8], number: u32) -> &'static str {
+    if is_wave(text) {
+        return "a WAVE file, and no report";
+    }
+    if number <= 1 {
+        return "a report begins with the line \"report 1\"";
+    }
+    if !text.is_empty() && !has_line(text, number) {
+        return "the report breaks off before its line \"end\"";
+    }
+    "no line of this script's report, in this place"
+}
+
+fn is_wave(text: &[u8]) -> bool {
     match text {
-        [b'R', b'I', b'F', b'F', ..] => "a WAVE file, and no report",
-        _ if number <= 1 => "a report begins with the line \"report 1\"",
-        [] => "no line of this script's report, in this place",
-        _ if !has_line(text, number) => "the report breaks off before its line \"end\"",
-        _ => "no line of this script's report, in this place",
+        [b'R', b'I', b'F', b'F', ..] => true,
+        _ => false,
     }
 }
 
