@@ -126,7 +126,13 @@ fn hint_of_graph<R: Files<File = File>>(
     };
     let mut out = MemorySink::new(alloc);
     match graph(alloc, &words, &mut host, &mut out) {
-        Ok(()) => of_feeds(alloc, names.play.script, names.report, out.as_bytes(), channel),
+        Ok(()) => of_feeds(
+            alloc,
+            names.play.script,
+            names.report,
+            out.as_bytes(),
+            channel,
+        ),
         Err(_) => Ok(None),
     }
 }

@@ -118,7 +118,9 @@ impl Reading {
             self.period = number_in(&mut words);
         } else if name == b"run".as_slice() {
             let cycles = number_in(&mut words);
-            self.frames = self.frames.saturating_add(cycles.saturating_mul(self.period));
+            self.frames = self
+                .frames
+                .saturating_add(cycles.saturating_mul(self.period));
         } else if name == b"playback".as_slice() {
             self.hear_file(words, Part::Playback, 0);
         } else if name == b"recorder".as_slice() {
