@@ -181,18 +181,17 @@ fn say_place(reason: &mut Reason, at: Place, made: Option<Made>) -> Result<(), A
     say_time(
         reason,
         frames_before(at.byte, made.format),
-        made.format.rate,
+        u64::from(made.format.rate),
     )?;
     say_channel(reason, at.channel, made.format.channels)
 }
 
 // Which frame of the file it is, and at which second it stands.
-fn say_time(reason: &mut Reason, frame: u64, rate: u32) -> Result<(), AllocError> {
+fn say_time(reason: &mut Reason, frame: u64, rate: u64) -> Result<(), AllocError> {
     if rate == 0 {
         return Ok(());
     }
-    let rate = u64::from(rate);
-    let thousandths = frame % rate * 1000 / rate;
+    let thousandths = (frame % rate).saturating_mul(1000) / rate;
     reason.tell(&[
         Text(" (frame "),
         Number(frame),
@@ -227,7 +226,7 @@ fn say_channel(reason: &mut Reason, channel: u16, channels: u16) -> Result<(), A
 
 // How many frames stand before a byte of a file.
 fn frames_before(byte: u64, format: Format) -> u64 {
-    let width = u64::from(format.channels) * u64::from(format.bits / 8);
+    let width = u64::from(format.channels).saturating_mul(u64::from(format.bits / 8));
     if width == 0 {
         return 0;
     }
