@@ -79,28 +79,32 @@ fn made_of<R: Files<File = File>>(
     made_by(&text, row)
 }
 
-// Whether another file of the play has the header that this one should have.
+// Whether a file that is looked at behind a record has the header that the record should have.
 fn hint_of_exchange<R: Files<File = File>>(
     rt: &R,
     alloc: Global,
     names: &CheckNames<'_>,
     row: Row,
 ) -> Told {
+    if row.what != Part::Record {
+        return Ok(None);
+    }
     let (Some(name), Some(made)) = (file_of(names, row), made_of(rt, alloc, names, row)) else {
         return Ok(None);
     };
     if made.is_told(&read_again(alloc, rt, name, HEADER)) {
         return Ok(None);
     }
-    for place in 0..=names.play.records() {
-        let other = if place == 0 {
-            names.play.playback
-        } else {
-            names.play.record(place - 1)
-        };
-        if other != name && made.is_told(&read_again(alloc, rt, other, HEADER)) {
-            return Ok(Some(of_exchange(alloc, name, other)?));
+    let behind = (row.number as usize).saturating_add(1);
+    for place in behind..names.play.records() {
+        let record = names.play.record(place);
+        if made.is_told(&read_again(alloc, rt, record, HEADER)) {
+            return Ok(Some(of_exchange(alloc, name, record)?));
         }
+    }
+    let playback = names.play.playback;
+    if made.is_told(&read_again(alloc, rt, playback, HEADER)) {
+        return Ok(Some(of_exchange(alloc, name, playback)?));
     }
     Ok(None)
 }
@@ -122,7 +126,13 @@ fn hint_of_graph<R: Files<File = File>>(
     };
     let mut out = MemorySink::new(alloc);
     match graph(alloc, &words, &mut host, &mut out) {
-        Ok(()) => of_feeds(alloc, names.play.script, names.report, out.as_bytes(), channel),
+        Ok(()) => of_feeds(
+            alloc,
+            names.play.script,
+            names.report,
+            out.as_bytes(),
+            channel,
+        ),
         Err(_) => Ok(None),
     }
 }

@@ -25,13 +25,13 @@ on it go to standard output.
 REPORT is what a play of SCRIPT printed, and CYCLE the number of one of its cycles. The graph that
 the cycle used goes to standard output: as lines, or with --dot as a digraph for graphviz.
 
-A check decides whether REPORT explains PLAYBACK and each PATH: \"check ok\", or the first wrong part,
-goes to standard output. It makes no file.
+A check decides whether REPORT explains PLAYBACK and each PATH. What goes to standard output is
+\"check ok\", or the first part that is wrong. No file is made.
 
 Exit codes: 0 played, or explained, 1 no memory, 2 other words or no such cycle, 3 a file could not
 be read, 4 the capture is no WAVE file that is read, 5 the script can't be played, 6 a file could
-not be written, 7 the script and what it is played with differ, 8 the report is none of the script's,
-or does not explain its files.
+not be written, 7 the script and what it is played with differ, 8 the report is none of the
+script's, or does not explain its files.
 
 The sources have the formats of scripts and reports in docs/FORMATS.md, and sessions in examples/.";
 

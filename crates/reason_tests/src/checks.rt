@@ -120,9 +120,21 @@ fn a_wrong_sample_is_told_by_its_place(rt: HostRuntime) -> Result<(), AllocError
             byte,
             "jackd: p: byte 40, in its header, the size of the samples: 1 is expected, 2 stands there\n",
         ),
-        (124, Sight::Short, "jackd: p: it ends behind 20 of 160 frames\n"),
-        (20, Sight::Short, "jackd: p: the file ends after 20 bytes, within its header\n"),
-        (684, Sight::Long, "jackd: p: it goes on behind the 160 frames that are expected\n"),
+        (
+            124,
+            Sight::Short,
+            "jackd: p: it ends behind 20 of 160 frames\n",
+        ),
+        (
+            20,
+            Sight::Short,
+            "jackd: p: the file ends after 20 bytes, within its header\n",
+        ),
+        (
+            684,
+            Sight::Long,
+            "jackd: p: it goes on behind the 160 frames that are expected\n",
+        ),
     ];
     for (place, sight, told) in cases {
         let reason = of_checked_file(rt.alloc(), "p", &front, wanted, place, sight)?;

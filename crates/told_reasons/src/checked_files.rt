@@ -42,7 +42,10 @@ pub fn of_checked_file(
     let mut reason = Reason::new(alloc)?;
     reason.tell(&[Shown(name.as_bytes()), Text(": ")])?;
     match sight {
-        Sight::Byte { wanted: byte, found } => {
+        Sight::Byte {
+            wanted: byte,
+            found,
+        } => {
             say_byte(&mut reason, place, byte, found)?;
             say_header(&mut reason, made_in(front), wanted)?;
         }
@@ -142,10 +145,7 @@ fn say_header(
         return say_wanted(reason, u64::from(wanted.format.channels));
     }
     if found.format.rate != wanted.format.rate {
-        reason.tell(&[
-            Text("; it has rate "),
-            Number(u64::from(found.format.rate)),
-        ])?;
+        reason.tell(&[Text("; it has rate "), Number(u64::from(found.format.rate))])?;
         return say_wanted(reason, u64::from(wanted.format.rate));
     }
     if found.format.bits != wanted.format.bits {
@@ -178,17 +178,20 @@ fn say_place(reason: &mut Reason, at: Place, made: Option<Made>) -> Result<(), A
     let Some(made) = made else {
         return say_channel(reason, at.channel, 0);
     };
-    say_time(reason, frames_before(at.byte, made.format), made.format.rate)?;
+    say_time(
+        reason,
+        frames_before(at.byte, made.format),
+        u64::from(made.format.rate),
+    )?;
     say_channel(reason, at.channel, made.format.channels)
 }
 
 // Which frame of the file it is, and at which second it stands.
-fn say_time(reason: &mut Reason, frame: u64, rate: u32) -> Result<(), AllocError> {
+fn say_time(reason: &mut Reason, frame: u64, rate: u64) -> Result<(), AllocError> {
     if rate == 0 {
         return Ok(());
     }
-    let rate = u64::from(rate);
-    let thousandths = frame % rate * 1000 / rate;
+    let thousandths = (frame % rate).saturating_mul(1000) / rate;
     reason.tell(&[
         Text(" (frame "),
         Number(frame),
@@ -214,13 +217,16 @@ fn say_channel(reason: &mut Reason, channel: u16, channels: u16) -> Result<(), A
         (1, _) => Ok(()),
         (2, 0) => reason.say(", left channel"),
         (2, 1) => reason.say(", right channel"),
-        _ => reason.tell(&[Text(", channel "), Number(u64::from(channel).saturating_add(1))]),
+        _ => reason.tell(&[
+            Text(", channel "),
+            Number(u64::from(channel).saturating_add(1)),
+        ]),
     }
 }
 
 // How many frames stand before a byte of a file.
 fn frames_before(byte: u64, format: Format) -> u64 {
-    let width = u64::from(format.channels) * u64::from(format.bits / 8);
+    let width = u64::from(format.channels).saturating_mul(u64::from(format.bits / 8));
     if width == 0 {
         return 0;
     }
@@ -239,10 +245,12 @@ fn say_short(reason: &mut Reason, place: u64, made: Option<Made>) -> Result<(), 
         ]);
     }
     match made {
-        Some(Made {
-            format,
-            frames: Some(frames),
-        }) => reason.tell(&[
+        Some(
+            Made {
+                format,
+                frames: Some(frames),
+            },
+        ) => reason.tell(&[
             Text("it ends behind "),
             Number(frames_before(place, format)),
             Text(" of "),

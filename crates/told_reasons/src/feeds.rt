@@ -1,6 +1,6 @@
 //! Which ports feed a channel of a file, by the graph of a cycle.
 
-ghost use Rattle.std.specs.Prelude.{IfOk};
+ghost use Rattle.std.specs.Prelude.{IfOk, IfSome};
 ghost use Rattle.reason_text.specs.Reasons.{IsReason};
 
 use crate::lines::{first_line, word_at};
@@ -28,7 +28,9 @@ pub fn of_feeds(
     report: &str,
     graph: &[u8],
     channel: Channel,
-) -> Result<Option<Reason>, AllocError> {
+) -> Result<Option<Reason>, AllocError>
+    ensures { IfOk result (λ told. IfSome told IsReason) }
+{
     let Some(port) = port_of(graph, channel) else {
         return Ok(None);
     };
@@ -59,6 +61,9 @@ fn say_sources(reason: &mut Reason, graph: &[u8], port: &[u8]) -> Result<(), All
     let mut rest = graph;
     let mut found = false;
     for _ in 0..graph.len() {
+        if rest.is_empty() {
+            break;
+        }
         let (line, behind) = first_line(rest);
         if word_at(line, 0) == b"connected".as_slice() && word_at(line, 2) == port {
             reason.tell(&[Text(" "), Shown(word_at(line, 1))])?;
@@ -78,6 +83,9 @@ fn port_of(graph: &[u8], channel: Channel) -> Option<&[u8]> {
     let mut is_below = false;
     let mut left = channel.number;
     for _ in 0..graph.len() {
+        if rest.is_empty() {
+            return None;
+        }
         let (line, behind) = first_line(rest);
         rest = behind;
         if word_at(line, 0) == b"client".as_slice() {

@@ -50,7 +50,7 @@ pub fn made_in(front: &[u8]) -> Option<Made> {
     if front.len() < HEADER {
         return None;
     }
-    let align = u16_at(front, 32);
+    let align = u64::from(u16_at(front, 32));
     if align == 0 {
         return None;
     }
@@ -59,7 +59,7 @@ pub fn made_in(front: &[u8]) -> Option<Made> {
         channels: u16_at(front, 22),
         bits: u16_at(front, 34),
     };
-    let frames = u64::from(u32_at(front, 40)) / u64::from(align);
+    let frames = u64::from(u32_at(front, 40)) / align;
     Some(Made {
         format,
         frames: Some(frames),
@@ -118,7 +118,9 @@ impl Reading {
             self.period = number_in(&mut words);
         } else if name == b"run".as_slice() {
             let cycles = number_in(&mut words);
-            self.frames = self.frames.saturating_add(cycles.saturating_mul(self.period));
+            self.frames = self
+                .frames
+                .saturating_add(cycles.saturating_mul(self.period));
         } else if name == b"playback".as_slice() {
             self.hear_file(words, Part::Playback, 0);
         } else if name == b"recorder".as_slice() {
