@@ -2,8 +2,9 @@
 # The graph of each cycle of each session of examples/, and of some rows of tests/rows, is the one that scripts/graphs.py
 # computes from the script and the report. With --dot it has a box a client and an arrow a connection. Reports with a number
 # that is one higher or lower, and with a line left out, doubled or exchanged with the next, are answered as scripts/graphs.py
-# answers them: what stands behind the cycle's line changes nothing. Then the faults of words, files, scripts and standard
-# output, and how long the last of 1,000,000 cycles takes.
+# answers them: what stands behind the cycle's line changes nothing. The same holds of the reports of tests/graphs, which no play
+# prints, and what is wrong in each of their cases is what is written there (scripts/cases.py reads them). Then the faults of
+# words, files, scripts and standard output, and how long the last of 1,000,000 cycles takes.
 set -u
 # shellcheck source=scripts/program.sh
 . "$(dirname "$0")/program.sh" python3
@@ -14,6 +15,7 @@ import glob, os, re, subprocess, sys, time
 from concurrent.futures import ThreadPoolExecutor
 
 sys.path.insert(0, 'scripts')
+from cases import all_in
 from graphs import Script, answer
 
 program, folder = os.path.abspath(sys.argv[1]), sys.argv[2]
@@ -136,6 +138,19 @@ for row in ROWS:
         if report:
             session(f'{row}/{os.path.basename(script)}', script, report)
 
+# Reports from paper: of the last cycle what is wrong in each case.
+from_paper = 0
+for place, cases in all_in('tests/graphs'):
+    script, report, other = f'{place}/s', f'{folder}/report', f'{folder}/case'
+    open(report, 'w').write(cases.report)
+    session(os.path.basename(place), script, report)
+    for what, text, wrong in cases.all:
+        open(other, 'w').write(text)
+        code, line, _ = compare(f'{place}: {what}', script, other, Script(open(script).read()).cycles)
+        from_paper += 1
+        if (code, line) != (8, f'check wrong {wrong}\n') and (code, wrong) != (0, 'ok'):
+            faults.append(f'{place}: {what}: {code} {line!r}, and not {wrong}')
+
 # Faults of the words, the files and the script.
 SCRIPT, REPORT = 'examples/patch.session', 'examples/patch.report'
 HELP = "try 'jackd --help'\n"
@@ -194,6 +209,6 @@ speed = os.path.getsize(report) / min(took) / 1e6
 for fault in faults[:20]:
     print('check-graph:', fault)
 if not faults:
-    print(f'check-graph: passed, {graphs} graphs, {dots} of them drawn, {changed} changed reports of which {refused} are refused; the last of {CYCLES} cycles in {min(took):.2f} s, {speed:.0f} MB/s')
+    print(f'check-graph: passed, {graphs} graphs, {dots} of them drawn, {changed} changed reports of which {refused} are refused, {from_paper} cases from paper; the last of {CYCLES} cycles in {min(took):.2f} s, {speed:.0f} MB/s')
 sys.exit(bool(faults))
 PY

@@ -3,6 +3,10 @@
 # the program has no `check`, scripts/verdicts.py tells its verdicts alone: that each play is explained, and what is wrong with
 # what was changed.
 #
+# First the cases of tests/verdicts, which scripts/cases.py reads: sessions from paper, each with what is wrong first in its report
+# where a line of it is another one. A play leaves the report and the files that are written there, and both verdicts, that of
+# scripts/verdicts.py and that of the program, are the written one.
+#
 # Each session of examples/, each row of tests/rows that is played to its end, and two sessions of this script are played and
 # checked: `check ok`. Then reports and files of some of them are changed, some $CHANGES (2,000) in all, chosen by $SEED (0):
 #
@@ -27,6 +31,7 @@ from concurrent.futures import ThreadPoolExecutor
 sys.dont_write_bytecode = True
 sys.path.insert(0, 'scripts')
 import explained, verdicts
+from cases import all_in
 from rows import read
 
 jackd, checks, wanted, chance = sys.argv[1], sys.argv[2] == 'checks', int(os.environ.get('CHANGES', 2000)), random.Random(int(os.environ.get('SEED', 0)))
@@ -91,10 +96,13 @@ class Session:
         with open(f'{self.folder}/{name}', 'wb') as it:
             it.write(held)
 
-    def check(self, number, what, changed):
-        """Checks with some files changed. Anything but what is computed is a fault."""
+    def check(self, number, what, changed, wanted=None):
+        """Checks with some files changed. Anything but what is wanted, or else what is computed, is a fault."""
         files = {**self.held, **changed}
         line, code = verdicts.line_of(self.checker.verdict(files['o'], [files[name] for name in self.outputs]))
+        if wanted not in (None, line):
+            faults.append(f'{self.name}: {what}: scripts/verdicts.py says {line!r}, and not {wanted!r}')
+            line, code = wanted, 0 if wanted == 'check ok\n' else 8
         if not checks:
             return line.split()[2 if code else 1]
         name_of = {name: f'{name}-{number}' if name in changed else name for name in files}
@@ -288,6 +296,18 @@ def judge(session, changes):
         verdicts_told[part] += 1
 
 
+def judge_cases(folder, cases, top):
+    """Plays a session from paper, and checks its report as it is and in each case."""
+    paper = {name.split('.')[0]: read(f'{folder}/{name}') for name in os.listdir(folder) if name not in ('lines', 'changes')}
+    session = Session(os.path.basename(folder), paper['s'], paper['c'], top)
+    paper['o'] = cases.report.encode()
+    for name in sorted({*paper, *session.held}):
+        if paper.get(name) != session.held.get(name):
+            faults.append(f'{session.name}: a play leaves another file {name} than is written there')
+    judge(session, [(what, {'o': report.encode()}, f'check wrong {wrong}\n' if wrong != 'ok' else 'check ok\n') for what, report, wrong in [('as it is', cases.report, 'ok'), *cases.all]])
+    return session
+
+
 # What is no case, by the words at these places, and what is answered in its place.
 NO_CASES = (
     ({0: 'Check'}, 2, 'fault 2 words'), ({3: ''}, 2, 'fault 2 words'), ({4: '-x'}, 2, 'fault 2 words'), ({4: 'c'}, 2, 'fault 2 words'), ({-2: '--records'}, 2, 'fault 2 words'),
@@ -345,6 +365,8 @@ def sessions_in(top):
 
 
 with tempfile.TemporaryDirectory() as top:
+    worked = [judge_cases(folder, cases, top) for folder, cases in all_in('tests/verdicts')]
+    from_paper = sum(verdicts_told.values())
     sessions = []
     for name, script, capture in sessions_in(top):
         try:
@@ -369,11 +391,11 @@ with tempfile.TemporaryDirectory() as top:
             for kind in kinds:
                 chance.shuffle(kind)
             judge(session, list(filter(None, itertools.chain(*itertools.zip_longest(*kinds))))[:left])
-    for session in sessions:
+    for session in [*worked, *sessions]:
         if held_in(session.folder) != session.held:
             faults.append(f'{session.name}: a check changed its files')
 
-changes = sum(verdicts_told.values())
+changes = sum(verdicts_told.values()) - from_paper
 for part in ('ok', 'report', 'call', 'cycle', 'meter', 'recorder', 'overrun', 'record', 'playback'):
     if verdicts_told[part] < min(10, wanted // 200):
         faults.append(f'{verdicts_told[part]} changes are answered by {part}')
@@ -381,6 +403,6 @@ for fault in faults[:40]:
     print('check-verdicts:', fault)
 if not faults:
     alone = '' if checks else ', by scripts/verdicts.py alone, since the program has no check'
-    print(f'check-verdicts: passed{alone}: {len(sessions)} plays are explained; {changes} changes, answered by', ', '.join(f'{part} {count}' for part, count in sorted(verdicts_told.items())))
+    print(f'check-verdicts: passed{alone}: {len(sessions)} plays are explained; {from_paper} cases from paper and {changes} changes, answered by', ', '.join(f'{part} {count}' for part, count in sorted(verdicts_told.items())))
 sys.exit(bool(faults))
 PY

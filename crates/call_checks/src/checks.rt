@@ -46,6 +46,8 @@ pub struct CallChecks {
     graph: Graph,
     latencies: Latencies,
     wrong: bool,
+    // The reply of the graph to the call that was wrong, if it was asked.
+    wanted: Option<Reply>,
 }
 
 impl Model for CallChecks {
@@ -126,6 +128,7 @@ impl CallChecks {
             graph,
             latencies,
             wrong: false,
+            wanted: None,
         })
     }
 
@@ -146,6 +149,11 @@ impl CallChecks {
                 false
             }
         }
+    }
+
+    /// The graph's reply to the call that was wrong, if only its reply was. It is for people: no clause rests on it.
+    pub fn wanted(&self) -> Option<Reply> {
+        self.wanted
     }
 
     /// What the calls that were right changed of the graph, in their order.
@@ -246,6 +254,7 @@ impl CallChecks {
         );
         if reply != *told {
             self.wrong = true;
+            self.wanted = Some(reply);
             return false;
         }
         keep_change(&mut self.changes, &call, reply);

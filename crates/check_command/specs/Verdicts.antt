@@ -3,7 +3,6 @@
 --     line_of, status_of verdict      its line and its status
 --     answer_of verdict      what a check answers that has no verdict
 use Rattle.std.specs.Prelude.{ℕ, List, Result, Ok as Answered, Err}
-use Rattle.check_sights.specs.declared.sights.Sight.TheVariants.{Nothing}
 use Rattle.session_model.specs.Checking.{IsFirstWrong}
 use Rattle.session_model.specs.Explanations.{Given, Written}
 use Rattle.session_check.specs.declared.verdict.CheckFault.{CheckFault}
@@ -24,7 +23,7 @@ line_of (IsWrong row sight) = wrong_line row
 
 abbrev pub status_of : Verdict → Status
 status_of IsRight = Ok
-status_of (IsWrong row sight) = Wrong row Nothing
+status_of (IsWrong row sight) = Wrong row sight
 
 abbrev pub answer_of : Result Verdict CheckFault → Result Verdict Status
 answer_of (Answered verdict) = Answered verdict

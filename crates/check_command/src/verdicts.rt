@@ -8,7 +8,7 @@ ghost use Rattle.check_command.specs.Lines.{place_text, wrong_line};
 ghost use Rattle.check_command.specs.Verdicts.{line_of, status_of};
 
 use arrayvec::ArrayString;
-use check_sights::{Sight, name_of_part};
+use check_sights::name_of_part;
 use itoa::Buffer;
 use jack_host::Sink;
 use jack_types::{Part, Row};
@@ -74,7 +74,7 @@ fn status_of_verdict(verdict: Verdict) -> Status
 {
     match verdict {
         Verdict::Explained => Status::Ok,
-        Verdict::Wrong(row, _) => Status::Wrong(row, Sight::Nothing),
+        Verdict::Wrong(row, sight) => Status::Wrong(row, sight),
     }
 }
 

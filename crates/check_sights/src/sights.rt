@@ -39,7 +39,8 @@ pub enum Sight {
     Missing,
     /// A line that nothing asks for.
     Extra,
-    /// A sample of a file, and its cycle, counted from 1, and its frame in that cycle and its channel, counted from 0.
+    /// A sample of a file: its cycle, counted from 1, its frame in that cycle and its channel, counted from 0, and the numbers as
+    /// the file stores them, at 8 bits without a sign.
     Sample {
         cycle: u32,
         frame: u32,
@@ -47,7 +48,7 @@ pub enum Sight {
         wanted: i32,
         found: i32,
     },
-    /// A byte of the header of a file.
+    /// A byte of the header of a file, or the pad byte at its end.
     Byte {
         wanted: u8,
         found: u8,

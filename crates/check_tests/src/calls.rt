@@ -2,7 +2,8 @@
 
 use crate::scripts::{script_of, segments_of};
 use check_parts::{CallsFault, RightCalls, check_calls};
-use jack_types::Refusal;
+use check_sights::Sight;
+use jack_types::{Refusal, Reply};
 use report_reader::{CallLine, ReplyLine};
 use script_segments::laws::segments_are_the_phases;
 use std::alloc::{AllocError, Global};
@@ -131,12 +132,17 @@ fn a_wrong_call_is_named(rt: HostRuntime) -> Result<(), Fail> {
     let reply = call(0, 3, ReplyLine::Accepted(4));
     assert_eq!(rt;
         third_call_is(&rt, alloc, reply)?,
-        Some(CallsFault::Wrong(3))
+        Some(CallsFault::Wrong(
+            3,
+            Sight::Reply {
+                wanted: Reply::Accepted(3)
+            }
+        ))
     );
     let lane = call(5, 3, ReplyLine::Accepted(3));
     assert_eq!(rt;
         third_call_is(&rt, alloc, lane)?,
-        Some(CallsFault::Wrong(3))
+        Some(CallsFault::Wrong(3, Sight::Missing))
     );
     Ok(())
 }
@@ -148,7 +154,7 @@ fn a_missing_call_is_wrong(rt: HostRuntime) -> Result<(), Fail> {
         let rows = lanes_rows(alloc, count)?;
         assert_eq!(rt;
             fault_in(&rt, alloc, LANES, rows.as_slice()),
-            Some(CallsFault::Wrong(count as u32 + 1))
+            Some(CallsFault::Wrong(count as u32 + 1, Sight::Missing))
         );
     }
     Ok(())
@@ -170,10 +176,10 @@ fn a_large_latency_is_wrong(rt: HostRuntime) {
     assert_eq!(rt; latency_fault(&rt, alloc, 0, 0), None);
     assert_eq!(rt;
         latency_fault(&rt, alloc, 4294967296, 0),
-        Some(CallsFault::Wrong(1))
+        Some(CallsFault::Wrong(1, Sight::Nothing))
     );
     assert_eq!(rt;
         latency_fault(&rt, alloc, 0, 9999999999999999999),
-        Some(CallsFault::Wrong(1))
+        Some(CallsFault::Wrong(1, Sight::Nothing))
     );
 }

@@ -4,7 +4,8 @@ ghost use Rattle.std.specs.Prelude.{◌≡◌, ◌≤◌, ◌<◌, ◌+◌, ◌^
 ghost use Rattle.report_reader.specs.declared.rows.Loss.{Loss as LossValue};
 
 use crate::scripts::{script_of, segments_of};
-use check_parts::{Takings, wrong_overrun, wrong_recorder};
+use check_parts::{Takings, overrun_sight, recorder_sight, wrong_overrun, wrong_recorder};
+use check_sights::{Number, Sight};
 use report_reader::{Count, Loss};
 use std::alloc::Global;
 use std::process::Abort;
@@ -145,6 +146,40 @@ fn overruns_in_another_order_are_wrong(rt: HostRuntime) {
     );
 }
 
+fn numbers(what: Number, wanted: u64, found: u64) -> Sight {
+    Sight::Number {
+        what,
+        wanted,
+        found,
+    }
+}
+
+/// What is seen at an overrun of the first recorder of `TAPES`, alone.
+fn seen(rt: &impl Abort, alloc: Global, loss: Loss) -> Sight {
+    let script = script_of(rt, alloc, TAPES);
+    let found = segments_of(rt, alloc, &script);
+    let takings = noted(rt, alloc, &[loss], 0);
+    overrun_sight(&script, found.as_slice(), &takings, &loss)
+}
+
+#[test]
+fn counts_of_another_ring_are_seen(rt: HostRuntime) {
+    let alloc = rt.alloc();
+    assert_eq!(rt;
+        seen(&rt, alloc, loss(0, 3, 3, 1)),
+        numbers(Number::Sent, 2, 3)
+    );
+    assert_eq!(rt;
+        seen(&rt, alloc, loss(0, 3, 2, 1)),
+        numbers(Number::Taken, 0, 1)
+    );
+    // one block does not fill the ring
+    assert_eq!(rt; seen(&rt, alloc, loss(0, 2, 1, 0)), Sight::Nothing);
+    // a freewheel cycle, and no cycle
+    assert_eq!(rt; seen(&rt, alloc, loss(0, 5, 3, 2)), Sight::Nothing);
+    assert_eq!(rt; seen(&rt, alloc, loss(0, 10, 9, 7)), Sight::Nothing);
+}
+
 fn blocks(file: u64, blocks: u64) -> Count {
     Count {
         file,
@@ -167,4 +202,9 @@ fn recorders_tell_the_blocks_kept(rt: HostRuntime) {
     assert_eq!(rt; wrong_blocks(&rt, alloc, 6, 8), Some(1));
     assert_eq!(rt; wrong_blocks(&rt, alloc, 7, 9), Some(2));
     assert_eq!(rt; wrong_blocks(&rt, alloc, 4294967303, 8), Some(1));
+    let takings = noted(&rt, alloc, &[loss(0, 3, 2, 0), loss(0, 4, 2, 0)], 0);
+    assert_eq!(rt;
+        recorder_sight(&takings, &blocks(0, 6)),
+        numbers(Number::Blocks, 7, 6)
+    );
 }

@@ -10,6 +10,8 @@ mod parts;
 #[cfg(test)]
 mod plain;
 #[cfg(test)]
+mod report;
+#[cfg(test)]
 mod sums;
 #[cfg(test)]
 mod transports;

@@ -1,6 +1,7 @@
 //! The line that tells of a fault.
 
-ghost use Rattle.std.specs.Prelude.{◌≡◌, ◌+◌, ◌≤◌, ◌++◌, [], IfNone, IfSome, None, Some, decimal, length};
+ghost use Rattle.std.specs.Prelude.{◌≡◌, ◌+◌, ◌≤◌, ◌⊎◌, ◌++◌, [], IfNone, IfSome, None, Some, decimal, length};
+ghost use Rattle.play_inputs.specs.Answers.{HasLine};
 ghost use Rattle.play_inputs.specs.FaultLines.{cause_name, fault_line, field_name, PutsFault, wave_name};
 
 use crate::{Difference, Status};

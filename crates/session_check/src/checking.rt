@@ -4,7 +4,7 @@ ghost use Rattle.std.specs.Prelude.{◌≡◌, ◌≤◌, ℕ, All, IsErrOf, Ok,
 ghost use Rattle.session_model.specs.Checking.{IsFirstWrong};
 ghost use Rattle.session_model.specs.Explanations.{Explained, Given, Printed, Written};
 ghost use Rattle.jack_types.specs.declared.replies.Row.{Row as RowValue};
-ghost use Rattle.session_check.specs.declared.verdict.Sight.{Sight as SightValue};
+ghost use Rattle.check_sights.specs.declared.sights.Sight.{Sight as SightValue};
 ghost use Rattle.task_laws.specs.Calls.{guests_needed};
 ghost use Rattle.check_walk.specs.Walkings.{IsServed};
 ghost use Rattle.session_check.specs.Cases.{IsCase, IsUntouched, left_of};
@@ -18,9 +18,11 @@ use crate::calling::{Ready, called};
 use crate::comparing::compared;
 use crate::listing::listed;
 use crate::pass::{Pass, Stop};
-use crate::verdict::{CheckFault, Sight, Verdict, row_of};
+use crate::sights::sight_of;
+use crate::verdict::{CheckFault, Verdict, row_of};
 use crate::walking::walked;
 use check_parts::CallsFault;
+use check_sights::Sight;
 use check_walk::Walk;
 use client_kinds::Guest;
 use driver_laws::endings::{all_is_played_back, blocks_kept_are_recorded};
@@ -48,10 +50,10 @@ pub struct Checked<S: Source> {
     pub records: Vec<Compare<S>>,
 }
 
-fn wrong(row: Row) -> Result<Verdict, CheckFault>
-    ensures { result ≡ Ok (Verdict.Wrong row Sight.None) }
+fn wrong(row: Row, sight: Sight) -> Result<Verdict, CheckFault>
+    ensures { result ≡ Ok (Verdict.Wrong row sight) }
 {
-    Ok(Verdict::Wrong(row, Sight::None))
+    Ok(Verdict::Wrong(row, sight))
 }
 
 // What a report that is not whole answers.
@@ -61,7 +63,7 @@ fn of_report(fault: ReportFault) -> Result<Verdict, CheckFault>
     match fault {
         ReportFault::Read => Err(CheckFault::Read),
         ReportFault::Memory => Err(CheckFault::Memory),
-        ReportFault::Wrong(number) => wrong(row_of(Part::Report, number)),
+        ReportFault::Wrong(number) => wrong(row_of(Part::Report, number), Sight::Nothing),
     }
 }
 
@@ -71,7 +73,7 @@ fn of_calls(fault: CallsFault) -> Result<Verdict, CheckFault>
 {
     match fault {
         CallsFault::Memory => Err(CheckFault::Memory),
-        CallsFault::Wrong(number) => wrong(row_of(Part::Call, number)),
+        CallsFault::Wrong(number, sight) => wrong(row_of(Part::Call, number), sight),
     }
 }
 
@@ -106,17 +108,21 @@ fn judged<S: Source, G: Guest + Send, T: Threads + Sync, K: Gate>(
     }
     match walked(threads, gate, script, segments, told, pass) {
         Ok(()) => {}
-        Err(Stop::Cycle(number)) => return wrong(row_of(Part::Cycle, number)),
+        Err(Stop::Cycle(number, sight)) => return wrong(row_of(Part::Cycle, number), sight),
         Err(Stop::Read) => return Err(CheckFault::Read),
     }
     let found = listed(script, segments, told, pass);
     if let Some(row) = found {
-        return wrong(row);
+        let sight = sight_of(script, segments, told, pass, &row);
+        return wrong(row, sight);
     }
     let header = script.header();
     match compared(&header, &mut pass.records, &mut pass.playback) {
         Ok(None) => Ok(Verdict::Explained),
-        Ok(Some(row)) => wrong(row),
+        Ok(Some(row)) => {
+            let sight = sight_of(script, segments, told, pass, &row);
+            wrong(row, sight)
+        }
         Err(_) => Err(CheckFault::Read),
     }
 }

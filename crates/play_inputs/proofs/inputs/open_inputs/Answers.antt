@@ -22,7 +22,9 @@ returns-in-Some-clause-fault g c = λ scores many.
     (counted script scores play _ _ _ _ c.difference_of.ensures (sym many) c.records.ensures.value c.disks.ensures.value _ c.in-Some.is)
 
 pub returns-in_err-capture-clause-fault : goal.returns-in_err-capture-clause-fault
-returns-in_err-capture-clause-fault g c = λ scores many.
+returns-in_err-capture-clause-fault g c =
+    let failed = err_from_is_err_and c.from_residual-in_err-capture.result c.from_residual-in_err-capture.ensures.1 in
+    rw (failed.1, failed.2) (λ scores many.
     let files = g.H.Host.files c.args.host.now in
     let play = c.args.names.now in
     let script = c.in_ok-script.script in
@@ -32,8 +34,7 @@ returns-in_err-capture-clause-fault g c = λ scores many.
     let told : CaptureStatus after play.capture script.header c.in_err-capture.field-0.0 =
     subst (λ (header : Header). CaptureStatus after play.capture header c.in_err-capture.field-0.0) c.header-header.ensures.value
     (subst (λ (name : List ℕ). CaptureStatus after name c.header-header.result c.in_err-capture.field-0.0) (ap (λ (p : Play). p.capture) c.names.view_is) c.in_err-capture.ensures.fault) in
-    let failed = err_from_is_err_and c.from_residual-in_err-capture.result c.from_residual-in_err-capture.ensures.1 in
-    rw (failed.1, failed.2) (capture-status files scores play script is after c.read_script.ensures.files fits c.in_err-capture.field-0.0 told)
+    capture-status files scores play script is after c.read_script.ensures.files fits c.in_err-capture.field-0.0 told)
 
 pub returns-in_err-capture-clause-read : goal.returns-in_err-capture-clause-read
 returns-in_err-capture-clause-read g c = λ e scores many.
@@ -64,8 +65,8 @@ returns-clause-opened g c = λ scores many.
 
 pub returns-clause-fits : goal.returns-clause-fits
 returns-clause-fits g c =
-    let script = c.in_ok-script.script in
-    all_fit script c.args.guests _ _ (sym c.difference_of.ensures ∙ c.in_default.is)
+    let all = all_fit c.in_ok-script.script c.args.guests c.records.result c.disks.result (sym c.difference_of.ensures ∙ c.in_default.is) in
+    (all.0, all.1 ∙ c.records.ensures.value, all.2 ∙ c.disks.ensures.value)
 
 pub returns-clause-files : goal.returns-clause-files
 returns-clause-files g c = same_after _ _ _ c.read_script.ensures.files (same_after _ _ _ c.open_capture.ensures.files (search rules))
