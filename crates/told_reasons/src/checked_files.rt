@@ -78,7 +78,7 @@ pub fn of_checked_file(
 }
 
 /// Another file has what was expected of this one.
-pub fn of_exchange(alloc: Global, name: &str, other: &str) -> Result<Reason, AllocError>
+pub fn of_exchange<'a>(alloc: Global, name: &'a str, other: &'a str) -> Result<Reason, AllocError>
     ensures { IfOk result IsReason }
 {
     Reason::line(
