@@ -23,11 +23,12 @@ ghost use Rattle.play_inputs.specs.declared.status.Status.{Status as StatusValue
 use crate::opening::open_session;
 use crate::playing::play_session;
 use crate::rehearsing::rehearse;
+use check_command::check_named;
 use client_kinds::Guest;
 use jack_host::{Gate, Host, Sink};
 use play_inputs::{Status, put_fault, put_line};
-use play_words::laws::{words_name_one_command, words_name_one_play};
-use play_words::{Names, play_names, rehearsal_number};
+use play_words::laws::{words_name_one_check, words_name_one_command, words_name_one_play};
+use play_words::{Names, check_names, play_names, rehearsal_number};
 use std::alloc::Global;
 use std::sync::Wait;
 use std::thread::Threads;
