@@ -418,17 +418,17 @@ wrong_case('a playback that goes on', 'playback 0 300', 'jackd: p: it goes on be
     {'p': wave(data=HEARD) + bytes(2)})
 # 48,000 is 0xbb80, and 44,100 0xac44.
 wrong_case('a playback of another rate', 'playback 0 24',
-    'jackd: p: byte 24, in its header, the rate: 128 is expected, 68 stands there; it has rate 44100, where the script has 48000',
+    'jackd: p: byte 24, the rate in its header: 128 is expected, 68 stands there; it has rate 44100, where the script has 48000',
     {'p': wave(form(rate=44100), HEARD)})
 # 36 bytes stand behind the size in the header, and 256 bytes of samples: 0x124, where 100 frames of 2 bytes have 0xec.
 wrong_case('a playback of another session', 'playback 0 4',
-    'jackd: p: byte 4, in its header, the size of the file: 36 is expected, 236 stands there; it has 100 frames, where the script has 128',
+    'jackd: p: byte 4, the size of the file in its header: 36 is expected, 236 stands there; it has 100 frames, where the script has 128',
     {'p': wave(data=HEARD[:200])})
 OPENED = ['do open tape record 0', 'do register tape:in in audio', 'do activate tape', 'do connect system:capture_1 tape:in']
 TAPED = [f'call 0 {k} ok {k}' for k in range(1, 5)]
 eighth = {'s': text(*OPENED, 'run 2', header=[*HEADER, 'recorder 1 8']), 'r': report(TAPED, stopped(2, 4), ['recorder 0 2 0'])}
 wrong_case('two files exchanged', 'record 0 4',
-    'jackd: t: byte 4, in its header, the size of the file: 164 is expected, 36 stands there; it has 16 bits a sample, where the script has 8\n'
+    'jackd: t: byte 4, the size of the file in its header: 164 is expected, 36 stands there; it has 16 bits a sample, where the script has 8\n'
     'jackd: p has the header that t should have; are the two exchanged?',
     {**eighth, 'p': wave(form(bits=8), bytes(128)), 't': wave(data=bytes(256))}, [*CHECK, '--record', 't'])
 # The record of 16 bits is the capture, and the playback is silent. The last byte of frame 1 is changed.

@@ -118,7 +118,7 @@ fn a_wrong_sample_is_told_by_its_place(rt: HostRuntime) -> Result<(), AllocError
         (
             40,
             byte,
-            "jackd: p: byte 40, in its header, the size of the samples: 1 is expected, 2 stands there\n",
+            "jackd: p: byte 40, the size of the samples in its header: 1 is expected, 2 stands there\n",
         ),
         (
             124,
@@ -144,7 +144,7 @@ fn a_wrong_sample_is_told_by_its_place(rt: HostRuntime) -> Result<(), AllocError
     let reason = of_checked_file(rt.alloc(), "q", &front, record, 34, byte)?;
     assert!(rt;
         reason.as_bytes()
-            == b"jackd: q: byte 34, in its header, the bits of a sample: 1 is expected, 2 stands there; it has 16 bits a sample, where the script has 24\n".as_slice()
+            == b"jackd: q: byte 34, the bits of a sample in its header: 1 is expected, 2 stands there; it has 16 bits a sample, where the script has 24\n".as_slice()
     );
     Ok(())
 }

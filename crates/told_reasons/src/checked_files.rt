@@ -12,19 +12,19 @@ use std::alloc::{AllocError, Global};
 
 // What a header has up to a place.
 const FIELDS: [(u64, &str); 13] = [
-    (4, "the mark RIFF"),
-    (8, "the size of the file"),
-    (12, "the mark WAVE"),
-    (16, "the mark fmt"),
-    (20, "the size of the format"),
-    (22, "the tag of the format"),
-    (24, "the channels"),
-    (28, "the rate"),
-    (32, "the bytes of a second"),
-    (34, "the bytes of a frame"),
-    (36, "the bits of a sample"),
-    (40, "the mark data"),
-    (44, "the size of the samples"),
+    (4, "the mark RIFF in its header"),
+    (8, "the size of the file in its header"),
+    (12, "the mark WAVE in its header"),
+    (16, "the mark fmt in its header"),
+    (20, "the size of the format in its header"),
+    (22, "the tag of the format in its header"),
+    (24, "the channels in its header"),
+    (28, "the rate in its header"),
+    (32, "the bytes of a second in its header"),
+    (34, "the bytes of a frame in its header"),
+    (36, "the bits of a sample in its header"),
+    (40, "the mark data in its header"),
+    (44, "the size of the samples in its header"),
 ];
 
 /// Why a file is not the one that a report explains: its first wrong place, what was expected and what stands there. `front` is
@@ -115,7 +115,7 @@ fn say_byte(reason: &mut Reason, place: u64, wanted: u8, found: u8) -> Result<()
     reason.tell(&[
         Text("byte "),
         Number(place),
-        Text(", in its header, "),
+        Text(", "),
         Text(name_of_field(place)),
     ])?;
     say_values(reason, i64::from(wanted), i64::from(found))
@@ -127,7 +127,7 @@ fn name_of_field(place: u64) -> &'static str {
             return name;
         }
     }
-    "a sample"
+    "the pad behind its samples"
 }
 
 // What the header says, where that is not what the script asks for.
@@ -266,12 +266,17 @@ fn say_short(reason: &mut Reason, place: u64, made: Option<Made>) -> Result<(), 
 
 fn say_long(reason: &mut Reason, place: u64, made: Option<Made>) -> Result<(), AllocError> {
     match made {
-        Some(made) => reason.tell(&[
+        Some(
+            Made {
+                frames: Some(frames),
+                ..
+            },
+        ) => reason.tell(&[
             Text("it goes on behind the "),
-            Counted(frames_before(place, made.format), "frame", "frames"),
+            Counted(frames, "frame", "frames"),
             Text(" that are expected"),
         ]),
-        None => reason.tell(&[
+        _ => reason.tell(&[
             Text("it goes on behind the "),
             Counted(place, "byte", "bytes"),
             Text(" that are expected"),
