@@ -5,7 +5,7 @@ use std::hint;
 use std::sync::atomic::{AtomicU64, Ordering};
 
 // For how many turns a thread is held at most.
-const MOST_TURNS: u64 = 10_000_000;
+const MOST_TURNS: u64 = 300_000_000;
 
 /// Which threads are held, and until when.
 #[derive(Clone, Copy, Debug, PartialEq, Eq)]
