@@ -113,4 +113,4 @@ finished-of n out out_after faults faults_after (done.BadWave fault) is none = a
 finished-of n out out_after faults faults_after (done.BadScript fault) is none = absurd is
 finished-of n out out_after faults faults_after done.WriteFault is none = absurd (none is.0)
 finished-of n out out_after faults faults_after (done.Differs difference) is none = absurd is
-finished-of n out out_after faults faults_after (done.Wrong row) is none = absurd is
+finished-of n out out_after faults faults_after (done.Wrong row sight) is none = absurd is
