@@ -1,6 +1,7 @@
-use Rattle.std.proofs.Common.{◌∙◌, ◌⊎◌, Err, inl, inr, ap, arith, map, subst, sym}
+use Rattle.std.proofs.Common.{◌∙◌, ◌⊎◌, Err, inl, inr, ap, arith, map, refl, subst, sym}
 use Rattle.std.proofs.lemmas.List.{length-map}
 use Rattle.std.proofs.lemmas.Result.{err_from_is_err_and}
+use Rattle.session_check.specs.Counts.{counts_of}
 use Rattle.play_words.specs.Checks.{Check}
 use Rattle.play_words.specs.Words.{Play}
 use Rattle.play_inputs.specs.Answers.{LacksInput}
@@ -38,7 +39,7 @@ returns-in-Err-clause-read g c = λ e.
     let files = g.H.Host.files c.args.host.now in
     let scores = map g.G.Guest.score c.args.guests.items in
     let gives = c.in_ok-script.ensures.opened scores (length-map c.args.guests.items g.G.Guest.score ∙ sym c.args.guests.ok.0 ∙ sym c.len.ensures) in
-    elim (c.in-Err.ensures.read e) [
+    elim (c.in-Err.ensures.read (ap (λ (status : Status). Err status) (one_err (Err c.in-Err.status) c.in-Err.status ReadFault refl e))) [
       | inl rose ↦ inl (omega (arith, kept, rose, later))
       | inr lacks ↦ inr (inr (
         input-named files scores c.args.names.now _ _ _ (ap (λ (k : Check). k.play) c.names.view_is) gives,
@@ -63,7 +64,8 @@ pub returns-clause-read : goal.returns-clause-read
 returns-clause-read g c = λ e.
     let one = c.in_ok-script.ensures.kept in
     let two = c.in-Ok.ensures.kept in
-    let rose = rose-told _ c.check-checked.result.capture.faults c.check-checked.result.report.faults c.check-checked.result.playback c.check-checked.result.records.items (g.H.Host.read_faults c.open_written.new.host) (g.H.Host.read_faults c.hand_back.new.host)
+    let rose = rose-told
+    (counts_of c.in_ok-script.field-0.capture.faults c.in-Ok.written.report.faults c.in-Ok.written.playback c.in-Ok.written.records.items) c.check-checked.result.capture.faults c.check-checked.result.report.faults c.check-checked.result.playback c.check-checked.result.records.items (g.H.Host.read_faults c.open_written.new.host) (g.H.Host.read_faults c.hand_back.new.host)
     (c.check-checked.ensures.read (read-of c.check-checked.result.verdict c.hand_back.result c.hand_back.ensures.answer e)) c.hand_back.ensures.reads in
     inl (omega (arith, one, two, rose))
 
