@@ -92,18 +92,18 @@ fn hint_of_exchange<R: Files<File = File>>(
     let (Some(name), Some(made)) = (file_of(names, row), made_of(rt, alloc, names, row)) else {
         return Ok(None);
     };
-    if made.is_told(&read_again(alloc, rt, name, HEADER)) {
+    if made.has_header(&read_again(alloc, rt, name, HEADER)) {
         return Ok(None);
     }
     let behind = (row.number as usize).saturating_add(1);
     for place in behind..names.play.records() {
         let record = names.play.record(place);
-        if made.is_told(&read_again(alloc, rt, record, HEADER)) {
+        if made.has_header(&read_again(alloc, rt, record, HEADER)) {
             return Ok(Some(of_exchange(alloc, name, record)?));
         }
     }
     let playback = names.play.playback;
-    if made.is_told(&read_again(alloc, rt, playback, HEADER)) {
+    if made.has_header(&read_again(alloc, rt, playback, HEADER)) {
         return Ok(Some(of_exchange(alloc, name, playback)?));
     }
     Ok(None)

@@ -41,44 +41,13 @@ pub fn of_checked_file(
 {
     let mut reason = Reason::new(alloc)?;
     reason.tell(&[Shown(name.as_bytes()), Text(": ")])?;
-    match sight {
-        Sight::Byte {
-            wanted: byte,
-            found,
-        } => {
-            say_byte(&mut reason, place, byte, found)?;
-            say_header(&mut reason, made_in(front), wanted)?;
-        }
-        Sight::Sample {
-            cycle,
-            frame,
-            channel,
-            wanted,
-            found,
-        } => {
-            let at = Place {
-                byte: place,
-                cycle,
-                frame,
-                channel,
-            };
-            say_place(&mut reason, at, made_in(front))?;
-            say_values(&mut reason, i64::from(wanted), i64::from(found))?;
-        }
-        Sight::Short => say_short(&mut reason, place, made_in(front))?,
-        Sight::Long => say_long(&mut reason, place, made_in(front))?,
-        _ => reason.tell(&[
-            Text("byte "),
-            Number(place),
-            Text(": another one is expected"),
-        ])?,
-    }
+    say_sight(&mut reason, made_in(front), wanted, place, sight)?;
     reason.end_line()?;
     Ok(reason)
 }
 
 /// Another file has what was expected of this one.
-pub fn of_exchange(alloc: Global, name: &str, other: &str) -> Result<Reason, AllocError>
+pub fn of_exchange<'a>(alloc: Global, name: &'a str, other: &'a str) -> Result<Reason, AllocError>
     ensures { IfOk result IsReason }
 {
     Reason::line(
@@ -99,6 +68,45 @@ struct Place {
     cycle: u32,
     frame: u32,
     channel: u16,
+}
+
+// What is seen at a place of a file with this header, where the script asks for another one or not.
+fn say_sight(
+    reason: &mut Reason,
+    made: Option<Made>,
+    asked: Option<Made>,
+    place: u64,
+    sight: Sight,
+) -> Result<(), AllocError> {
+    match sight {
+        Sight::Byte { wanted, found } => {
+            say_byte(reason, place, wanted, found)?;
+            say_header(reason, made, asked)
+        }
+        Sight::Sample {
+            cycle,
+            frame,
+            channel,
+            wanted,
+            found,
+        } => {
+            let at = Place {
+                byte: place,
+                cycle,
+                frame,
+                channel,
+            };
+            say_place(reason, at, made)?;
+            say_values(reason, i64::from(wanted), i64::from(found))
+        }
+        Sight::Short => say_short(reason, place, made),
+        Sight::Long => say_long(reason, place, made),
+        _ => reason.tell(&[
+            Text("byte "),
+            Number(place),
+            Text(": another one is expected"),
+        ]),
+    }
 }
 
 fn say_values(reason: &mut Reason, wanted: i64, found: i64) -> Result<(), AllocError> {

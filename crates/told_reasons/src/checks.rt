@@ -3,7 +3,7 @@
 ghost use Rattle.std.specs.Prelude.{IfOk};
 ghost use Rattle.reason_text.specs.Reasons.{IsReason};
 
-use crate::lines::{has_line, line_at, nth_line, readable};
+use crate::lines::{has_line, is_whole, line_at, nth_line, readable};
 use check_sights::{Number as What, Sight, name_of_part};
 use jack_types::{Part, Reply, Row};
 use reason_text::Piece::{Number, Shown, Text};
@@ -92,7 +92,7 @@ fn wrong_line(text: &[u8], number: u32) -> &'static str {
     if number <= 1 {
         return "a report begins with the line \"report 1\"";
     }
-    if !text.is_empty() && !has_line(text, number) {
+    if is_whole(text) && !has_line(text, number) {
         return "the report breaks off before its line \"end\"";
     }
     "no line of this script's report, in this place"

@@ -22,11 +22,11 @@ pub struct Channel {
 
 /// Which ports are connected to the port of a channel, and the command that shows the graph. `graph` is the text of the
 /// cycle's graph; where it has no such port, there is nothing to tell.
-pub fn of_feeds(
+pub fn of_feeds<'a>(
     alloc: Global,
-    script: &str,
-    report: &str,
-    graph: &[u8],
+    script: &'a str,
+    report: &'a str,
+    graph: &'a [u8],
     channel: Channel,
 ) -> Result<Option<Reason>, AllocError>
     ensures { IfOk result (λ told. IfSome told IsReason) }
@@ -34,26 +34,41 @@ pub fn of_feeds(
     let Some(port) = port_of(graph, channel) else {
         return Ok(None);
     };
+    let cycle = u64::from(channel.cycle);
     let mut reason = Reason::new(alloc)?;
+    say_port(&mut reason, port, cycle)?;
+    say_sources(&mut reason, graph, port)?;
+    say_command(&mut reason, script, report, cycle)?;
+    reason.end_line()?;
+    Ok(Some(reason))
+}
+
+fn say_port(reason: &mut Reason, port: &[u8], cycle: u64) -> Result<(), AllocError> {
     reason.tell(&[
         Text("in cycle "),
-        Number(u64::from(channel.cycle)),
+        Number(cycle),
         Text(" "),
         Shown(port),
         Text(" is fed by"),
-    ])?;
-    say_sources(&mut reason, graph, port)?;
+    ])
+}
+
+// The command that shows the graph.
+fn say_command<'a>(
+    reason: &mut Reason,
+    script: &'a str,
+    report: &'a str,
+    cycle: u64,
+) -> Result<(), AllocError> {
     reason.tell(&[
         Text("; jackd graph "),
         Path(script),
         Text(" "),
         Path(report),
         Text(" "),
-        Number(u64::from(channel.cycle)),
+        Number(cycle),
         Text(" shows all"),
-    ])?;
-    reason.end_line()?;
-    Ok(Some(reason))
+    ])
 }
 
 // The outputs that are connected to a port.

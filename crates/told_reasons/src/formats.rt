@@ -21,8 +21,8 @@ pub struct Made {
 }
 
 impl Made {
-    /// Whether this is told by the first bytes of a file.
-    pub fn is_told(&self, front: &[u8]) -> bool {
+    /// Whether the header in the first bytes of a file says the same.
+    pub fn has_header(&self, front: &[u8]) -> bool {
         match made_in(front) {
             Some(made) => {
                 made.format == self.format && (self.frames.is_none() || made.frames == self.frames)

@@ -18,6 +18,11 @@ pub fn readable(text: &[u8]) -> &[u8]
     }
 }
 
+/// Whether so short a text was read again whole.
+pub fn is_whole(text: &[u8]) -> bool {
+    !text.is_empty() && text.len() < MOST_BYTES
+}
+
 /// The first line, and what stands behind its end.
 pub fn first_line(text: &[u8]) -> (&[u8], &[u8]) {
     for place in 0..text.len() {
