@@ -3,9 +3,8 @@
 --     put-explained .. put-writes      what that says of the status
 --     early-fault .. early-exact      and what a status without a verdict says
 use Rattle.std.proofs.Common.{◌≡◌, ◌≢◌, ◌∙◌, ◌⊎◌, ℕ, List, Some, None, inl, inr, ap, refl, subst, sym, take}
-use Rattle.std.specs.Prelude.{Option}
+use Rattle.std.specs.Prelude.{⊤, Option}
 use Rattle.check_sights.specs.declared.sights.Sight.{Sight}
-use Rattle.check_sights.specs.declared.sights.Sight.TheVariants.{Nothing}
 use Rattle.jack_types.specs.declared.kinds.Score.{Score}
 use Rattle.jack_types.specs.declared.replies.Row.{Row}
 use Rattle.jack_host.specs.Bytes.{Gains}
@@ -113,7 +112,7 @@ module _ (given : Given) (written : Written) (lawful : IsScript given.script) (l
   named one verdict result same rose (inr put) none is row first = absurd (none put.1)
   named one IsRight result same rose (inl put) none is row first = absurd (law given lawful is.0 written row first is.1)
   named one (IsWrong row sight) result same rose (inl put) none is other first =
-      inl (Nothing, put.0 ∙ ap (λ r. Wrong r Nothing) (one given lawful written row other is first))
+      inl (sight, put.0 ∙ ap (λ r. Wrong r sight) (one given lawful written row other is first))
 
 module _ (scores : List Score) (check : Check) where
   pub put-explained : (files : Option Files) (verdict : Verdict) (result : Status) (same rose : Type 0) → IfCase files scores check (IsVerdict verdict) → IsPut verdict result same rose → result ≡ Ok

@@ -1,18 +1,28 @@
 -- The case of the files of a check, which is one.
 --     one-case, case-of      two cases are the same, and so of each holds what holds of one
 --     case-map, case-told      what holds of it, and what the opened files tell of it
---     input-of, input-told      and the input of a play in it
+--     input-of, input-named, gives-named      and the input of a play in it
 --     there-none      its names are there
-use Rattle.std.proofs.Common.{◌≡◌, ◌∙◌, ℕ, zero, suc, ◌<◌, ℤ, List, [], ◌∷◌, Some, None, ap, arith, length, map, refl, sym, subst, true}
-use Rattle.std.specs.Prelude.{Contains, IsSome, Option, is_some, slice_index_or}
+--     read-of, kept-of, verdict-told      and the verdict on it
+use Rattle.std.proofs.Common.{◌≡◌, ◌∙◌, ℕ, zero, suc, ◌<◌, ℤ, List, [], ◌∷◌, Some, None, Ok, Err, ap, arith, length, map, refl, sym, subst, true}
+use Rattle.std.specs.Prelude.{Contains, IfOk, OnOk, Option, Result, is_some}
 use Rattle.std.proofs.lemmas.Option.{none-some}
+use Rattle.check_sights.specs.declared.sights.Sight.{Sight}
 use Rattle.jack_types.specs.declared.kinds.Score.{Score}
+use Rattle.jack_types.specs.declared.replies.Row.{Row}
 use Rattle.jack_host.specs.Files.{IsThere, bytes_under}
+use Rattle.session_model.specs.Checking.{IsFirstWrong}
 use Rattle.session_model.specs.Explanations.{Given, Written}
 use Rattle.session_model.specs.Scripts.{Script}
 use Rattle.session_check.specs.Cases.{IsCase as IsGivenCase}
+use Rattle.session_check.specs.declared.verdict.CheckFault.{CheckFault}
+use Rattle.session_check.specs.declared.verdict.CheckFault.TheVariants.{Read, Memory}
+use Rattle.session_check.specs.declared.verdict.Verdict.{Verdict}
+use Rattle.session_check.specs.declared.verdict.Verdict.TheVariants.{Explained as IsRight, Wrong as IsWrong}
 use Rattle.play_words.specs.Checks.{Check}
 use Rattle.play_words.specs.Words.{Play}
+use Rattle.play_inputs.specs.declared.status.Status.{Status}
+use Rattle.play_inputs.specs.declared.status.Status.TheVariants.{ReadFault}
 use Rattle.play_inputs.specs.Answers.{HasInput, IfInput}
 use Rattle.play_inputs.specs.Inputs.{Files, IfBytes, IsInput}
 use Rattle.play_inputs.specs.Openings.{GivesInput}
@@ -20,6 +30,8 @@ use Rattle.play_inputs.proofs.ExactLemmas.{one_input}
 use Rattle.play_inputs.proofs.InputLemmas.{if_bytes_map}
 use Rattle.check_command.specs.Cases.{HasCase, IfCase, IsCase, LacksOne, OfCase, checked_names}
 use Rattle.check_command.specs.Files.{GivesWritten}
+use Rattle.check_command.specs.Lines.{IsExplained}
+use Rattle.check_command.specs.Verdicts.{IsVerdict, answer_of}
 
 some-same : (xs ys : List (List ℕ)) → map Some xs ≡ map Some ys → xs ≡ ys
 some-same [] [] e = refl
@@ -58,7 +70,7 @@ case-map (Some files) scores check P Q f has = (has.0, has.1, has.2, f has.0 has
 
 -- the sources that were opened tell a case of the files
 pub case-told : (files : Option Files) (scores : List Score) (check : Check) (script : Script) (left : Option (List ℤ)) (report playback : Option (List ℕ)) (records : List (Option (List ℕ)))
-    (P : Given → Written → Type 0) → GivesInput files scores check.play script left → GivesWritten files check report playback records
+    (P : Given → Written → Type 0) → GivesInput files scores check.play script left → GivesWritten files check.report check.play report playback records
     → ((given : Given) (written : Written) → IsGivenCase script left scores report playback records given written → P given written) → IfCase files scores check P
 case-told None scores check script left report playback records P gives tells f = tt
 case-told (Some files) scores check script left report playback records P (script_bytes, script_is, (capture_bytes, capture_is, (given, input, of, samples))) tells f = (
@@ -83,7 +95,7 @@ case-told (Some files) scores check script left report playback records P (scrip
 )
 
 -- what a play is given is told by what was opened
-pub input-told : (files : Option Files) (scores : List Score) (play : Play) (script : Script) (left : Option (List ℤ)) → GivesInput files scores play script left → IfInput files scores play
+input-told : (files : Option Files) (scores : List Score) (play : Play) (script : Script) (left : Option (List ℤ)) → GivesInput files scores play script left → IfInput files scores play
 input-told files scores play script left =
     if_bytes_map files play.script (λ script_bytes. IfBytes files play.capture (Reads script_bytes)) (λ script_bytes. IfBytes files play.capture (Has script_bytes))
     (λ script_bytes. if_bytes_map files play.capture (Reads script_bytes) (Has script_bytes) (λ capture_bytes has. (has.0, has.1)))
@@ -93,6 +105,13 @@ input-told files scores play script left =
 
     Has : List ℕ → List ℕ → Type 0
     Has script_bytes capture_bytes = (given : Given) × IsInput script_bytes capture_bytes scores play given
+
+pub input-named : (files : Option Files) (scores : List Score) (check : Check) (play : Play) (script : Script) (left : Option (List ℤ)) → play ≡ check.play → GivesInput files scores play script left → IfInput files scores check.play
+input-named files scores check play script left are gives = subst (λ (p : Play). IfInput files scores p) are (input-told files scores play script left gives)
+
+pub gives-named : (files : Option Files) (scores : List Score) (check : Check) (play : Play) (script : Script) (left : Option (List ℤ)) → play ≡ check.play → GivesInput files scores play script left
+    → GivesInput files scores check.play script left
+gives-named files scores check play script left are gives = subst (λ (p : Play). GivesInput files scores p script left) are gives
 
 -- and is there where a case is
 pub input-of : (files : Option Files) (scores : List Score) (check : Check) → HasCase files scores check → HasInput files scores check.play
@@ -117,3 +136,39 @@ there-none (Some files) scores check has (name, among, none) =
     let playback = has.2.playback_is in
     let records = has.2.records_are in
     none (all-there files (checked_names check) (written.report ∷ written.playback ∷ written.records) (λ k. report k ∷ playback k ∷ records k) name among)
+
+-- ---- the verdict
+
+pub read-of : (verdict : Result Verdict CheckFault) (result : Result Verdict Status) → result ≡ answer_of verdict → result ≡ Err ReadFault → verdict ≡ Err Read
+read-of (Ok verdict) result is e = absurd (cc (is, e))
+read-of (Err Read) result is e = refl
+read-of (Err Memory) result is e = absurd (cc (is, e))
+
+pub kept-of : (verdict : Result Verdict CheckFault) (result : Result Verdict Status) (a b n : ℕ) → result ≡ answer_of verdict → OnOk verdict (n ≡ b) → b ≡ a → OnOk result (n ≡ a)
+kept-of verdict result a b n is same kept = subst (λ (r : Result Verdict Status). OnOk r (n ≡ a)) (sym is) (go verdict same)
+  where
+    go : (v : Result Verdict CheckFault) → OnOk v (n ≡ b) → OnOk (answer_of v) (n ≡ a)
+    go (Ok v) same = same ∙ kept
+    go (Err Read) same = tt
+    go (Err Memory) same = tt
+
+module _ (files : Option Files) (scores : List Score) (check : Check) (script : Script) (left : Option (List ℤ)) (report playback : Option (List ℕ)) (records : List (Option (List ℕ)))
+    (gives : GivesInput files scores check.play script left) (tells : GivesWritten files check.report check.play report playback records) where
+  abbrev Case : Given → Written → Type 0
+  Case given written = IsGivenCase script left scores report playback records given written
+
+  pub verdict-told : (verdict : Result Verdict CheckFault) (result : Result Verdict Status)
+      → ((given : Given) (written : Written) → Case given written → verdict ≡ Ok IsRight → IsExplained given written)
+      → ((given : Given) (written : Written) → Case given written → (row : Row) (sight : Sight) → verdict ≡ Ok (IsWrong row sight) → IsFirstWrong given written row)
+      → result ≡ answer_of verdict → IfOk result (λ (v : Verdict). IfCase files scores check (IsVerdict v))
+  verdict-told verdict result right wrong is = subst (λ (r : Result Verdict Status). IfOk r (λ (v : Verdict). IfCase files scores check (IsVerdict v))) (sym is) (go verdict right wrong)
+    where
+      go : (v : Result Verdict CheckFault)
+          → ((given : Given) (written : Written) → Case given written → v ≡ Ok IsRight → IsExplained given written)
+          → ((given : Given) (written : Written) → Case given written → (row : Row) (sight : Sight) → v ≡ Ok (IsWrong row sight) → IsFirstWrong given written row)
+          → IfOk (answer_of v) (λ (w : Verdict). IfCase files scores check (IsVerdict w))
+      go (Ok IsRight) right wrong = case-told files scores check script left report playback records (IsVerdict IsRight) gives tells (λ given written case. right given written case refl)
+      go (Ok (IsWrong row sight)) right wrong =
+          case-told files scores check script left report playback records (IsVerdict (IsWrong row sight)) gives tells (λ given written case. wrong given written case row sight refl)
+      go (Err Read) right wrong = tt
+      go (Err Memory) right wrong = tt

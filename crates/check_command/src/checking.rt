@@ -76,7 +76,7 @@ pub(crate) fn decide<T: Threads + Sync, H: Host, G: Guest + Send, A: Gate>(
     ensures lent { H.lent host.new ≡ H.lent host.old }
 {
     let Inputs { script, capture } = open_inputs(alloc, host, &names.play, guests.len())?;
-    let written = match open_written(alloc, host, names) {
+    let written = match open_written(alloc, host, names.report, &names.play) {
         Ok(written) => written,
         Err(status) => {
             host.back(capture.into_source());

@@ -4,13 +4,13 @@ ghost use Rattle.std.specs.Prelude.{◌≡◌, ◌+◌, ◌<◌, ◌≤◌, ◌�
 ghost use Rattle.jack_host.specs.Causes.{Adds, Rose};
 ghost use Rattle.jack_host.specs.Files.{SameFiles};
 ghost use Rattle.session_check.specs.Cases.{left_of};
-ghost use Rattle.check_command.specs.Cases.{LacksOne, checked_names};
-ghost use Rattle.check_command.specs.Files.{GivesAll, GivesWritten, IsFresh, faults_in};
+ghost use Rattle.check_command.specs.Cases.{LacksOne};
+ghost use Rattle.check_command.specs.Files.{GivesAll, GivesWritten, IsFresh, faults_in, written_names};
 
 use file_compare::Compare;
 use jack_host::{Failed, Host, Source};
 use play_inputs::Status;
-use play_words::{CheckNames, Names};
+use play_words::Names;
 use report_reader::Lines;
 use std::alloc::Global;
 
@@ -62,19 +62,21 @@ fn open_records<H: Host>(
     Ok(())
 }
 
-/// Opens the report, then the playback, and then the records in their order. Then so many objects more of the host are out.
+/// Opens the report of this name, then a play's playback, and then its records in their order. Then so many objects more of the
+/// host are out.
 pub(crate) fn open_written<H: Host>(
     alloc: Global,
     host: &mut H,
-    names: &CheckNames<'_>,
+    report: &str,
+    names: &Names<'_>,
 ) -> Result<WrittenFiles<H::In>, Status>
     requires { H.lent host.old < 940 }
-    ensures opened { IfOk result (λ written. GivesWritten (H.files host.old) names.now written.report.left written.playback.left (map left_of written.records.items)) }
-    ensures many { IfOk result (λ written. length written.records.items ≡ length names.now.play.records) }
+    ensures opened { IfOk result (λ written. GivesWritten (H.files host.old) report.now names.now written.report.left written.playback.left (map left_of written.records.items)) }
+    ensures many { IfOk result (λ written. length written.records.items ≡ length names.now.records) }
     ensures fresh { IfOk result (λ written. (written.report.faults ≡ 0) × IsFresh written.playback × All IsFresh written.records.items) }
     ensures fault { IfErr result (λ status. (status ≡ Status.NoMemory) ⊎ (status ≡ Status.ReadFault)) }
     ensures read { IsErrOf result Status.ReadFault →
-        Rose (H.read_faults host.old) (H.read_faults host.new) ⊎ LacksOne (H.files host.old) (checked_names names.now) }
+        Rose (H.read_faults host.old) (H.read_faults host.new) ⊎ LacksOne (H.files host.old) (written_names report.now names.now) }
 
     ensures later { H.read_faults host.old ≤ H.read_faults host.new }
     ensures kept { OnOk result (H.read_faults host.new ≡ H.read_faults host.old) }
@@ -83,26 +85,26 @@ pub(crate) fn open_written<H: Host>(
     ensures out { IfOk result (λ written. H.lent host.new ≡ H.lent host.old + 2 + length written.records.items) }
     ensures back { OnErr result (H.lent host.new ≡ H.lent host.old) }
 {
-    let Ok(mut records) = Vec::with_capacity(alloc, names.play.records()) else {
+    let Ok(mut records) = Vec::with_capacity(alloc, names.records()) else {
         return Err(Status::NoMemory);
     };
-    let Ok(report) = host.open_in(names.report) else {
+    let Ok(told) = host.open_in(report) else {
         return Err(Status::ReadFault);
     };
-    let Ok(playback) = host.open_in(names.play.playback) else {
-        host.back(report);
+    let Ok(played) = host.open_in(names.playback) else {
+        host.back(told);
         return Err(Status::ReadFault);
     };
-    match open_records(host, &names.play, &mut records) {
+    match open_records(host, names, &mut records) {
         Ok(()) => Ok(WrittenFiles {
-            report: Lines::of(report),
-            playback: Compare::of(playback),
+            report: Lines::of(told),
+            playback: Compare::of(played),
             records,
         }),
         Err(_) => {
             back_records(host, records);
-            host.back(playback);
-            host.back(report);
+            host.back(played);
+            host.back(told);
             Err(Status::ReadFault)
         }
     }
