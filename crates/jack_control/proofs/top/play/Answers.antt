@@ -2,7 +2,7 @@ use Rattle.std.proofs.Common.{◌∙◌, Err, ap, map, sym}
 use Rattle.std.proofs.lemmas.Result.{err_from_is_err_and}
 use Rattle.play_inputs.specs.declared.status.Status.{Status}
 use Rattle.play_inputs.specs.declared.status.Status.TheVariants.{ReadFault}
-use Rattle.jack_control.proofs.OpeningLemmas.{one_err}
+use Rattle.play_inputs.proofs.OpeningLemmas.{one_err}
 use Rattle.jack_control.specs.Plays.{made_by}
 use Rattle.jack_control.proofs.TopLemmas.{input-of, touches-after}
 use Rattle.jack_control.proofs.top.play.Goals as goal
