@@ -81,7 +81,7 @@ try() {
   [ "$got" = "$wanted" ] || fault "bash offers '$got' behind '$*', not '$wanted'"
 }
 for name in jackd sagbufe-jackd; do
-  try 'play rehearse graph --help --version' $name ''
+  try 'play rehearse graph check --help --version' $name ''
   try 'play' $name p
   try 'rehearse' $name r
   try 'graph' $name g
