@@ -3,7 +3,9 @@ pub mod Buffers
 pub mod Healths
 pub mod Lines
 pub mod Rooms
+pub mod Scores
 pub mod Seats
 pub mod Sounds
 pub mod Standings
 pub mod Voices
+pub mod Turns

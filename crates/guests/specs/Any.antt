@@ -1,6 +1,6 @@
 -- What contracts see of any guest: the score and the numbers of the one that it is.
 use Rattle.std.specs.Prelude.{List, ℤ}
-use Rattle.jack_types.specs.declared.kinds.Score.{Score}
+use Rattle.client_kinds.specs.Scores.{Score}
 use Rattle.guests.specs.declared.any.AnyGuest.{AnyGuest}
 use Rattle.guests.specs.declared.any.AnyGuest.TheVariants.{Echo, Fir, Hold, Fail}
 

@@ -1,3 +1,4 @@
 pub mod Any
 pub mod Guests
+pub mod Sounds
 pub mod Turns
