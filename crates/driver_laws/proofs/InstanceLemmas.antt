@@ -134,7 +134,7 @@ module _ (table : TableId) where
     underruns_now = λ k d h. absurd (none_below h);
     left = λ left told. ap (λ (left : Option (List ℤ)). option_map (drop 4) left) told;
     own_rows = record { cycles = refl; numbers = refl; last = refl; place = refl; base = refl };
-    own_rings = record { recorders = refl; disks = refl; puts = refl; gets = refl; own = λ recorder ring here. absurd (none-some ring here) };
+    own_rings = record { recorders = refl; disks = refl; puts = refl; gets = refl; own = λ recorder ring here. absurd (none-some ring here); own_disks = λ disk got here. absurd (none-some got here) };
     script = refl;
     scores = refl;
     set = refl;
@@ -236,6 +236,7 @@ module _ (table : TableId) where
     as_many = refl;
     rings = λ k d h. absurd (none_below h);
     own_rings = λ recorder ring here. absurd (none-some ring here);
+    own_disks = λ disk got here. absurd (none-some got here);
     sent = refl;
     as_many_disks = refl;
     disks = λ k d h. absurd (none_below h);

@@ -3,13 +3,12 @@
 use Rattle.std.proofs.Common.{◌≡◌, ℕ, ◌+◌, ◌*◌, List, [], length, map, drop, slice_get, get_or, Option, Some, None, sym, ◌∙◌, ap, subst, arith}
 use Rattle.std.proofs.Math.Nat.{min-zero}
 use Rattle.std.proofs.lemmas.Option.{slice_get_within, get_or_from_slice_get}
-use Rattle.jack_types.specs.declared.kinds.Score.{Score}
 use Rattle.jack_types.specs.declared.replies.Overrun.{Overrun}
 use Rattle.jack_types.specs.declared.replies.Underrun.{Underrun}
 use Rattle.session_model.specs.Courses.{Course, frames_before}
 use Rattle.session_model.specs.Disks.{file_blocks}
 use Rattle.session_model.specs.Driving.{IsDriven}
-use Rattle.session_model.specs.Kinds.{Memory}
+use Rattle.session_model.specs.Kinds.{Memory, Sound}
 use Rattle.session_model.specs.Samples.{below}
 use Rattle.session_model.specs.Scripts.{Script}
 use Rattle.session_model.specs.State.{OpenClient}
@@ -39,7 +38,7 @@ KeepsDisk-none course disk got empty = record {
   all = λ k d h. absurd (none_below h);
 }
 
-module _ (script : Script) (scores : List Score) (driver : Driver) (new : IsNew script scores driver) (course : Course) (same : course.script ≡ script) (told : driver.left ≡ Some course.capture) where
+module _ (script : Script) (scores : List Sound) (driver : Driver) (new : IsNew script scores driver) (course : Course) (same : course.script ≡ script) (told : driver.left ≡ Some course.capture) where
   none_run : run driver ≡ 0
   none_run = ap length new.numbers
 

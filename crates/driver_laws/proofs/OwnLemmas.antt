@@ -7,13 +7,12 @@ use Rattle.std.specs.Str.{bytes_eq}
 use Rattle.std.proofs.lemmas.List.Folds.{list_any-from_Any}
 use Rattle.jack_types.specs.declared.kinds.Kind.{Kind}
 use Rattle.jack_types.specs.declared.kinds.Kind.TheVariants.{Disk}
-use Rattle.jack_types.specs.declared.kinds.Score.{Score}
 use Rattle.jack_types.specs.declared.moments.Moment.{Moment}
 use Rattle.session_model.specs.Benches.{Bench, Task, node_at, outputs_of, task_of, IsPlan, IsReady}
 use Rattle.session_model.specs.Courses.{Course, turn, graph, period, captured, frames_before, players, is_disk}
 use Rattle.session_model.specs.Cycles.{Signals, Settled, cycle, edges_into, input_of, no_signals, was_there, with_block, player_born}
 use Rattle.session_model.specs.Driving.{kept_from, settled_from, IsDriven}
-use Rattle.session_model.specs.Kinds.{Memory, first}
+use Rattle.session_model.specs.Kinds.{Memory, Sound, first}
 use Rattle.session_model.specs.Playback.{played_in}
 use Rattle.session_model.specs.Recorders.{block}
 use Rattle.session_model.specs.Samples.{below, interleaved, mix, silence}
@@ -133,7 +132,7 @@ module _ (driver after : Driver) (steps : StepsOnce driver after) (left : List �
 
   task_is : (n : ℕ) → task_of (own_course driver) (settled_now driver after left) after.nodes own.links n ≡ task_of course at after.nodes own.links n
   task_is n =
-      ap₂ (λ (s : Script) (scores : List Score). task_of (record { script = s; capture = []; disks = []; scores = scores; changes = []; numbers = []; underruns = [] }) (settled_now driver after left) after.nodes own.links n)
+      ap₂ (λ (s : Script) (scores : List Sound). task_of (record { script = s; capture = []; disks = []; scores = scores; changes = []; numbers = []; underruns = [] }) (settled_now driver after left) after.nodes own.links n)
       (sym script_is) (sym (fits.scores ∙ steps.scores))
       ∙ ap₂ (λ state moment. task_of course (made state moment driver.set (capture_now driver left)) after.nodes own.links n) (sym state_is) moment_is
       ∙ ap₂ (λ frames capture. task_of course (made (graph course (suc (run driver))) (moment course (suc (run driver))) frames capture) after.nodes own.links n) (sym frames_are) (sym capture_is)
@@ -144,7 +143,7 @@ module _ (driver after : Driver) (steps : StepsOnce driver after) (left : List �
 
   memory_is : (n : ℕ) → n < length after.nodes → (settled_now driver after left).memory (node_at after.nodes n) ≡ at.memory (node_at after.nodes n)
   memory_is n h =
-      ap (λ (scores : List Score). with_fed (fed_now driver after) client.kind (unwrap_or (memory_in driver client.birth) (first scores client.kind))) (sym (fits.scores ∙ steps.scores))
+      ap (λ (scores : List Sound). with_fed (fed_now driver after) client.kind (unwrap_or (memory_in driver client.birth) (first scores client.kind))) (sym (fits.scores ∙ steps.scores))
       ∙ go client.kind refl (unwrap_or (memory_in driver client.birth) (first course.scores client.kind))
     where
       client : OpenClient

@@ -154,6 +154,7 @@ pub record RingStays (before after : Sending) : Type 0 where
 
 -- a disk's ring whose ends met: the same blocks, and its end found or not
 pub record DiskStays (before after : Getting) : Type 0 where
+  pub samples : after.samples ≡ before.samples
   pub got : after.got ≡ before.got
   pub done : after.done ≡ before.done
 

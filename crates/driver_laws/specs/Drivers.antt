@@ -11,14 +11,13 @@ use Rattle.std.specs.List.{list_any}
 use Rattle.jack_types.specs.Recorders.{no_format}
 use Rattle.jack_types.specs.declared.commands.Change.{Change}
 use Rattle.jack_types.specs.declared.events.Logged.{Logged}
-use Rattle.jack_types.specs.declared.kinds.Score.{Score}
 use Rattle.jack_types.specs.declared.moments.Moment.{Moment}
 use Rattle.jack_types.specs.declared.replies.Overrun.{Overrun}
 use Rattle.jack_types.specs.declared.replies.Underrun.{Underrun}
 use Rattle.session_model.specs.Benches.{Bench, no_bench}
 use Rattle.session_model.specs.Commands.{replay}
 use Rattle.session_model.specs.Courses.{no_turn, players, is_disk}
-use Rattle.session_model.specs.Kinds.{Memory, input_at}
+use Rattle.session_model.specs.Kinds.{Memory, Sound, input_at}
 use Rattle.session_model.specs.Recorders.{is_tape}
 use Rattle.session_model.specs.Samples.{below, interleaved}
 use Rattle.session_model.specs.Scripts.{Phase, Script, ScriptCycle, phases, turns}
@@ -40,7 +39,7 @@ pub record Remembered : Type 0 where
 -- `nodes` and `benches` are those of the last cycle, and `memories` those of all clients that were ever active
 pub record Driver : Type 0 where
   pub script : Script
-  pub scores : List Score
+  pub scores : List Sound
   pub reading : Reading
   pub content : List Change
   pub left : Option (List ℤ)
@@ -155,6 +154,10 @@ pub record IsOwnRing (driver : Driver) (recorder : ℕ) (ring : Sending) : Type 
   pub most : ring.most ≡ 500000000
   pub items : items_of ring.put ≤ frames_run driver * channels_on driver.script recorder
 
+-- a disk's ring has blocks of the greatest period
+abbrev pub IsOwnDisk : Driver → ℕ → Getting → Type 0
+IsOwnDisk driver disk got = got.samples ≡ greatest_period driver.script * slice_index_or driver.script.header.disks disk 0
+
 -- there is a ring for each recorder and each disk, and what was put into them, and got from them, are its cycles' blocks
 pub record HasOwnRings (driver : Driver) : Type 0 where
   pub recorders : length driver.rings ≡ length driver.script.header.recorders
@@ -162,6 +165,7 @@ pub record HasOwnRings (driver : Driver) : Type 0 where
   pub puts : map (λ (ring : Sending). length ring.put) driver.rings ≡ driver.sent
   pub gets : map (λ (got : Getting). length got.got) driver.disks ≡ driver.played
   pub own : (recorder : ℕ) (ring : Sending) → slice_get driver.rings recorder ≡ Some ring → IsOwnRing driver recorder ring
+  pub own_disks : (disk : ℕ) (got : Getting) → slice_get driver.disks disk ≡ Some got → IsOwnDisk driver disk got
 
 -- a playback is attached, and no put to it failed
 pub record HasPlayback (driver : Driver) : Type 0 where

@@ -1,11 +1,11 @@
 -- A driver before its first cycle.
 --     IsNew script scores driver      nothing was taken, put, got or played
 use Rattle.std.specs.Prelude.{◌≡◌, ℕ, false, List, [], length, map, slice_get, All, None, Some}
-use Rattle.jack_types.specs.declared.kinds.Score.{Score}
+use Rattle.session_model.specs.Kinds.{Sound}
 use Rattle.session_model.specs.Scripts.{Script}
 use Rattle.session_model.specs.Transport.{first_row}
 use Rattle.record_ring.specs.Rings.{Sending, Getting}
-use Rattle.driver_laws.specs.Drivers.{Driver, IsOwnRing}
+use Rattle.driver_laws.specs.Drivers.{Driver, IsOwnDisk, IsOwnRing}
 
 -- a recorder's ring that nothing was put into, of the script's capacity
 pub record IsEmptyRing (capacity : ℕ) (ring : Sending) : Type 0 where
@@ -20,7 +20,7 @@ pub record IsEmptyDisk (got : Getting) : Type 0 where
   pub done : got.done ≡ false
 
 -- a ring for each recorder and each disk of the script, its first period, and nothing else
-pub record IsNew (script : Script) (scores : List Score) (driver : Driver) : Type 0 where
+pub record IsNew (script : Script) (scores : List Sound) (driver : Driver) : Type 0 where
   pub script_is : driver.script ≡ script
   pub scores_are : driver.scores ≡ scores
   pub rows : driver.reading.rows ≡ []
@@ -36,6 +36,7 @@ pub record IsNew (script : Script) (scores : List Score) (driver : Driver) : Typ
   pub sent : driver.sent ≡ map (λ _. 0) script.header.recorders
   pub as_many_disks : length driver.disks ≡ length script.header.disks
   pub disks : All IsEmptyDisk driver.disks
+  pub own_disks : (disk : ℕ) (got : Getting) → slice_get driver.disks disk ≡ Some got → IsOwnDisk driver disk got
   pub played : driver.played ≡ map (λ _. 0) script.header.disks
   pub playback : driver.playback ≡ None
   pub set : driver.set ≡ script.header.period

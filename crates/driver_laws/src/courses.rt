@@ -1,9 +1,9 @@
 //! Laws of the courses that a driver fits and keeps, from its opening on.
 
 ghost use Rattle.std.specs.Prelude.{◌≡◌, ◌+◌, ◌<◌, ℕ, List, Some, length};
-ghost use Rattle.jack_types.specs.declared.kinds.Score.{Score as ScoreValue};
 ghost use Rattle.session_model.specs.Courses.{Course};
 ghost use Rattle.session_model.specs.Grammar.{IsScript};
+ghost use Rattle.session_model.specs.Kinds.{Sound};
 ghost use Rattle.session_model.specs.Scripts.{Script, turns};
 ghost use Rattle.driver_laws.specs.Cycling.{CyclesMany, FailsAtRead, HasMetOthers, StepsOnce};
 ghost use Rattle.driver_laws.specs.Drivers.{Driver, turn_of};
@@ -12,7 +12,7 @@ ghost use Rattle.driver_laws.specs.Openings.{IsNew};
 
 /// A new driver keeps every course of its script over what its capture tells.
 pub fn a_new_driver_keeps()
-    ensures { (script : Script) (scores : List ScoreValue) (driver : Driver) → IsNew script scores driver
+    ensures { (script : Script) (scores : List Sound) (driver : Driver) → IsNew script scores driver
         → (course : Course) → course.script ≡ script → driver.left ≡ Some course.capture → Keeps driver course }
 {}
 

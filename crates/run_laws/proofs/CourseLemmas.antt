@@ -11,11 +11,11 @@ use Rattle.std.proofs.lemmas.List.{get_or_past}
 use Rattle.std.proofs.lemmas.List.Elements.{All-head, All-tail}
 use Rattle.std.proofs.lemmas.Option.{get_or_from_slice_get, slice_get_within}
 use Rattle.jack_types.specs.declared.commands.Change.{Change}
-use Rattle.jack_types.specs.declared.kinds.Score.{Score}
 use Rattle.jack_types.specs.declared.replies.Underrun.{Underrun}
 use Rattle.session_model.specs.Courses.{Course}
 use Rattle.session_model.specs.Explanations.{Given}
 use Rattle.session_model.specs.Histories.{accepted}
+use Rattle.session_model.specs.Kinds.{Sound}
 use Rattle.session_model.specs.Rings.{RingBlock}
 use Rattle.session_model.specs.Samples.{below}
 use Rattle.session_model.specs.Scripts.{Script}
@@ -116,7 +116,7 @@ FitsDisk-rest session given disk ring got rest = record {
     over : IsOver given course
     over = IsOver-own session given
 
-pub KeepsAny-new : ((script : Script) (scores : List Score) (driver : Driver) → IsNewDriver script scores driver → (course : Course) → course.script ≡ script → driver.left ≡ Some course.capture → Keeps driver course)
+pub KeepsAny-new : ((script : Script) (scores : List Sound) (driver : Driver) → IsNewDriver script scores driver → (course : Course) → course.script ≡ script → driver.left ≡ Some course.capture → Keeps driver course)
     → (session : Session) (given : Given) → IsNew session → IsGiven session given → KeepsAny given session.driver
 KeepsAny-new keeps session given new is_given course over fits =
     keeps session.script session.driver.scores session.driver new.new_driver course (over.script ∙ is_given.own.script) (is_given.capture ∙ ap Some (sym over.capture))

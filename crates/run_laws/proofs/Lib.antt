@@ -1,6 +1,7 @@
 pub mod PlaceLemmas
 pub mod MeetingLemmas
 pub mod CourseLemmas
+pub mod PlayerLemmas
 pub mod ListsLemmas
 pub mod LossLemmas
 pub mod ReportLemmas

@@ -13,7 +13,7 @@ use Rattle.session_model.specs.Grammar.{IsScript}
 use Rattle.session_model.specs.Histories.{Cycles}
 use Rattle.session_model.specs.Scripts.{Phase, Script, phases, turns}
 use Rattle.session_model.specs.Serial.{serial, serial_history, serial_numbers, serial_overruns, counts, serial_course}
-use Rattle.record_ring.specs.Rings.{Sending}
+use Rattle.disk_player.specs.Playing.{Playing}
 use Rattle.control_desk.specs.Laws.{OfCallsAccepted}
 use Rattle.driver_laws.specs.Drivers.{overruns_on, run}
 use Rattle.driver_laws.specs.Keeping.{Fits}
@@ -79,16 +79,16 @@ RanPhases-behind all legal total session behind =
       misses = behind.so_far.misses;
     }
 
-put_there : (session : Session) → SerialBehind session (length (phases session.script)) → (disk : ℕ) → disk < length session.script.header.disks → (ring : Sending) × (slice_get session.putting disk ≡ Some ring)
-put_there session behind disk h = some_at session.putting disk (subst (λ n. disk < n) (sym behind.so_far.one.disk_ends) h)
+player_there : (session : Session) → SerialBehind session (length (phases session.script)) → (disk : ℕ) → disk < length session.script.header.disks → (player : Playing) × (slice_get session.players disk ≡ Some player)
+player_there session behind disk h = some_at session.players disk (subst (λ n. disk < n) (sym behind.so_far.one.disk_ends) h)
 
 Fits-behind : OfCallsAccepted → (session : Session) (given : Given) → SerialBehind session (length (phases session.script)) → SerialKept given session → DisksAtRest given session → Fits session.driver (course_in given session)
 Fits-behind of_calls session given behind kept rest = Fits-met of_calls session given behind.so_far.one kept.own behind.so_far.met.met
     (λ disk got there.
     let as_many : length session.driver.disks ≡ length session.script.header.disks = behind.so_far.one.rings.disks ∙ ap (λ (s : Script). length s.header.disks) behind.so_far.one.driver_script in
     let low : disk < length session.driver.disks = slice_get_within session.driver.disks disk got there in
-    let ring = put_there session behind disk (subst (λ n. disk < n) as_many low) in
-    FitsDisk-rest session given disk ring.0 got (rest disk ring.0 got ring.1 there))
+    let player = player_there session behind disk (subst (λ n. disk < n) as_many low) in
+    FitsDisk-rest session given disk player.0.sending got (rest disk player.0 got player.1 there))
 
 pub AtPhase-behind : OfCallsAccepted → BehindAll → SerialIsLegal → CyclesTotal → (session : Session) (given : Given) → SerialBehind session (length (phases session.script)) → SerialKept given session → DisksAtRest given session
     → AtPhase session given (length (phases session.script))
@@ -97,6 +97,7 @@ AtPhase-behind of_calls all legal total session given behind kept rest = record 
   given_kept = record { own = kept.own; fits = Fits-behind of_calls session given behind kept rest; keeps = kept.keeps };
   files = behind.so_far.files;
   rings = λ threads. absurd (no_threads threads);
+  plays = kept.plays;
   disks = rest;
   misses = λ threads. absurd (no_threads threads);
 }
@@ -107,9 +108,9 @@ AtPhase-behind of_calls all legal total session given behind kept rest = record 
 pub IsSerial-behind : OfCallsAccepted → CyclesTotal → (session : Session) (given : Given) → SerialBehind session (length (phases session.script)) → SerialKept given session → DisksAtRest given session
     → (disk : ℕ) → disk < length session.script.header.disks → IsSerial (course_in given session) disk
 IsSerial-behind of_calls total session given behind kept rest disk h k first last =
-    let ring = put_there session behind disk h in
+    let player = player_there session behind disk h in
     let size : length (turns given.script) ≡ run session.driver = ap (λ (s : Script). length (turns s)) kept.own.script ∙ sym (behind.cycles_are ∙ total session.script) in
-    (kept.turned (course_in given session) (IsOver-own session given) (Fits-behind of_calls session given behind kept rest) disk ring.0 ring.1).missed k first (subst (λ n. k ≤ n) size last)
+    (kept.turned (course_in given session) (IsOver-own session given) (Fits-behind of_calls session given behind kept rest) disk player.0 player.1).missed k first (subst (λ n. k ≤ n) size last)
 
 -- the overruns are those of serial mode
 pub overruns-behind : CyclesTotal → (session : Session) (given : Given) → SerialBehind session (length (phases session.script)) → SerialKept given session → (printed_of session).overruns ≡ (serial session.script).overruns

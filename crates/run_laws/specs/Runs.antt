@@ -7,7 +7,7 @@ use Rattle.std.specs.List.Sorted.{IsNonDecreasing}
 use Rattle.jack_types.specs.declared.replies.Entry.{Entry}
 use Rattle.jack_types.specs.declared.replies.Overrun.{Overrun}
 use Rattle.jack_types.specs.declared.replies.Underrun.{Underrun}
-use Rattle.session_model.specs.Courses.{Course}
+use Rattle.session_model.specs.Courses.{Course, disk_file}
 use Rattle.session_model.specs.Disks.{IsBehindRing, file_blocks}
 use Rattle.session_model.specs.Explanations.{Given}
 use Rattle.session_model.specs.Histories.{IsWithinPhase}
@@ -18,6 +18,8 @@ use Rattle.session_model.specs.Scripts.{Script, ScriptCycle, turns}
 use Rattle.record_ring.specs.Rings.{Sending, Getting}
 use Rattle.wave_write.specs.Tapes.{Tape, HasSamples}
 use Rattle.disk_recorder.specs.Recordings.{MayWrite, samples_of_blocks}
+use Rattle.disk_player.specs.Files.{PlaysFile}
+use Rattle.disk_player.specs.Playing.{Playing}
 use Rattle.control_desk.specs.Desks.{IsDone}
 use Rattle.driver_laws.specs.Drivers.{HasPlayback, overruns_on, run, turn_of, underruns_on}
 use Rattle.driver_laws.specs.Keeping.{Fits, file_block}
@@ -80,7 +82,13 @@ pub record DiskAtRest (given : Given) (disk : ℕ) (ring : Sending) (got : Getti
 
 -- the rings of all disks are so
 abbrev pub DisksAtRest : Given → Session → Type 0
-DisksAtRest given session = (disk : ℕ) (ring : Sending) (got : Getting) → slice_get session.putting disk ≡ Some ring → slice_get session.driver.disks disk ≡ Some got → DiskAtRest given disk ring got
+DisksAtRest given session =
+    (disk : ℕ) (player : Playing) (got : Getting) → slice_get session.players disk ≡ Some player → slice_get session.driver.disks disk ≡ Some got → DiskAtRest given disk player.sending got
+
+-- each player goes on with its disk's file, in blocks of the script's period
+abbrev pub PlaysAll : Given → Session → Type 0
+PlaysAll given session =
+    (course : Course) → IsOver given course → (disk : ℕ) (player : Playing) → slice_get session.players disk ≡ Some player → PlaysFile (disk_file course disk) course.script.header.period player
 
 -- threads mode: each underrun of a disk found all played that was put when its segment began
 abbrev pub MissesBehindRing : Given → Session → ℕ → Type 0
@@ -93,5 +101,6 @@ pub record AtPhase (session : Session) (given : Given) (done : ℕ) : Type 0 whe
   pub given_kept : KeepsGiven given session
   pub files : HasFiles session
   pub rings : IsSome session.script.header.threads → (recorder : ℕ) (ring : Sending) (got : Getting) → slice_get session.driver.rings recorder ≡ Some ring → slice_get session.getting recorder ≡ Some got → RingAtRest given session recorder ring got
+  pub plays : PlaysAll given session
   pub disks : DisksAtRest given session
   pub misses : IsSome session.script.header.threads → (disk : ℕ) → MissesBehindRing given session disk

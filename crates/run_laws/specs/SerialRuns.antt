@@ -12,12 +12,13 @@ use Rattle.session_model.specs.Serial.{Counts, counts, serial_course, serial_his
 use Rattle.graph_word.specs.declared.view.TakenRow.{TakenRow}
 use Rattle.graph_word.specs.Publications.{IsFront}
 use Rattle.record_ring.specs.Rings.{Sending, Getting}
+use Rattle.disk_player.specs.Playing.{Playing}
 use Rattle.driver_laws.specs.Drivers.{overruns_on, run}
 use Rattle.driver_laws.specs.Keeping.{Fits}
 use Rattle.driver_laws.specs.Segments.{cycles_before}
 use Rattle.serial_lanes.specs.Lanes.{BehindPhases, SerialDesk}
 use Rattle.run_laws.specs.Sessions.{IsFor, IsMet, IsOne, IsOver, KeepsAny, Session}
-use Rattle.run_laws.specs.Runs.{HasFiles, MissesInRun, PutsFile}
+use Rattle.run_laws.specs.Runs.{HasFiles, MissesInRun, PlaysAll}
 
 -- the numbers and the rows are those of serial mode so far; desk and driver met, and nothing failed
 pub record SerialSoFar (session : Session) : Type 0 where
@@ -70,5 +71,5 @@ pub record SerialKept (given : Given) (session : Session) : Type 0 where
   pub own : IsFor session given
   pub keeps : KeepsAny given session.driver
   pub rings : (recorder : ℕ) (ring : Sending) (got : Getting) → slice_get session.driver.rings recorder ≡ Some ring → slice_get session.getting recorder ≡ Some got → RingSerial session recorder ring got
-  pub disks : (disk : ℕ) (ring : Sending) → slice_get session.putting disk ≡ Some ring → PutsFile given disk ring
-  pub turned : (course : Course) → IsOver given course → Fits session.driver course → (disk : ℕ) (ring : Sending) → slice_get session.putting disk ≡ Some ring → IsTurned course session disk ring
+  pub plays : PlaysAll given session
+  pub turned : (course : Course) → IsOver given course → Fits session.driver course → (disk : ℕ) (player : Playing) → slice_get session.players disk ≡ Some player → IsTurned course session disk player.sending

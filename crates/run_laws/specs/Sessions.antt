@@ -5,7 +5,7 @@
 --     IsOne session      its parts belong together
 --     IsMet session      the desk and the driver met, and neither went on since
 --     KeepsAny given driver      whatever course fits the driver, it has what that course gives
-use Rattle.std.specs.Prelude.{◌≡◌, ℕ, ◌<◌, List, length, map, slice_get, All, ℤ, Option, Some}
+use Rattle.std.specs.Prelude.{◌≡◌, ℕ, ◌<◌, List, length, map, slice_get, All, Option, Some}
 use Rattle.jack_types.specs.declared.replies.Overrun.{Overrun}
 use Rattle.jack_types.specs.declared.replies.Underrun.{Underrun}
 use Rattle.session_model.specs.Courses.{Course, DiskFile}
@@ -16,12 +16,13 @@ use Rattle.session_model.specs.Scripts.{Script}
 use Rattle.graph_word.specs.Publications.{HaveMet}
 use Rattle.record_ring.specs.Rings.{Sending, Getting, IsPair}
 use Rattle.wave_write.specs.Tapes.{Tape}
+pub use Rattle.disk_player.specs.Playing.{Playing}
 use Rattle.control_desk.specs.Desks.{Desk, IsDesk}
 use Rattle.driver_laws.specs.Drivers.{Driver, HasOwnRings, HasOwnRows, overruns_on, run, underruns_on}
 use Rattle.driver_laws.specs.Keeping.{Fits, Keeps}
 
--- `getting`, `tapes` and `counts` are each recorder's consumer, its file in the making and how many blocks were written into it; `putting` and `sources` are each disk's
--- producer and what its source tells to be left; `playback_file` and `record_files` are what the stores tell that came back
+-- `getting`, `tapes` and `counts` are each recorder's consumer, its file in the making and how many blocks were written into it; `players` are those of the disks' files;
+-- `playback_file` and `record_files` are what the stores tell that came back
 pub record Session : Type 0 where
   pub script : Script
   pub desk : Desk
@@ -29,8 +30,7 @@ pub record Session : Type 0 where
   pub getting : List Getting
   pub tapes : List Tape
   pub counts : List ℕ
-  pub putting : List Sending
-  pub sources : List (Option (List ℤ))
+  pub players : List Playing
   pub playback_file : Option (List ℕ)
   pub record_files : List (Option (List ℕ))
 
@@ -53,11 +53,11 @@ pub record IsFor (session : Session) (given : Given) : Type 0 where
   pub scores : given.scores ≡ session.driver.scores
   pub channels : map (λ (file : DiskFile). file.channels) given.disks ≡ session.script.header.disks
 
--- and the sources of a session that was not run tell it
+-- and the capture and the players of a session that was not run tell it
 pub record IsGiven (session : Session) (given : Given) : Type 0 where
   pub own : IsFor session given
   pub capture : session.driver.left ≡ Some given.capture
-  pub disks : session.sources ≡ map (λ (file : DiskFile). Some file.samples) given.disks
+  pub disks : map (λ (player : Playing). player.left) session.players ≡ map (λ (file : DiskFile). Some file.samples) given.disks
 
 -- a course over what was given
 pub record IsOver (given : Given) (course : Course) : Type 0 where
@@ -81,8 +81,8 @@ pub record IsOne (session : Session) : Type 0 where
   pub capacity : All (λ (ring : Sending). ring.capacity ≡ session.script.header.ring) session.driver.rings
   pub recorder_ends : length session.getting ≡ length session.script.header.recorders
   pub recorder_pairs : (recorder : ℕ) (ring : Sending) (got : Getting) → slice_get session.driver.rings recorder ≡ Some ring → slice_get session.getting recorder ≡ Some got → IsPair ring got
-  pub disk_ends : length session.putting ≡ length session.script.header.disks
-  pub disk_pairs : (disk : ℕ) (ring : Sending) (got : Getting) → slice_get session.putting disk ≡ Some ring → slice_get session.driver.disks disk ≡ Some got → IsPair ring got
+  pub disk_ends : length session.players ≡ length session.script.header.disks
+  pub disk_pairs : (disk : ℕ) (player : Playing) (got : Getting) → slice_get session.players disk ≡ Some player → slice_get session.driver.disks disk ≡ Some got → IsPair player.sending got
 
 -- no later take answers less than is published, and no later look finds less than the last cycle
 pub record IsMet (session : Session) : Type 0 where

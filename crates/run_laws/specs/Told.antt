@@ -1,10 +1,11 @@
 -- What a session's calls answer for.
+--     IsNewPlayer script disk player      the player of a new ring
 --     IsNew      behind `new`
 --     HasLists, Runs      behind `run`
 --     Ends      behind `end`
 --     report_in session      what the report prints, from the desk's and the driver's lists
 --     StandsSoFar kept session given      what the stores hold behind a fault, where so many cycles were played
-use Rattle.std.specs.Prelude.{◌≡◌, ℕ, ◌+◌, ◌<◌, ◌≤◌, List, [], ◌∷◌, length, map, flat_map, slice_get, slice_index_or, All, IfSome, Option, Some, None, IsNone}
+use Rattle.std.specs.Prelude.{◌≡◌, ℕ, ◌+◌, ◌*◌, ◌<◌, ◌≤◌, false, List, [], ◌∷◌, length, map, flat_map, slice_get, slice_index_or, All, IfSome, Option, Some, None, IsNone}
 use Rattle.jack_types.specs.declared.commands.Change.{Change}
 use Rattle.jack_types.specs.declared.commands.Command.{Command}
 use Rattle.jack_types.specs.declared.commands.Command.TheVariants.{Open}
@@ -18,18 +19,31 @@ use Rattle.session_model.specs.Playback.{playback_format}
 use Rattle.session_model.specs.Recorders.{Lost, recorder_format}
 use Rattle.session_model.specs.Reports.{PrintedCycle, PrintedDisk, PrintedEvent, PrintedMeter, PrintedRecorder, Report, printed_call, report_lines}
 use Rattle.session_model.specs.Samples.{below}
-use Rattle.session_model.specs.Scripts.{phases}
+use Rattle.session_model.specs.Scripts.{Script, phases}
 use Rattle.session_model.specs.Serial.{serial}
 use Rattle.graph_word.specs.Publications.{IsOpening}
 use Rattle.record_ring.specs.Rings.{Sending, Getting}
 use Rattle.wave_write.specs.Tapes.{HasFront}
 use Rattle.disk_recorder.specs.Recordings.{samples_of_blocks}
+use Rattle.disk_player.specs.Playing.{Playing}
 use Rattle.control_desk.specs.Desks.{IsNewDesk, base_of}
 use Rattle.driver_laws.specs.Drivers.{Driver, log_in, overruns_on, peak_in, run, underruns_on}
 use Rattle.driver_laws.specs.Keeping.{kept_blocks, played_so_far}
 use Rattle.driver_laws.specs.Openings.{IsNew as IsNewDriver}
 use Rattle.run_laws.specs.Sessions.{Session, IsGiven, IsOne, KeepsGiven, course_in, printed_of}
 use Rattle.run_laws.specs.Runs.{AtPhase, RanPhases}
+
+-- nothing was read or put; its blocks have a period's frames of the disk's channels
+pub record IsNewPlayer (script : Script) (disk : ℕ) (player : Playing) : Type 0 where
+  pub put : player.sending.put ≡ []
+  pub looks : player.sending.least ≡ 0
+  pub open_ended : player.sending.ended ≡ false
+  pub capacity : player.sending.capacity ≡ script.header.ring
+  pub size : player.sending.samples ≡ slice_index_or script.header.disks disk 0 * script.header.period
+  pub some : 0 < player.sending.samples
+  pub waiting : player.waiting ≡ None
+  pub over : player.over ≡ false
+  pub failed : player.failed ≡ false
 
 -- behind `new`: nothing was published, run, put, got or attached
 pub record IsNew (session : Session) : Type 0 where
@@ -38,7 +52,7 @@ pub record IsNew (session : Session) : Type 0 where
   pub new_desk : IsNewDesk session.script session.desk.publishing session.desk
   pub new_driver : IsNewDriver session.script session.driver.scores session.driver
   pub no_gets : All (λ (got : Getting). got.got ≡ []) session.getting
-  pub no_puts : All (λ (ring : Sending). ring.put ≡ []) session.putting
+  pub new_players : (disk : ℕ) (player : Playing) → slice_get session.players disk ≡ Some player → IsNewPlayer session.script disk player
   pub counts : session.counts ≡ map (λ _. 0) session.script.header.recorders
   pub no_tapes : session.tapes ≡ []
 

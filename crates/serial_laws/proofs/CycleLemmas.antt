@@ -10,7 +10,7 @@ use Rattle.driver_laws.specs.Drivers.{run, turn_of}
 use Rattle.driver_laws.specs.Segments.{cycles_before}
 use Rattle.serial_lanes.specs.Lanes.{BehindPhases, SerialDesk}
 use Rattle.run_laws.specs.SerialRuns.{RingSerial, SerialAt, SerialBehind, SerialKept, SerialSoFar}
-use Rattle.run_laws.specs.Sessions.{Session}
+use Rattle.run_laws.specs.Sessions.{Playing, Session}
 use Rattle.serial_laws.specs.Steps.{AreExact, Begun, Emptied, IsSound, KeepsOwn, Turned}
 
 -- ---- between the words of the steps and those of the run
@@ -39,12 +39,12 @@ SerialKept-own given session sound own rings = record {
   own = own.own;
   keeps = own.keeps;
   rings = rings;
-  disks = λ disk ring there. absurd (none disk ring there);
-  turned = λ course over fits disk ring there. absurd (none disk ring there);
+  plays = λ course over disk player there. absurd (none disk player there);
+  turned = λ course over fits disk player there. absurd (none disk player there);
 }
   where
-    none : (disk : ℕ) (ring : Sending) → slice_get session.putting disk ≡ Some ring → ⊥
-    none disk ring there = none-some ring (sym (ap (λ (rings : List Sending). slice_get rings disk) sound.no_disks) ∙ there)
+    none : (disk : ℕ) (player : Playing) → slice_get session.players disk ≡ Some player → ⊥
+    none disk player there = none-some player (sym (ap (λ (players : List Playing). slice_get players disk) sound.no_disks) ∙ there)
 
 KeepsOwn-kept : (given : Given) (session : Session) → SerialKept given session → KeepsOwn given session
 KeepsOwn-kept given session kept = record { own = kept.own; keeps = kept.keeps }

@@ -58,7 +58,7 @@ module _ (session after : Session) (sound : IsSound session) (steps : StepsOnce 
             let old = ring-cycled recorder ring here in
             old.2.pair got (one.recorder_pairs recorder old.0 got old.1 there);
         disk_ends = one.disk_ends;
-        disk_pairs = λ disk ring got here there. absurd (none-some ring (sym (ap (λ rings. slice_get rings disk) sound.no_disks) ∙ here));
+        disk_pairs = λ disk player got here there. absurd (none-some player (sym (ap (λ players. slice_get players disk) sound.no_disks) ∙ here));
       }
     where
       OfRecorders : Overrun → Type 0

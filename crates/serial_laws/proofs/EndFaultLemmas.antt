@@ -93,7 +93,7 @@ module _ (format : Format) (reel : Reel) (filled : IsFilled format reel) where
 module _ (ends : SerialEnds) (all_played : PlayedIsAll) (all_kept : KeptAreAll) (total : CyclesTotal) (given : Given) (session after : Session) (sound : IsSound session)
     (behind : SerialBehind session (length (phases session.script))) (kept : SerialKept given session) (fails : EndFails session after) where
   at : AtPhase session given (length (phases session.script))
-  at = ends.at_end session given behind kept (λ disk ring got here there. absurd (none_below (subst (λ xs. disk < length xs) sound.no_disks (slice_get_within session.putting disk ring here))))
+  at = ends.at_end session given behind kept (λ disk player got here there. absurd (none_below (subst (λ xs. disk < length xs) sound.no_disks (slice_get_within session.players disk player here))))
 
   abbrev course : Course
   course = course_in given session

@@ -53,8 +53,8 @@ module _ (session after : Session) (one : IsOne session) (files : HasFiles sessi
   met_others = record {
     rows = refl;
     rings = rings-stay session after one files ends;
-    disks = λ disk got there. (got, there, record { got = refl; done = refl });
-    back = λ disk old there. (old, there, record { got = refl; done = refl });
+    disks = λ disk got there. (got, there, record { samples = refl; got = refl; done = refl });
+    back = λ disk old there. (old, there, record { samples = refl; got = refl; done = refl });
     same = refl;
   }
 

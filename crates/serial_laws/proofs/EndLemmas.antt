@@ -52,6 +52,7 @@ IsOne-ended session after one files ends = record {
     disks = one.rings.disks;
     puts = puts-same session after one files ends ∙ one.rings.puts;
     gets = one.rings.gets;
+    own_disks = one.rings.own_disks;
     own = λ recorder ring there.
         let stays = rings-stay session after one files ends recorder ring there in
         let old = one.rings.own recorder stays.0 stays.1 in

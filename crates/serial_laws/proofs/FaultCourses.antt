@@ -84,8 +84,8 @@ HasMetOthers-gave most session after filled gives = subst (λ d. HasMetOthers se
       let was = reel-of session filled recorder (omega (arith, h, gives.rings, filled.rings)) in
       let now = reel-of after filled_after recorder (omega (arith, h, filled_after.rings)) in
       (was.0.ring, was.1.ring, subst (RingStays was.0.ring) (same_Some now.0.ring ring (sym now.1.ring ∙ there)) (RingStays-gave most was.0 now.0 (gives.each recorder was.0 now.0 was.1 now.1)));
-  disks = λ disk got there. (got, there, record { got = refl; done = refl });
-  back = λ disk got there. (got, there, record { got = refl; done = refl });
+  disks = λ disk got there. (got, there, record { samples = refl; got = refl; done = refl });
+  back = λ disk got there. (got, there, record { samples = refl; got = refl; done = refl });
   same = refl;
 })
 
@@ -94,8 +94,8 @@ HasMetOthers-emptied true session after filled gives = HasMetOthers-gave session
 HasMetOthers-emptied false session after filled same = subst (λ (s : Session). HasMetOthers session.driver s.driver) (sym same) (record {
   rows = refl;
   rings = λ recorder ring there. (ring, there, record { put = refl; capacity = refl; samples = refl; most = refl; least = omega arith });
-  disks = λ disk got there. (got, there, record { got = refl; done = refl });
-  back = λ disk got there. (got, there, record { got = refl; done = refl });
+  disks = λ disk got there. (got, there, record { samples = refl; got = refl; done = refl });
+  back = λ disk got there. (got, there, record { samples = refl; got = refl; done = refl });
   same = refl;
 })
 

@@ -106,6 +106,7 @@ module _ (session : Session) (sound : IsSound session) where
           ap length stays.2.put ∙ ap (λ (r : Sending). length r.put) (same_Some stays.0 old (sym stays.1 ∙ there)))
           ∙ sound.one.rings.puts;
       gets = sound.one.rings.gets;
+      own_disks = sound.one.rings.own_disks;
       own = λ recorder ring here.
           let stays = RingStays-gave recorder ring here in
           let own : IsOwnRing session.driver recorder stays.0 = sound.one.rings.own recorder stays.0 stays.1 in

@@ -29,8 +29,8 @@ HasMetOthers-rings : (driver : Driver) (rings : List Sending) → ((recorder : �
 HasMetOthers-rings driver rings stays = record {
   rows = refl;
   rings = stays;
-  disks = λ disk got here. (got, here, record { got = refl; done = refl });
-  back = λ disk old here. (old, here, record { got = refl; done = refl });
+  disks = λ disk got here. (got, here, record { samples = refl; got = refl; done = refl });
+  back = λ disk old here. (old, here, record { samples = refl; got = refl; done = refl });
   same = refl;
 }
 
@@ -39,8 +39,8 @@ HasMetOthers-reading : (driver : Driver) (least : ℕ) → HasMetOthers driver (
 HasMetOthers-reading driver least = record {
   rows = refl;
   rings = λ recorder ring here. (ring, here, record { put = refl; capacity = refl; samples = refl; most = refl; least = le_refl ring.least });
-  disks = λ disk got here. (got, here, record { got = refl; done = refl });
-  back = λ disk old here. (old, here, record { got = refl; done = refl });
+  disks = λ disk got here. (got, here, record { samples = refl; got = refl; done = refl });
+  back = λ disk old here. (old, here, record { samples = refl; got = refl; done = refl });
   same = refl;
 }
 

@@ -62,6 +62,7 @@ IsOne-found session least one = record {
     disks = one.rings.disks;
     puts = one.rings.puts;
     gets = one.rings.gets;
+    own_disks = one.rings.own_disks;
     own = λ recorder ring here. let own = one.rings.own recorder ring here in record { samples = own.samples; most = own.most; items = own.items };
   };
   own_recorders = one.own_recorders;

@@ -56,6 +56,7 @@ HasOwnRings-bare driver rings = record {
   puts = rings.puts;
   gets = rings.gets;
   own = λ recorder ring here. record { samples = (rings.own recorder ring here).samples; most = (rings.own recorder ring here).most; items = (rings.own recorder ring here).items };
+  own_disks = rings.own_disks;
 }
 
 pub IsOne-bare : (session : Session) → IsOne (bare session) → IsOne session
@@ -143,7 +144,7 @@ module _ (session : Session) (new : IsNew (bare session)) where
   empty_ring : (recorder : ℕ) (ring : Sending) → slice_get session.driver.rings recorder ≡ Some ring → IsEmptyRing session.script.header.ring ring
   empty_ring recorder ring here = all-there (IsEmptyRing session.script.header.ring) session.driver.rings recorder ring new.new_driver.rings here
 
-  pub IsSound-new : session.putting ≡ [] → HasFiles session → IsSound session
+  pub IsSound-new : session.players ≡ [] → HasFiles session → IsSound session
   IsSound-new no_disks files = record {
     one = one;
     misses = misses;
@@ -152,7 +153,7 @@ module _ (session : Session) (new : IsNew (bare session)) where
     no_disks = no_disks;
   }
 
-  pub SerialBehind-new : BehindNone → IsNone session.script.header.threads → session.putting ≡ [] → HasFiles session → SerialBehind session 0
+  pub SerialBehind-new : BehindNone → IsNone session.script.header.threads → session.players ≡ [] → HasFiles session → SerialBehind session 0
   SerialBehind-new none serial no_disks files = record {
     so_far = record {
       one = one;
@@ -188,11 +189,11 @@ module _ (session : Session) (new : IsNew (bare session)) where
       none_got = all-there (λ (g : Getting). g.got ≡ []) session.getting recorder got new.no_gets got_there
 
   pub SerialKept-new : ((session : Session) (given : Given) → IsNew session → IsGiven session given → KeepsAny given session.driver) → (given : Given)
-      → session.putting ≡ [] → HasTape session.driver.playback [] → AreFresh session → IsGiven session given → SerialKept given session
+      → session.players ≡ [] → HasTape session.driver.playback [] → AreFresh session → IsGiven session given → SerialKept given session
   SerialKept-new keeps given no_disks tape fresh is_given = record {
     own = is_given.own;
     keeps = KeepsAny-bare given session.driver none_run tape (keeps (bare session) given new (record { own = record { script = is_given.own.script; scores = is_given.own.scores; channels = is_given.own.channels }; capture = is_given.capture; disks = is_given.disks }));
     rings = ring_serial fresh;
-    disks = λ disk ring here. absurd (nothing_there session.putting disk ring no_disks here);
-    turned = λ course over fits disk ring here. absurd (nothing_there session.putting disk ring no_disks here);
+    plays = λ course over disk player here. absurd (nothing_there session.players disk player no_disks here);
+    turned = λ course over fits disk player here. absurd (nothing_there session.players disk player no_disks here);
   }

@@ -5,9 +5,9 @@
 --     SerialRings-stays      rings whose counts are those of serial mode stay so
 use Rattle.std.proofs.Common.{◌≡◌, ℕ, ◌<◌, Bool, true, false, List, length, slice_get, Some, sym, ◌∙◌, ap, subst}
 use Rattle.std.proofs.lemmas.List.{length-map}
-use Rattle.jack_types.specs.declared.kinds.Score.{Score}
 use Rattle.jack_types.specs.declared.replies.Overrun.{Overrun}
 use Rattle.jack_types.specs.declared.replies.Underrun.{Underrun}
+use Rattle.session_model.specs.Kinds.{Sound}
 use Rattle.session_model.specs.Scripts.{Script}
 use Rattle.session_model.specs.Serial.{Counts, counts, serial_course}
 use Rattle.graph_word.specs.declared.view.TakenRow.{TakenRow}
@@ -81,7 +81,7 @@ IsReel-cycled session after recorder reel ring cycled is there = record {
 pub record Lists : Type 0 where
   pub script : Script
   pub driver_script : Script
-  pub scores : List Score
+  pub scores : List Sound
   pub numbers : List ℕ
   pub rows : List TakenRow
   pub overruns : List Overrun

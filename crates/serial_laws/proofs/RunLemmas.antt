@@ -48,4 +48,4 @@ Runs-serial ends lists lost before after same sound behind kept = record {
     no_disks = sym sound.one.disk_ends ∙ ap length sound.no_disks
 
     at : (given : Given) → IsGiven before given → AtPhase after given (length (phases after.script))
-    at given is_given = ends.at_end after given behind (kept given is_given) (λ disk ring got here there. absurd (none_below (subst (λ xs. disk < length xs) sound.no_disks (slice_get_within after.putting disk ring here))))
+    at given is_given = ends.at_end after given behind (kept given is_given) (λ disk player got here there. absurd (none_below (subst (λ xs. disk < length xs) sound.no_disks (slice_get_within after.players disk player here))))

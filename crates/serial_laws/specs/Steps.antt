@@ -99,7 +99,7 @@ pub record IsSound (session : Session) : Type 0 where
   pub misses : MissesInRun session
   pub files : HasFiles session
   pub no_end : All (λ (ring : Sending). ring.ended ≡ false) session.driver.rings
-  pub no_disks : session.putting ≡ []
+  pub no_disks : session.players ≡ []
 
 -- no ring has a block that was not got, and each producer knows it
 abbrev pub AreEmpty : Session → Type 0

@@ -18,9 +18,9 @@ use serial_lanes::laws::desk_by_phases;
 /// A new session whose files are begun stands before its first phase. Where its playback has no samples yet, and the ends of
 /// its rings know of no block, it keeps every course over what its sources tell.
 pub fn a_session_stands_before_its_first_phase()
-    ensures sound { (session : Session) → IsNew (bare session) → session.putting ≡ [] → HasFiles session → IsSound session }
-    ensures behind { (session : Session) → IsNew (bare session) → IsNone session.script.header.threads → session.putting ≡ [] → HasFiles session → SerialBehind session 0 }
-    ensures kept { (session : Session) (given : Given) → IsNew (bare session) → IsNone session.script.header.threads → session.putting ≡ [] → HasFiles session
+    ensures sound { (session : Session) → IsNew (bare session) → session.players ≡ [] → HasFiles session → IsSound session }
+    ensures behind { (session : Session) → IsNew (bare session) → IsNone session.script.header.threads → session.players ≡ [] → HasFiles session → SerialBehind session 0 }
+    ensures kept { (session : Session) (given : Given) → IsNew (bare session) → IsNone session.script.header.threads → session.players ≡ [] → HasFiles session
         → HasTape session.driver.playback [] → AreFresh session → IsGiven session given → SerialKept given session }
 {
     a_new_session_keeps();

@@ -2,10 +2,9 @@
 --     Begun many driver after      so many cycles were begun
 --     begun-join      those of a join that failed
 --     join-stays      what it left as it was
-use Rattle.std.proofs.Common.{◌≡◌, ℕ, zero, suc, ◌+◌, ◌<◌, ◌≤◌, Bool, true, false, List, [], ◌∷◌, ◌++◌, length, length-append, All, refl, sym, ◌∙◌, ap, subst, arith, append_assoc}
-use Rattle.std.specs.List.Sorted.{IsNonDecreasing}
+use Rattle.std.proofs.Common.{◌≡◌, ℕ, zero, suc, ◌≤◌, Bool, [], ◌∷◌, ◌++◌, length, All, sym, ◌∙◌, ap, subst, arith, append_assoc}
 use Rattle.std.proofs.lemmas.List.{length_push}
-use Rattle.std.proofs.lemmas.List.Elements.{All-append, All-nil, All-push, All-weaker}
+use Rattle.std.proofs.lemmas.List.Elements.{All-nil, All-push, All-weaker}
 use Rattle.graph_word.specs.Publications.{Begins, Reading, Takes}
 use Rattle.driver_laws.specs.Cycling.{CyclesMany}
 use Rattle.driver_laws.specs.Drivers.{Driver}

@@ -11,11 +11,11 @@ use Rattle.jack_types.specs.declared.commands.Change.{Change}
 use Rattle.jack_types.specs.declared.replies.Entry.{Entry}
 use Rattle.session_model.specs.Grammar.{IsScript}
 use Rattle.session_model.specs.Histories.{IsWithinPhase, LegalSoFar, accepted_below, stage_of}
-use Rattle.session_model.specs.Scripts.{Phase, Script, ScriptCycle, phases, turns}
-use Rattle.graph_word.specs.Publications.{IsFront, Publishing, Reading}
-use Rattle.control_desk.specs.Desks.{Desk, GoesOn, IsOfPhases}
+use Rattle.session_model.specs.Scripts.{Script, ScriptCycle, turns}
+use Rattle.graph_word.specs.Publications.{IsFront, Reading}
+use Rattle.control_desk.specs.Desks.{GoesOn, IsOfPhases}
 use Rattle.control_desk.specs.Laws.{AcceptedLater, AcceptedUpTo}
-use Rattle.driver_laws.specs.Drivers.{Driver, run, turn_of}
+use Rattle.driver_laws.specs.Drivers.{run, turn_of}
 use Rattle.driver_laws.specs.Segments.{cycles_before}
 use Rattle.run_laws.specs.Runs.{RanPhases}
 use Rattle.run_laws.specs.Sessions.{Session}

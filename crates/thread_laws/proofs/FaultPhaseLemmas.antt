@@ -77,7 +77,7 @@ joined-run base many kept paced driven ended served script_is is named filled dr
     fits-driven : (course : Course) → Fits served.driver course → Fits driven.driver course
     fits-driven course fits = Fits-set driven.driver course driven.driver.reading driven.driver.set (map with_end driven.driver.rings) refl (subst (λ (x : Driver). Fits x course) driver-is fits)
 
-module _ (of_calls : OfCallsAccepted) (given : Given) (session after : Session) (done many kept : ℕ) (freewheel : Bool) (at : AtPhase session given done) (threads : IsSome session.script.header.threads) (none : session.putting ≡ [])
+module _ (of_calls : OfCallsAccepted) (given : Given) (session after : Session) (done many kept : ℕ) (freewheel : Bool) (at : AtPhase session given done) (threads : IsSome session.script.header.threads) (none : session.players ≡ [])
     (fault : ThreadFault done many freewheel kept session after) where
   -- ---- before the cycles
 

@@ -58,7 +58,7 @@ module _ (session : Session) (new : IsNew (bare session)) where
       }
 
   pub AtPhase-new : OfCallsAccepted → BehindNone → ((session : Session) (given : Given) → IsNew session → IsGiven session given → KeepsAny given session.driver) → (given : Given)
-      → session.putting ≡ [] → HasFiles session → HasTape session.driver.playback [] → AreFresh session → IsGiven session given → AtPhase session given 0
+      → session.players ≡ [] → HasFiles session → HasTape session.driver.playback [] → AreFresh session → IsGiven session given → AtPhase session given 0
   AtPhase-new of_calls none keeps given no_disks files tape fresh is_given =
       let kept = SerialKept-new session new keeps given no_disks tape fresh is_given in
       let own : KeepsOwn given session = record { own = kept.own; keeps = kept.keeps } in
@@ -68,7 +68,7 @@ module _ (session : Session) (new : IsNew (bare session)) where
 pub Runs-threads : ((session : Session) → RanPhases session (length (phases session.script)) → HasLists session)
     → ((session : Session) (given : Given) → AtPhase session given (length (phases session.script))
     → (recorder : ℕ) → recorder < length session.script.header.recorders → Lost (course_in given session) (overruns_on session.driver.overruns recorder) recorder)
-    → (before after : Session) → IsSome before.script.header.threads → after.script ≡ before.script → after.putting ≡ [] → RanPhases after (length (phases after.script))
+    → (before after : Session) → IsSome before.script.header.threads → after.script ≡ before.script → after.players ≡ [] → RanPhases after (length (phases after.script))
     → ((given : Given) → IsGiven before given → AtPhase after given (length (phases after.script))) → Runs before after
 Runs-threads lists lost before after threads same no_disks ran at = record {
   script = same;

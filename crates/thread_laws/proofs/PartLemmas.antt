@@ -52,6 +52,7 @@ IsSoundBut-turned session desk least set sound is script table =
           disks = one.rings.disks;
           puts = one.rings.puts;
           gets = one.rings.gets;
+          own_disks = one.rings.own_disks;
           own = λ recorder ring here. let own = one.rings.own recorder ring here in record { samples = own.samples; most = own.most; items = own.items };
         };
         own_recorders = one.own_recorders;
@@ -120,7 +121,7 @@ IsSound-went session after sound went =
     IsSound-open after (IsSoundBut-went session after (IsSoundBut-sound session sound) went) (NoEnd-left session after sound (ap (λ (s : Session). s.driver.rings) went.same))
 
 -- between two segments of threads mode the parts are sound, for no ring has an end
-pub IsSound-rest : (session : Session) (given : Given) (done : ℕ) → IsSome session.script.header.threads → session.putting ≡ [] → AtPhase session given done → IsSound session
+pub IsSound-rest : (session : Session) (given : Given) (done : ℕ) → IsSome session.script.header.threads → session.players ≡ [] → AtPhase session given done → IsSound session
 IsSound-rest session given done threads no_disks at =
     let one : IsOne session = at.ran.one in
     record {

@@ -182,6 +182,7 @@ module _ (session after : Session) (sound : IsSoundBut session) (ends : EndsStay
         recorder ring here old there)
         ∙ sound.one.rings.puts;
     gets = sound.one.rings.gets;
+    own_disks = sound.one.rings.own_disks;
     own = each-ring (λ k (r : Sending). IsOwnRing (record session.driver { rings = after.driver.rings }) k r) (λ k s.
         let own : IsOwnRing session.driver k s.reel.ring = sound.one.rings.own k s.reel.ring s.before.ring in
         record {

@@ -35,8 +35,8 @@ Keeps-turned driver least set rings course stays keeps =
     let met : HasMetOthers driver (turned_to driver least driver.set rings) = record {
       rows = refl;
       rings = stays;
-      disks = λ disk got here. (got, here, record { got = refl; done = refl });
-      back = λ disk old here. (old, here, record { got = refl; done = refl });
+      disks = λ disk got here. (got, here, record { samples = refl; got = refl; done = refl });
+      back = λ disk old here. (old, here, record { samples = refl; got = refl; done = refl });
       same = refl;
     } in
     let there : Keeps (turned_to driver least driver.set rings) course = Keeps-met driver (turned_to driver least driver.set rings) course met keeps in

@@ -112,7 +112,7 @@ module _ (given : Given) (session : Session) (sound : IsSound session) (rest : R
       (RingAtRest-renewed given renewed recorder old.0 ring old_got.0 got (renews.each recorder old.0 ring old_got.0 got old.1 old_got.1 ring_there got_there) (IsGot-left served filled back joins.got recorder old.0 old_got.0 old.1 old_got.1) behind)
 
 -- what stands between two segments, behind one more
-pub RingsAtRest-phase : (given : Given) (session after : Session) (done many : ℕ) (freewheel : Bool) → IsSome session.script.header.threads → session.putting ≡ [] → AtPhase session given done
+pub RingsAtRest-phase : (given : Given) (session after : Session) (done many : ℕ) (freewheel : Bool) → IsSome session.script.header.threads → session.players ≡ [] → AtPhase session given done
     → run session.driver + many ≤ cycles_before session.script (done + 1) → ThreadSegment done many freewheel session after → RingsAtRest given after
 RingsAtRest-phase given session after done many freewheel threads no_disks at within segment =
     RingsAtRest-segment given session (IsSound-rest session given done threads no_disks at) (at.rings threads) done many freewheel after at.given_kept.own at.given_kept.keeps at.ran.cycles within segment

@@ -18,7 +18,7 @@ use Rattle.driver_laws.specs.Drivers.{Driver, run, turn_of, underruns_on}
 use Rattle.driver_laws.specs.Segments.{cycles_before}
 use Rattle.driver_laws.proofs.PlaceLemmas.{none_below}
 use Rattle.run_laws.specs.Runs.{AtPhase, RanPhases}
-use Rattle.run_laws.specs.Sessions.{Session}
+use Rattle.run_laws.specs.Sessions.{Playing, Session}
 use Rattle.run_laws.proofs.CourseLemmas.{Fits-met}
 use Rattle.serial_laws.specs.Steps.{IsSound, KeepsOwn}
 use Rattle.serial_laws.proofs.CycledLemmas.{IsSound-cycled}
@@ -136,13 +136,17 @@ AtPhase-rest of_calls given session done sound ran kept rest = record {
   };
   files = sound.files;
   rings = λ threads. rest;
-  disks = λ disk ring got here there. absurd (none-some ring (sym (ap (λ rings. slice_get rings disk) sound.no_disks) ∙ here));
+  plays = λ course over disk player here. absurd (no_player disk player here);
+  disks = λ disk player got here there. absurd (no_player disk player here);
   misses = λ threads disk course over fits.
       subst (λ (us : List Underrun). All (IsBehindRing course disk) (underruns_on us disk)) (sym (none-missed (length session.script.header.disks) session.driver.underruns none sound.one.own_disks)) (λ k d h. absurd (none_below h));
 }
   where
     none : length session.script.header.disks ≡ 0
     none = sym sound.one.disk_ends ∙ ap length sound.no_disks
+
+    no_player : (disk : ℕ) (player : Playing) → slice_get session.players disk ≡ Some player → ⊥
+    no_player disk player here = none-some player (sym (ap (λ players. slice_get players disk) sound.no_disks) ∙ here)
 
     no_disk : (disk : ℕ) (got : Getting) → slice_get session.driver.disks disk ≡ Some got → ⊥
     no_disk disk got here =

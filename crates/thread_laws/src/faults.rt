@@ -17,7 +17,7 @@ use serial_laws::numbers::cycles_of_a_phase;
 
 /// Behind a phase that failed, in whatever schedule, each file holds a front of what was really played, or kept.
 pub fn a_phase_that_fails_leaves_fronts()
-    ensures { (given : Given) (session after : Session) (done many kept : ℕ) (freewheel : Bool) → AtPhase session given done → IsSome session.script.header.threads → session.putting ≡ []
+    ensures { (given : Given) (session after : Session) (done many kept : ℕ) (freewheel : Bool) → AtPhase session given done → IsSome session.script.header.threads → session.players ≡ []
         → ThreadFault done many freewheel kept session after → StandsUnfinished kept (told after) given }
 {
     accepted_of_legal();

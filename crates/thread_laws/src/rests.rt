@@ -19,7 +19,7 @@ use serial_lanes::laws::desk_by_phases;
 /// A new session whose files are begun stands before its first phase.
 pub fn a_new_session_is_at_rest()
     ensures ran { (session : Session) → IsNew (bare session) → RanPhases session 0 }
-    ensures at { (session : Session) (given : Given) → IsNew (bare session) → session.putting ≡ [] → HasFiles session → HasTape session.driver.playback [] → AreFresh session
+    ensures at { (session : Session) (given : Given) → IsNew (bare session) → session.players ≡ [] → HasFiles session → HasTape session.driver.playback [] → AreFresh session
         → IsGiven session given → AtPhase session given 0 }
 {
     a_new_session_keeps();
@@ -41,7 +41,7 @@ pub fn a_phase_is_behind()
 
 /// Behind its last phase its lists are lawful, and its overruns ones that can be.
 pub fn a_run_with_threads_is_whole()
-    ensures { (before after : Session) → IsSome before.script.header.threads → after.script ≡ before.script → after.putting ≡ [] → RanPhases after (length (phases after.script))
+    ensures { (before after : Session) → IsSome before.script.header.threads → after.script ≡ before.script → after.players ≡ [] → RanPhases after (length (phases after.script))
         → ((given : Given) → IsGiven before given → AtPhase after given (length (phases after.script))) → Runs before after }
 {
     lists_are_lawful();

@@ -32,6 +32,6 @@ pub fn cycles_look_no_lower()
 
 /// Behind a phase of threads mode each ring is at rest again.
 pub fn rings_come_to_rest()
-    ensures { (given : Given) (session after : Session) (done many : ℕ) (freewheel : Bool) → IsSome session.script.header.threads → session.putting ≡ [] → AtPhase session given done
+    ensures { (given : Given) (session after : Session) (done many : ℕ) (freewheel : Bool) → IsSome session.script.header.threads → session.players ≡ [] → AtPhase session given done
         → run session.driver + many ≤ cycles_before session.script (done + 1) → ThreadSegment done many freewheel session after → RingsAtRest given after }
 {}
