@@ -6,27 +6,24 @@
 --     next-at      a lane's next call
 --     below-counted      what was accepted below a stage
 --     few, calls-left, changes-left, count-left      there is room for one more
-use Rattle.std.proofs.Common.{◌≡◌, ℕ, zero, suc, ◌+◌, ◌<◌, ◌≤◌, ◌⊎◌, inl, inr, Bool, true, false, cond, ◌==◌, count_by, List, [], ◌∷◌, ◌++◌, length, length-append, get_or, map, filter, nat_lt, take, set, slice_get, Option, Some, None, is_none, refl, sym, ◌∙◌, ap, subst, arith}
+use Rattle.std.proofs.Common.{◌≡◌, ℕ, suc, ◌+◌, ◌<◌, ◌≤◌, ◌⊎◌, inl, inr, Bool, true, false, cond, ◌==◌, count_by, List, [], ◌∷◌, ◌++◌, length, length-append, get_or, map, filter, nat_lt, take, set, slice_get, Some, refl, sym, ◌∙◌, ap, subst, arith}
 use Rattle.std.specs.Option.{option_map_or}
 use Rattle.std.proofs.lemmas.List.{map-append, length-map, take-append-le, take_at}
 use Rattle.std.proofs.lemmas.List.Sums.{sum_by_push, sum_by-cons}
 use Rattle.std.proofs.lemmas.Option.{slice_get_within}
 use Rattle.jack_types.specs.declared.commands.Call.{Call}
 use Rattle.jack_types.specs.declared.commands.Change.{Change}
-use Rattle.jack_types.specs.declared.commands.Command.{Command}
-use Rattle.jack_types.specs.declared.commands.Command.TheVariants.{Latency}
 use Rattle.jack_types.specs.declared.replies.Entry.{Entry}
-use Rattle.jack_types.specs.declared.replies.Refusal.{Refusal}
 use Rattle.jack_types.specs.declared.replies.Reply.{Reply}
 use Rattle.jack_types.specs.declared.replies.Reply.TheVariants.{Accepted, Refused, Latency as Told}
 use Rattle.cycle_plan.specs.Graphs.{HasTempo}
 use Rattle.graph_replies.specs.Told.{HasShortDelays}
 use Rattle.lane_calls.specs.Plans.{plan_of as plan_with}
 use Rattle.port_registry.proofs.PlaceLemmas.{slice_get-push}
-use Rattle.session_model.specs.Commands.{after, effect, refusal, replay}
+use Rattle.session_model.specs.Commands.{after, refusal}
 use Rattle.session_model.specs.Grammar.{IsScript}
 use Rattle.session_model.specs.Histories.{accepted, accepted_below, calls_of, plan_of, stage_of, state_after}
-use Rattle.session_model.specs.Replies.{granted, reply, reply_by}
+use Rattle.session_model.specs.Replies.{reply}
 use Rattle.session_model.specs.Samples.{below}
 use Rattle.session_model.specs.Scripts.{Script, Planned, planned_of}
 use Rattle.session_model.specs.Serial.{answered}
@@ -34,42 +31,19 @@ use Rattle.session_model.specs.State.{State, opening}
 use Rattle.session_laws.proofs.ActivationLemmas.{get_or-map_below}
 use Rattle.session_laws.proofs.HistoryLemmas.{LegalSoFar-none}
 use Rattle.session_laws.proofs.SerialLemmas.{plan_of-planned}
+use Rattle.call_laws.proofs.ItemLemmas.{none-some}
+use Rattle.call_laws.proofs.KeptLemmas.{counts-set, state-answered}
+use Rattle.call_laws.proofs.RoomLemmas.{accepted-length, accepted-push}
+use Rattle.call_laws.proofs.ScriptLemmas.{planned-lawful}
+use Rattle.call_laws.proofs.StateLemmas.{command-tempo}
 use Rattle.call_checks.specs.Checks.{Checks}
 use Rattle.call_checks.specs.Kept.{Enters, IsKept, IsNext, IsNoted, entry_of, is_below, made}
 use Rattle.call_checks.specs.declared.checks.RightCall.{RightCall}
-use Rattle.call_checks.proofs.ItemLemmas.{none-some}
 use Rattle.call_checks.proofs.NextLemmas.{legal-next, next-planned}
-use Rattle.call_checks.proofs.RoomLemmas.{accepted-length, accepted-push, history-few}
-use Rattle.call_checks.proofs.ScriptLemmas.{planned-lawful}
-use Rattle.call_checks.proofs.StateLemmas.{command-tempo, short-after, short-opening}
+use Rattle.call_checks.proofs.RoomLemmas.{history-few}
+use Rattle.call_checks.proofs.StateLemmas.{short-after, short-opening}
 
 -- ---- the state behind a call
-
-replay-append : (state : State) (xs ys : List Change) → replay state (xs ++ ys) ≡ replay (replay state xs) ys
-replay-append state [] ys = refl
-replay-append state (x ∷ xs) ys = replay-append (after state x.number x.command) xs ys
-
--- a reply says what the command makes of the state
-behind-reply : (state : State) (number : ℕ) (call : Call) → replay state (accepted (record { call = call; reply = reply state number call.command } ∷ [])) ≡ after state number call.command
-behind-reply state number call = go (refusal state call.command) refl
-  where
-    grants : (c : Command) → replay state (accepted (record { call = record call { command = c }; reply = granted state number c } ∷ [])) ≡ after state number c
-    grants (Latency mode port) = same (is_none (refusal state (Latency mode port)))
-      where
-        same : (b : Bool) → state ≡ cond b state state
-        same true = refl
-        same false = refl
-    grants _ = refl
-
-    go : (o : Option Refusal) → refusal state call.command ≡ o → replay state (accepted (record { call = call; reply = reply_by state number call.command o } ∷ [])) ≡ after state number call.command
-    go (Some r) e = ap (λ q. cond (is_none q) (effect state number call.command) state) (sym e)
-    go None e = grants call.command
-
-pub state-answered : (script : Script) (history : List Entry) (call : Call) → state_after script (history ++ answered script history call ∷ []) ≡ after (state_after script history) (length (accepted history) + 1) call.command
-state-answered script history call =
-    ap (replay (opening script.header.capture script.header.playback)) (accepted-push history (answered script history call))
-    ∙ replay-append (opening script.header.capture script.header.playback) (accepted history) (accepted (answered script history call ∷ []))
-    ∙ behind-reply (state_after script history) (length (accepted history) + 1) call
 
 -- ---- how many calls the lanes made
 
@@ -79,30 +53,6 @@ made-push history entry lane = ap (count_by (λ (call : Call). call.lane == lane
     pushed : (es : List Entry) → calls_of (es ++ entry ∷ []) ≡ calls_of es ++ entry.call ∷ []
     pushed [] = refl
     pushed (e ∷ es) = ap (λ cs. e.call ∷ cs) (pushed es)
-
-five-same : (a0 a1 a2 a3 a4 : ℕ) (b : ℕ → ℕ) → a0 ≡ b 0 → a1 ≡ b 1 → a2 ≡ b 2 → a3 ≡ b 3 → a4 ≡ b 4 → a0 ∷ a1 ∷ a2 ∷ a3 ∷ a4 ∷ [] ≡ map b (below 5)
-five-same a0 a1 a2 a3 a4 b e0 e1 e2 e3 e4 =
-    ap (λ x. x ∷ a1 ∷ a2 ∷ a3 ∷ a4 ∷ []) e0 ∙ ap (λ x. b 0 ∷ x ∷ a2 ∷ a3 ∷ a4 ∷ []) e1 ∙ ap (λ x. b 0 ∷ b 1 ∷ x ∷ a3 ∷ a4 ∷ []) e2
-    ∙ ap (λ x. b 0 ∷ b 1 ∷ b 2 ∷ x ∷ a4 ∷ []) e3 ∙ ap (λ x. b 0 ∷ b 1 ∷ b 2 ∷ b 3 ∷ x ∷ []) e4
-
--- one of five counts is one more
-counts-set : (count new : ℕ → ℕ) (lane : ℕ) → lane ≤ 4 → ((k : ℕ) → new k ≡ count k + cond (lane == k) 1 0) → set (map count (below 5)) lane (count lane + 1) ≡ map new (below 5)
-counts-set count new zero h more =
-    let m0 = more 0 in let m1 = more 1 in let m2 = more 2 in let m3 = more 3 in let m4 = more 4 in
-    five-same (count 0 + 1) (count 1) (count 2) (count 3) (count 4) new (omega (arith, m0)) (omega (arith, m1)) (omega (arith, m2)) (omega (arith, m3)) (omega (arith, m4))
-counts-set count new (suc zero) h more =
-    let m0 = more 0 in let m1 = more 1 in let m2 = more 2 in let m3 = more 3 in let m4 = more 4 in
-    five-same (count 0) (count 1 + 1) (count 2) (count 3) (count 4) new (omega (arith, m0)) (omega (arith, m1)) (omega (arith, m2)) (omega (arith, m3)) (omega (arith, m4))
-counts-set count new (suc (suc zero)) h more =
-    let m0 = more 0 in let m1 = more 1 in let m2 = more 2 in let m3 = more 3 in let m4 = more 4 in
-    five-same (count 0) (count 1) (count 2 + 1) (count 3) (count 4) new (omega (arith, m0)) (omega (arith, m1)) (omega (arith, m2)) (omega (arith, m3)) (omega (arith, m4))
-counts-set count new (suc (suc (suc zero))) h more =
-    let m0 = more 0 in let m1 = more 1 in let m2 = more 2 in let m3 = more 3 in let m4 = more 4 in
-    five-same (count 0) (count 1) (count 2) (count 3 + 1) (count 4) new (omega (arith, m0)) (omega (arith, m1)) (omega (arith, m2)) (omega (arith, m3)) (omega (arith, m4))
-counts-set count new (suc (suc (suc (suc zero)))) h more =
-    let m0 = more 0 in let m1 = more 1 in let m2 = more 2 in let m3 = more 3 in let m4 = more 4 in
-    five-same (count 0) (count 1) (count 2) (count 3) (count 4 + 1) new (omega (arith, m0)) (omega (arith, m1)) (omega (arith, m2)) (omega (arith, m3)) (omega (arith, m4))
-counts-set count new (suc (suc (suc (suc (suc lane))))) h more = absurd (omega (arith, h))
 
 pub counts-made : (history : List Entry) (entry : Entry) → entry.call.lane ≤ 4 → set (map (made history) (below 5)) entry.call.lane (made history entry.call.lane + 1) ≡ map (made (history ++ entry ∷ [])) (below 5)
 counts-made history entry low = counts-set (made history) (made (history ++ entry ∷ [])) entry.call.lane low (made-push history entry)

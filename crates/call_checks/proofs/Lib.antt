@@ -1,5 +1,3 @@
-mod ItemLemmas
-mod ScriptLemmas
 mod LaneLemmas
 mod RoomLemmas
 mod StateLemmas

@@ -22,10 +22,11 @@ use Rattle.session_laws.proofs.HistoryLemmas.{IsNextCall, LegalSoFar-next}
 use Rattle.session_laws.proofs.ListLemmas.{Contains-filtered, map-take, slice_get-map}
 use Rattle.session_laws.proofs.LoopLemmas.{and_parts}
 use Rattle.session_laws.proofs.SerialLemmas.{plan_of-planned}
+use Rattle.call_laws.proofs.ItemLemmas.{contained, mapped_some, none-some, some-same}
+use Rattle.call_laws.proofs.LaneLemmas.{lanes_all, of_lane}
 use Rattle.call_checks.specs.Checks.{Answers, Checks, GoesOn}
 use Rattle.call_checks.specs.Kept.{AreMadeBelow, Enters, Finds, IsDue, IsNext, IsNextAs, made}
-use Rattle.call_checks.proofs.ItemLemmas.{contained, mapped_some, none-some, some-same}
-use Rattle.call_checks.proofs.LaneLemmas.{due-made, due-not, lane_front, lanes_all, of_lane}
+use Rattle.call_checks.proofs.LaneLemmas.{due-made, due-not, lane_front}
 
 module _ (script : Script) (history : List Entry) (legal : LegalSoFar script history) (plan : Planned) (next : IsNext script history plan) where
   pub next-planned : Contains (planned script) plan

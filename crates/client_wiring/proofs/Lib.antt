@@ -1,9 +1,9 @@
 pub mod DeviceLemmas
 mod EndLemmas
-mod FollowLemmas
+pub mod FollowLemmas
 mod KeptLemmas
 mod LinkLemmas
-mod ListLemmas
+pub mod ListLemmas
 mod NameLemmas
 pub mod OverLemmas
 pub mod PlaybackLemmas

@@ -12,7 +12,7 @@ use Rattle.session_laws.proofs.LoopLemmas.{Contains-cases, Contains-first, Conta
 use Rattle.session_laws.proofs.PlanLemmas.{Distinct-from_Apart}
 use Rattle.client_wiring.specs.Tables.{class_number, in_class}
 
-none_below : {n : ℕ} → n < 0 → ⊥
+pub none_below : {n : ℕ} → n < 0 → ⊥
 none_below p = omega arith
 
 -- an element stands behind those before it that pass, where none of these is taken for it

@@ -1,51 +1,17 @@
 -- What is accepted in a legal history are commands of calls of the script, each call once.
-use Rattle.std.proofs.Common.{◌≡◌, ℕ, zero, suc, ◌+◌, ◌<◌, ◌≤◌, Bool, true, false, cond, ◌==◌, count_by, List, [], ◌∷◌, ◌++◌, length, map, take, filter, get_or, All, Contains, Option, Some, None, refl, sym, ◌∙◌, ap, ap₂, subst, arith, eq-eqb, ◌⊎◌, inl, inr}
-use Rattle.std.proofs.lemmas.List.Sums.{sum_by_push}
+use Rattle.std.proofs.Common.{◌≡◌, ℕ, zero, suc, ◌<◌, ◌≤◌, Bool, true, false, cond, ◌==◌, List, [], ◌∷◌, length, map, take, filter, get_or, All, Contains, Option, Some, None, refl, sym, ◌∙◌, ap, ap₂, subst, arith, eq-eqb, ◌⊎◌, inl, inr}
 use Rattle.std.proofs.lemmas.List.Elements.{All-head, All-tail}
 use Rattle.jack_types.specs.declared.commands.Call.{Call}
 use Rattle.jack_types.specs.declared.commands.Change.{Change}
 use Rattle.jack_types.specs.declared.commands.Command.{Command}
 use Rattle.jack_types.specs.declared.replies.Entry.{Entry}
 use Rattle.session_model.specs.Histories.{LegalSoFar, accepted, change_of, calls_of}
-use Rattle.session_model.specs.Scripts.{Script, Planned, Uncounted, phases, planned, planned_of, uncounted, counted}
-use Rattle.session_laws.proofs.ListLemmas.{Each, Ordered, Each-weaker, Each-contains, Each-from_contains, Ordered-filter, Ordered-map, Contains-kept, Contains-filtered, Contains-map, Each-map}
+use Rattle.session_model.specs.Scripts.{Script, Planned, phases, planned, planned_of, uncounted}
+use Rattle.session_laws.proofs.ListLemmas.{Each, Ordered, Each-contains, Each-from_contains, Ordered-filter, Ordered-map, Contains-kept, Contains-filtered, Contains-map, Each-map}
 use Rattle.session_laws.proofs.LoopLemmas.{Contains-first, Contains-later, Contains-cases}
+use Rattle.call_laws.proofs.LaneLemmas.{Rises, counted_rises, lanes_all}
 use Rattle.control_desk.proofs.LawfulLemmas.{change_is}
 use Rattle.control_desk.specs.Laws.{AreApart, OfCallsAccepted}
-
--- along a lane the index rises
-abbrev pub Rises : Call → Call → Type 0
-Rises a b = a.lane ≡ b.lane → a.index < b.index
-
-abbrev earlier_in : ℕ → List Uncounted → ℕ
-earlier_in lane us = count_by (λ (other : Uncounted). other.lane == lane) us
-
-earlier_more : (lane : ℕ) (us : List Uncounted) (u : Uncounted) → earlier_in lane (us ++ u ∷ []) ≡ earlier_in lane us + cond (u.lane == lane) 1 0
-earlier_more lane us u = sum_by_push (λ (other : Uncounted). cond (other.lane == lane) 1 0) us u
-
-counted_index : (earlier us : List Uncounted) → Each (λ (plan : Planned). earlier_in plan.call.lane earlier < plan.call.index) (counted earlier us)
-counted_index earlier [] = tt
-counted_index earlier (u ∷ us) = (
-  omega arith,
-  Each-weaker (λ (plan : Planned). earlier_in plan.call.lane (earlier ++ u ∷ []) < plan.call.index) (λ (plan : Planned). earlier_in plan.call.lane earlier < plan.call.index)
-      (λ plan h. omega (arith, h, earlier_more plan.call.lane earlier u)) (counted (earlier ++ u ∷ []) us) (counted_index (earlier ++ u ∷ []) us),
-)
-
-pub counted_rises : (earlier us : List Uncounted) → Ordered (λ (a b : Planned). Rises a.call b.call) (counted earlier us)
-counted_rises earlier [] = tt
-counted_rises earlier (u ∷ us) =
-    let first : ℕ = earlier_in u.lane earlier + 1 in (
-      Each-weaker (λ (plan : Planned). earlier_in plan.call.lane (earlier ++ u ∷ []) < plan.call.index) (λ (plan : Planned). u.lane ≡ plan.call.lane → first < plan.call.index)
-          (λ plan h same. above plan.call.lane plan.call.index h same) (counted (earlier ++ u ∷ []) us) (counted_index (earlier ++ u ∷ []) us),
-      counted_rises (earlier ++ u ∷ []) us,
-    )
-  where
-    above : (lane index : ℕ) → earlier_in lane (earlier ++ u ∷ []) < index → u.lane ≡ lane → earlier_in u.lane earlier + 1 < index
-    above lane index h same =
-        let unit : ℕ = 1 in
-        let one : cond (u.lane == lane) unit 0 ≡ unit = ap (λ b. cond b unit 0) (eq-eqb u.lane lane same) in
-        let count : earlier_in lane earlier ≡ earlier_in u.lane earlier = ap (λ l. earlier_in l earlier) (sym same) in
-        omega (arith, h, earlier_more lane earlier u, one, count)
 
 take_ordered : {X : Type 0} (R : X → X → Type 0) (n : ℕ) (xs : List X) → Ordered R xs → Ordered R (take n xs)
 take_ordered R zero xs h = tt
@@ -126,11 +92,6 @@ apart_from (e ∷ es) h = go (change_of e) (apart_from es h.1)
       where
         again : (e.call.lane ≡ e.call.lane → e.call.index < e.call.index) → ⊥
         again f = let p = f refl in omega (arith, p)
-
-pub lanes_all : (es : List Entry) → All (λ (e : Entry). e.call.lane ≤ 4) es → (k : ℕ) (d : Call) → k < length (calls_of es) → (get_or (calls_of es) k d).lane ≤ 4
-lanes_all [] h k d b = absurd (omega (arith, b))
-lanes_all (e ∷ es) h zero d b = All-head (λ (x : Entry). x.call.lane ≤ 4) e es h
-lanes_all (e ∷ es) h (suc k) d b = lanes_all es (All-tail (λ (x : Entry). x.call.lane ≤ 4) e es h) k d (omega (arith, b))
 
 each_taken : {X : Type 0} (P : X → Type 0) (n : ℕ) (xs : List X) → Each P xs → Each P (take n xs)
 each_taken P zero xs h = tt

@@ -1,27 +1,27 @@
 -- What a desk keeps.
 --     IsNext-step      the call that a lane makes next may come next
 --     IsDesk-begun, IsDesk-made      behind the beginning of a phase, and behind a call
-use Rattle.std.proofs.Common.{◌≡◌, ℕ, zero, suc, ◌+◌, ◌*◌, ◌%◌, ◌<◌, ◌≤◌, ◌⊎◌, inl, inr, Bool, true, false, cond, nat_le, ◌==◌, List, [], ◌∷◌, ◌++◌, length, length-append, take, slice_get, All, Contains, Option, Some, None, refl, sym, ◌∙◌, ap, subst, arith, eqb-true, take_at}
+use Rattle.std.proofs.Common.{◌≡◌, ℕ, zero, suc, ◌+◌, ◌*◌, ◌%◌, ◌<◌, ◌≤◌, ◌⊎◌, inl, inr, Bool, true, false, cond, nat_le, ◌==◌, List, [], ◌∷◌, ◌++◌, length, length-append, take, slice_get, All, Contains, Some, refl, sym, ◌∙◌, ap, subst, arith, eqb-true, take_at}
 use Rattle.std.proofs.lemmas.Bool.Decides.{nat_tests}
 use Rattle.std.proofs.lemmas.List.{take-append-le}
 use Rattle.std.proofs.lemmas.Option.{slice_get_within}
 use Rattle.std.proofs.lemmas.List.Elements.{All-append, Contains-append_left}
-use Rattle.jack_types.specs.declared.commands.Change.{Change}
 use Rattle.jack_types.specs.declared.replies.Entry.{Entry}
 use Rattle.graph_word.specs.Publications.{Publishing, IsFront}
 use Rattle.session_model.specs.Grammar.{IsScript}
-use Rattle.session_model.specs.Histories.{LegalSoFar, accepted, calls_of, plan_of}
+use Rattle.session_model.specs.Histories.{accepted, calls_of, plan_of}
 use Rattle.session_model.specs.Publication.{SeenPair}
-use Rattle.session_model.specs.Scripts.{Script, Planned, planned, planned_of}
+use Rattle.session_model.specs.Scripts.{Planned, planned, planned_of}
 use Rattle.session_model.specs.Serial.{answered}
 use Rattle.session_laws.proofs.ListLemmas.{Contains-filtered}
 use Rattle.session_laws.proofs.SerialLemmas.{plan_of-planned}
 use Rattle.port_registry.proofs.PlaceLemmas.{slice_get-push}
+use Rattle.call_laws.proofs.ItemLemmas.{contained, some-same}
+use Rattle.call_laws.proofs.LaneLemmas.{of_lane}
+use Rattle.call_laws.proofs.RoomLemmas.{accepted-push}
 use Rattle.control_desk.specs.Desks.{Desk, HasSeen, IsDesk, IsDone, IsOfPhases, KeepsSeen, MayBegin, MayStep, made, next_call}
 use Rattle.control_desk.specs.Past.{IsNext}
-use Rattle.control_desk.proofs.AcceptedLemmas.{accepted-push}
-use Rattle.control_desk.proofs.ItemLemmas.{contained, some-same}
-use Rattle.control_desk.proofs.LaneLemmas.{made_by_done, made_where_done, of_lane, within-some}
+use Rattle.control_desk.proofs.LaneLemmas.{made_by_done, made_where_done, within-some}
 use Rattle.control_desk.proofs.LegalLemmas.{stage_of_lane}
 use Rattle.control_desk.proofs.PastLemmas.{legal-next, next-planned}
 

@@ -1,16 +1,15 @@
 -- How a desk begins and goes on.
 --     first_begins      the first phase
 --     step_goes_on      a step
-use Rattle.std.proofs.Common.{◌≡◌, ℕ, zero, suc, ◌+◌, ◌*◌, ◌<◌, Bool, true, false, cond, nat_le, List, ◌++◌, ◌∷◌, [], length, take, take_at, slice_get, Option, Some, None, refl, sym, ◌∙◌, ap, arith}
+use Rattle.std.proofs.Common.{◌≡◌, ℕ, zero, suc, ◌+◌, ◌*◌, Bool, true, false, cond, nat_le, List, ◌∷◌, [], length, take, take_at, slice_get, Option, Some, None, refl, sym, ◌∙◌, ap, arith}
 use Rattle.std.proofs.Math.Seq.{take-length}
 use Rattle.std.proofs.lemmas.Bool.Decides.{nat_tests}
 use Rattle.jack_types.specs.declared.replies.Entry.{Entry}
 use Rattle.graph_word.specs.Publications.{Publishing}
 use Rattle.session_model.specs.Scripts.{Planned, planned_of}
 use Rattle.session_model.specs.Serial.{answered}
-use Rattle.control_desk.specs.declared.steps.Stepped.{Stepped}
 use Rattle.control_desk.specs.declared.steps.Stepped.TheVariants.{Did, NotYet, Done}
-use Rattle.control_desk.specs.Desks.{Desk, GoesOn, LooksBy, Steps, made, within}
+use Rattle.control_desk.specs.Desks.{Desk, LooksBy, made, within}
 use Rattle.control_desk.specs.Laws.{FirstBegins, StepGoesOn}
 use Rattle.control_desk.proofs.ScriptLemmas.{phases-there}
 

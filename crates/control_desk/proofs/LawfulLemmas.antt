@@ -18,8 +18,8 @@ use Rattle.session_model.specs.Replies.{reply, reply_by, granted, is_change}
 use Rattle.session_model.specs.Latencies.{latency}
 use Rattle.session_model.specs.Scripts.{Script, Planned}
 use Rattle.session_model.specs.State.{State, opening}
+use Rattle.call_laws.proofs.ItemLemmas.{none-some, some-same}
 use Rattle.control_desk.specs.Desks.{IsOfPhases}
-use Rattle.control_desk.proofs.ItemLemmas.{none-some, some-same}
 use Rattle.control_desk.specs.Laws.{AcceptedLater, AcceptedAll, AcceptedUpTo, LawfulAccepted}
 
 all_kept : (script : Script) (phase : ℕ) → 1 ≤ phase → (history : List Entry) → All (IsOfPhases script phase) history

@@ -10,9 +10,9 @@ use Rattle.session_laws.proofs.ListLemmas.{Each, Each-all, Each-append, Each-con
 use Rattle.session_laws.proofs.SerialCallsLemmas.{KeepsLanes, dos_of, calls_at, Each-counted, planned_lanes}
 use Rattle.session_laws.proofs.SerialLawfulLemmas.{KeepsLanes-phases}
 use Rattle.session_laws.proofs.SerialNumbersLemmas.{asked_before, cycles_before as cycles_first}
+use Rattle.call_laws.proofs.ItemLemmas.{contained, length-mapped, none-some}
+use Rattle.call_laws.proofs.LaneLemmas.{lanes_all}
 use Rattle.control_desk.specs.Desks.{made, cycles_before}
-use Rattle.control_desk.proofs.CallLemmas.{lanes_all}
-use Rattle.control_desk.proofs.ItemLemmas.{none-some, contained, length-mapped}
 use Rattle.control_desk.proofs.LaneLemmas.{lane_front, within-none}
 use Rattle.control_desk.specs.Laws.{LegalWhereDone, AskedWithin, StageOfLane}
 

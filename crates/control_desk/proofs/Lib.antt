@@ -1,4 +1,3 @@
-mod ItemLemmas
 pub mod LawfulLemmas
 pub mod CallLemmas
 pub mod LaneLemmas

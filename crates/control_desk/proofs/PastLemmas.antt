@@ -3,35 +3,34 @@
 --     past-made      what is kept beside a history, behind one call more
 --     next-at      a lane's next call
 --     calls-left, changes-left, count-left      there is room for one more
-use Rattle.std.proofs.Common.{◌≡◌, ℕ, zero, suc, ◌+◌, ◌<◌, ◌≤◌, Bool, true, false, cond, ◌==◌, count_by, List, [], ◌∷◌, ◌++◌, length, length-append, get_or, map, filter, fold, take, set, slice_get, Contains, Option, Some, None, is_none, refl, sym, ◌∙◌, ap, subst, arith}
+use Rattle.std.proofs.Common.{◌≡◌, ℕ, ◌+◌, ◌<◌, ◌≤◌, Bool, true, false, cond, ◌==◌, count_by, List, [], ◌∷◌, ◌++◌, length, length-append, get_or, map, set, slice_get, Contains, refl, sym, ◌∙◌, ap, subst, arith}
 use Rattle.std.proofs.lemmas.List.Sums.{sum_by_push, sum_by-cons}
 use Rattle.jack_types.specs.declared.commands.Call.{Call}
 use Rattle.jack_types.specs.declared.commands.Change.{Change}
-use Rattle.jack_types.specs.declared.commands.Command.{Command}
-use Rattle.jack_types.specs.declared.commands.Command.TheVariants.{Latency}
 use Rattle.jack_types.specs.declared.replies.Entry.{Entry}
-use Rattle.jack_types.specs.declared.replies.Refusal.{Refusal}
 use Rattle.jack_types.specs.declared.replies.Reply.{Reply}
-use Rattle.session_model.specs.Commands.{after, effect, refusal, replay}
-use Rattle.session_model.specs.Grammar.{IsScript}
+use Rattle.session_model.specs.Commands.{after}
 use Rattle.session_model.specs.Histories.{LegalSoFar, accepted, calls_of, plan_of, state_after}
-use Rattle.session_model.specs.Replies.{granted, reply, reply_by}
+use Rattle.session_model.specs.Replies.{reply}
 use Rattle.session_model.specs.Samples.{below}
 use Rattle.session_model.specs.Scripts.{Script, Planned, planned, planned_of}
 use Rattle.session_model.specs.Serial.{answered}
-use Rattle.session_model.specs.State.{State, opening}
+use Rattle.session_model.specs.State.{State}
 use Rattle.session_laws.proofs.ActivationLemmas.{get_or-map_below}
-use Rattle.session_laws.proofs.HistoryLemmas.{IsNextCall, LegalSoFar-next, LegalSoFar-none}
+use Rattle.session_laws.proofs.HistoryLemmas.{IsNextCall, LegalSoFar-next}
 use Rattle.session_laws.proofs.ListLemmas.{Contains-filtered, map-take}
 use Rattle.session_laws.proofs.SerialLemmas.{plan_of-planned}
 use Rattle.cycle_plan.specs.Graphs.{HasTempo}
 use Rattle.graph_replies.specs.Told.{HasShortDelays}
+use Rattle.call_laws.proofs.ItemLemmas.{contained, length-mapped, mapped_some, some-same}
+use Rattle.call_laws.proofs.KeptLemmas.{counts-set, state-answered}
+use Rattle.call_laws.proofs.RoomLemmas.{accepted-length, accepted-push}
+use Rattle.call_laws.proofs.ScriptLemmas.{planned-lawful}
+use Rattle.call_laws.proofs.StateLemmas.{command-tempo}
 use Rattle.control_desk.specs.Desks.{made}
 use Rattle.control_desk.specs.Past.{IsNext, IsPast, Past}
-use Rattle.control_desk.proofs.AcceptedLemmas.{accepted-length, accepted-push, command-tempo, history-few, state-short}
-use Rattle.control_desk.proofs.ItemLemmas.{contained, length-mapped, mapped_some, some-same}
+use Rattle.control_desk.proofs.AcceptedLemmas.{history-few, state-short}
 use Rattle.control_desk.proofs.LaneLemmas.{lane_front}
-use Rattle.control_desk.proofs.ScriptLemmas.{planned-lawful}
 
 module _ (script : Script) (history : List Entry) (legal : LegalSoFar script history) (plan : Planned) (next : IsNext script history plan) where
   pub next-planned : Contains (planned script) plan
@@ -54,32 +53,6 @@ module _ (script : Script) (history : List Entry) (legal : LegalSoFar script his
 
 -- ---- the state behind a call
 
-replay-append : (state : State) (xs ys : List Change) → replay state (xs ++ ys) ≡ replay (replay state xs) ys
-replay-append state [] ys = refl
-replay-append state (x ∷ xs) ys = replay-append (after state x.number x.command) xs ys
-
--- a reply says what the command makes of the state
-behind-reply : (state : State) (number : ℕ) (call : Call) → replay state (accepted (record { call = call; reply = reply state number call.command } ∷ [])) ≡ after state number call.command
-behind-reply state number call = go (refusal state call.command) refl
-  where
-    grants : (c : Command) → replay state (accepted (record { call = record call { command = c }; reply = granted state number c } ∷ [])) ≡ after state number c
-    grants (Latency mode port) = same (is_none (refusal state (Latency mode port)))
-      where
-        same : (b : Bool) → state ≡ cond b state state
-        same true = refl
-        same false = refl
-    grants _ = refl
-
-    go : (o : Option Refusal) → refusal state call.command ≡ o → replay state (accepted (record { call = call; reply = reply_by state number call.command o } ∷ [])) ≡ after state number call.command
-    go (Some r) e = ap (λ q. cond (is_none q) (effect state number call.command) state) (sym e)
-    go None e = grants call.command
-
-pub state-answered : (script : Script) (history : List Entry) (call : Call) → state_after script (history ++ answered script history call ∷ []) ≡ after (state_after script history) (length (accepted history) + 1) call.command
-state-answered script history call =
-    ap (replay (opening script.header.capture script.header.playback)) (accepted-push history (answered script history call))
-    ∙ replay-append (opening script.header.capture script.header.playback) (accepted history) (accepted (answered script history call ∷ []))
-    ∙ behind-reply (state_after script history) (length (accepted history) + 1) call
-
 -- ---- how many calls the lanes made
 
 pub made-push : (history : List Entry) (entry : Entry) (lane : ℕ) → made (history ++ entry ∷ []) lane ≡ made history lane + cond (entry.call.lane == lane) 1 0
@@ -88,30 +61,6 @@ made-push history entry lane = ap (count_by (λ (call : Call). call.lane == lane
     pushed : (es : List Entry) → calls_of (es ++ entry ∷ []) ≡ calls_of es ++ entry.call ∷ []
     pushed [] = refl
     pushed (e ∷ es) = ap (λ cs. e.call ∷ cs) (pushed es)
-
-five-same : (a0 a1 a2 a3 a4 : ℕ) (b : ℕ → ℕ) → a0 ≡ b 0 → a1 ≡ b 1 → a2 ≡ b 2 → a3 ≡ b 3 → a4 ≡ b 4 → a0 ∷ a1 ∷ a2 ∷ a3 ∷ a4 ∷ [] ≡ map b (below 5)
-five-same a0 a1 a2 a3 a4 b e0 e1 e2 e3 e4 =
-    ap (λ x. x ∷ a1 ∷ a2 ∷ a3 ∷ a4 ∷ []) e0 ∙ ap (λ x. b 0 ∷ x ∷ a2 ∷ a3 ∷ a4 ∷ []) e1 ∙ ap (λ x. b 0 ∷ b 1 ∷ x ∷ a3 ∷ a4 ∷ []) e2
-    ∙ ap (λ x. b 0 ∷ b 1 ∷ b 2 ∷ x ∷ a4 ∷ []) e3 ∙ ap (λ x. b 0 ∷ b 1 ∷ b 2 ∷ b 3 ∷ x ∷ []) e4
-
--- one of five counts is one more
-counts-set : (count new : ℕ → ℕ) (lane : ℕ) → lane ≤ 4 → ((k : ℕ) → new k ≡ count k + cond (lane == k) 1 0) → set (map count (below 5)) lane (count lane + 1) ≡ map new (below 5)
-counts-set count new zero h more =
-    let m0 = more 0 in let m1 = more 1 in let m2 = more 2 in let m3 = more 3 in let m4 = more 4 in
-    five-same (count 0 + 1) (count 1) (count 2) (count 3) (count 4) new (omega (arith, m0)) (omega (arith, m1)) (omega (arith, m2)) (omega (arith, m3)) (omega (arith, m4))
-counts-set count new (suc zero) h more =
-    let m0 = more 0 in let m1 = more 1 in let m2 = more 2 in let m3 = more 3 in let m4 = more 4 in
-    five-same (count 0) (count 1 + 1) (count 2) (count 3) (count 4) new (omega (arith, m0)) (omega (arith, m1)) (omega (arith, m2)) (omega (arith, m3)) (omega (arith, m4))
-counts-set count new (suc (suc zero)) h more =
-    let m0 = more 0 in let m1 = more 1 in let m2 = more 2 in let m3 = more 3 in let m4 = more 4 in
-    five-same (count 0) (count 1) (count 2 + 1) (count 3) (count 4) new (omega (arith, m0)) (omega (arith, m1)) (omega (arith, m2)) (omega (arith, m3)) (omega (arith, m4))
-counts-set count new (suc (suc (suc zero))) h more =
-    let m0 = more 0 in let m1 = more 1 in let m2 = more 2 in let m3 = more 3 in let m4 = more 4 in
-    five-same (count 0) (count 1) (count 2) (count 3 + 1) (count 4) new (omega (arith, m0)) (omega (arith, m1)) (omega (arith, m2)) (omega (arith, m3)) (omega (arith, m4))
-counts-set count new (suc (suc (suc (suc zero)))) h more =
-    let m0 = more 0 in let m1 = more 1 in let m2 = more 2 in let m3 = more 3 in let m4 = more 4 in
-    five-same (count 0) (count 1) (count 2) (count 3) (count 4 + 1) new (omega (arith, m0)) (omega (arith, m1)) (omega (arith, m2)) (omega (arith, m3)) (omega (arith, m4))
-counts-set count new (suc (suc (suc (suc (suc lane))))) h more = absurd (omega (arith, h))
 
 pub counts-made : (history : List Entry) (entry : Entry) → entry.call.lane ≤ 4 → set (map (made history) (below 5)) entry.call.lane (made history entry.call.lane + 1) ≡ map (made (history ++ entry ∷ [])) (below 5)
 counts-made history entry low = counts-set (made history) (made (history ++ entry ∷ [])) entry.call.lane low (made-push history entry)

@@ -2,13 +2,13 @@
 --     new-changes, new-front      what is published behind it
 --     IsDesk-published, IsDesk-kept      the desk, where the call was accepted and where it was not
 --     HasSeen-looked      what a look shows
-use Rattle.std.proofs.Common.{◌≡◌, ℕ, zero, suc, ◌+◌, ◌*◌, ◌<◌, ◌≤◌, cond, ◌==◌, List, [], ◌∷◌, ◌++◌, length, map, All, Contains, Some, refl, sym, ◌∙◌, ap, subst, arith, append-nil}
+use Rattle.std.proofs.Common.{◌≡◌, ℕ, zero, suc, ◌+◌, ◌*◌, ◌<◌, ◌≤◌, List, [], ◌∷◌, ◌++◌, length, Contains, refl, sym, ◌∙◌, ap, subst, arith, append-nil}
 use Rattle.std.proofs.lemmas.List.Elements.{Contains-append_right}
 use Rattle.jack_types.specs.declared.commands.Change.{Change}
 use Rattle.jack_types.specs.declared.commands.Command.{Command}
 use Rattle.jack_types.specs.declared.replies.Entry.{Entry}
 use Rattle.jack_types.specs.declared.replies.Reply.TheVariants.{Accepted}
-use Rattle.graph_word.specs.Publications.{Publishing, Looks, IsFront}
+use Rattle.graph_word.specs.Publications.{Publishing, IsFront}
 use Rattle.graph_word.proofs.Fronts.{front_longer}
 use Rattle.session_model.specs.Grammar.{IsScript}
 use Rattle.session_model.specs.Histories.{accepted}
@@ -22,9 +22,10 @@ use Rattle.session_laws.proofs.LoopLemmas.{Contains-first}
 use Rattle.session_laws.proofs.SerialCallsLemmas.{KeepsLanes, Each-counted, calls_at, dos_of}
 use Rattle.session_laws.proofs.SerialLawfulLemmas.{KeepsLanes-phases}
 use Rattle.cycle_plan.specs.Plans.{HasTempos, opening_of}
+use Rattle.call_laws.proofs.RoomLemmas.{accepted-push}
 use Rattle.control_desk.specs.Desks.{Desk, HasSeen, IsDesk, LooksBy, base_of}
 use Rattle.control_desk.specs.Past.{IsNext, Past}
-use Rattle.control_desk.proofs.AcceptedLemmas.{accepted-few, accepted-not, accepted-one, accepted-push, accepted-tempos}
+use Rattle.control_desk.proofs.AcceptedLemmas.{accepted-few, accepted-not, accepted-one, accepted-tempos}
 use Rattle.control_desk.proofs.DeskLemmas.{IsDesk-made}
 use Rattle.control_desk.proofs.LawfulLemmas.{lawful_accepted}
 use Rattle.control_desk.proofs.PastLemmas.{legal-next}

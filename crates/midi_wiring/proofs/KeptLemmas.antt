@@ -31,8 +31,9 @@ use Rattle.midi_wiring.specs.declared.joints.MidiGiven.{MidiGiven}
 use Rattle.midi_wiring.specs.Hearings.{AreCarried, Heard, carried_at, played_at}
 use Rattle.midi_wiring.specs.Keeping.{Gave, KeepsEvents}
 use Rattle.midi_wiring.specs.Wirings.{midi_given_at, midi_given_of, midi_wired_of}
-use Rattle.midi_wiring.proofs.FollowLemmas.{Follows, Follows-opening, Follows-replay, Follows-self}
-use Rattle.midi_wiring.proofs.ListLemmas.{find-there, made-contains, made-of, take-whole}
+use Rattle.client_wiring.proofs.FollowLemmas.{Follows, Follows-opening, Follows-replay, Follows-self}
+use Rattle.client_wiring.proofs.ListLemmas.{take-whole}
+use Rattle.midi_wiring.proofs.ListLemmas.{find-there, made-contains, made-of}
 use lib.Pointwise.{bytes_decides}
 
 take-short : {X : Type 0} (n : ℕ) (xs : List X) → length (take n xs) ≤ length xs

@@ -1,7 +1,6 @@
-mod FollowLemmas
 mod KeptLemmas
 mod ListLemmas
 mod PlayerLemmas
 mod PortLemmas
-mod SettingLemmas
+pub mod SettingLemmas
 mod TaskLemmas

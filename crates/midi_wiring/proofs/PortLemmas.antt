@@ -44,7 +44,7 @@ use Rattle.midi_wiring.specs.declared.joints.MidiFrom.{MidiFrom}
 use Rattle.midi_wiring.specs.declared.joints.MidiWidths.{MidiWidths}
 use Rattle.midi_wiring.specs.Ends.{IsPortAt, from_by, given_from, given_with, is_midi_by, is_midi_of, joint_from, joint_with, widths_by}
 use Rattle.midi_wiring.specs.Wirings.{midi_from, midi_from_of, midi_given_at, midi_given_of, midi_joint_into, midi_joint_of, midi_widths_of}
-use Rattle.midi_wiring.proofs.ListLemmas.{few-below, place-map, position-called, stands}
+use Rattle.client_wiring.proofs.ListLemmas.{few-below, place-map, position-called, stands}
 use lib.Pointwise.{bytes_decides}
 
 pub bytes-turned : (a b : List ℕ) → bytes_eq a b ≡ bytes_eq b a

@@ -6,7 +6,7 @@ use Rattle.session_model.specs.State.{State}
 use Rattle.port_registry.specs.Registered.{open_clients}
 use Rattle.midi_wiring.specs.Wirings.{midi_given_of}
 use Rattle.midi_wiring.proofs.PortLemmas.{given-step, ports-few}
-use Rattle.midi_wiring.proofs.ListLemmas.{made_more, taken-whole}
+use Rattle.client_wiring.proofs.ListLemmas.{made_more, taken-whole}
 use Rattle.midi_wiring.proofs.giving.give_outputs.Goals as goal
 
 pub put_some-requires : goal.put_some-requires

@@ -8,7 +8,7 @@ use Rattle.port_registry.specs.Registered.{open_clients}
 use Rattle.cycle_plan.specs.Graphs.{state_of}
 use Rattle.midi_wiring.specs.Wirings.{midi_joint_of}
 use Rattle.midi_wiring.proofs.PortLemmas.{destination-listed, ids-low, joint-step, source-listed}
-use Rattle.midi_wiring.proofs.ListLemmas.{made_more, taken-whole}
+use Rattle.client_wiring.proofs.ListLemmas.{made_more, taken-whole}
 use Rattle.midi_wiring.proofs.joining.join_edges.Goals as goal
 
 pub index_ports-indices-requires-clause-ids : goal.index_ports-indices-requires-clause-ids

@@ -1,7 +1,7 @@
 use Rattle.std.proofs.Common.{◌<◌, ◌∙◌, arith, refl, subst, sym}
 use Rattle.std.proofs.lemmas.List.{length-set}
 use Rattle.jack_types.specs.declared.ports.Port.{Port}
-use Rattle.midi_wiring.proofs.ListLemmas.{table_more}
+use Rattle.client_wiring.proofs.ListLemmas.{table_more}
 use Rattle.midi_wiring.proofs.ports.index_ports.Goals as goal
 
 pub loop-index-preserved : goal.loop-index-preserved

@@ -4,7 +4,7 @@ use Rattle.jack_types.specs.declared.ports.Client.{Client}
 use Rattle.jack_types.specs.declared.ports.Port.{Port}
 use Rattle.midi_wiring.specs.Ends.{widths_by}
 use Rattle.midi_wiring.proofs.PortLemmas.{widths-named}
-use Rattle.midi_wiring.proofs.ListLemmas.{taken-whole}
+use Rattle.client_wiring.proofs.ListLemmas.{taken-whole}
 use Rattle.midi_wiring.proofs.wiring.count_widths.Goals as goal
 
 pub loop-client-preserved : goal.loop-client-preserved

@@ -2,7 +2,7 @@ use Rattle.std.proofs.Common.{◌≡◌, ◌∙◌, ap, arith, sym}
 use Rattle.std.proofs.lemmas.Bool.Decides.{nat_tests}
 use Rattle.session_model.specs.Scripts.{Planned}
 use Rattle.lane_calls.specs.Plans.{plan_of}
-use Rattle.call_checks.proofs.ItemLemmas.{some-same}
+use Rattle.call_laws.proofs.ItemLemmas.{some-same}
 use Rattle.call_checks.proofs.checks.CallChecks.is_behind.Goals as goal
 
 pub returns-in-Some : goal.returns-in-Some

@@ -4,9 +4,9 @@ use Rattle.std.proofs.lemmas.Option.{slice_get_read}
 use Rattle.jack_types.specs.declared.replies.Entry.{Entry}
 use Rattle.lane_calls.specs.Plans.{plan_of as plan_with}
 use Rattle.session_model.specs.Histories.{plan_of}
+use Rattle.call_laws.proofs.ItemLemmas.{mapped_some, some-same}
 use Rattle.call_checks.specs.Checks.{Checks}
 use Rattle.call_checks.specs.Kept.{entry_of}
-use Rattle.call_checks.proofs.ItemLemmas.{mapped_some, some-same}
 use Rattle.call_checks.proofs.checks.CallChecks.planned.Goals as goal
 
 pub returns : goal.returns

@@ -1,4 +1,4 @@
--- Items of lists.
+-- Elements of lists that calls are made of.
 use Rattle.std.proofs.Common.{◌≡◌, ℕ, zero, suc, List, [], ◌∷◌, length, map, slice_get, Contains, Some, None, refl, ap, arith}
 
 pub none-some : {X : Type 0} (x : X) → None ≡ Some x → ⊥

@@ -1,6 +1,4 @@
--- What a lawful script plans.
---     planned-lawful      its commands are lawful
---     planned-few      there are no more calls than the limit
+-- What a lawful script says of its calls.
 use Rattle.std.proofs.Common.{◌≡◌, ℕ, suc, ◌+◌, ◌*◌, ◌≤◌, cond, count_by, List, [], ◌∷◌, ◌++◌, length, length-append, Contains, refl, ap, subst, arith, append-nil}
 use Rattle.std.proofs.lemmas.List.Sums.{sum_by-cons}
 use Rattle.jack_types.specs.declared.commands.Command.{Command}
@@ -12,10 +10,10 @@ use Rattle.session_model.specs.Scripts.{Script, Phase, LaneCall, Planned, Uncoun
 use Rattle.session_laws.proofs.ListLemmas.{Each, Each-append, Each-contains, Each-map}
 use Rattle.session_laws.proofs.SerialCallsLemmas.{Each-counted, dos_of, calls_at}
 use Rattle.session_laws.proofs.SerialLawfulLemmas.{AreBodies, AreBodies-rest}
-use Rattle.call_checks.proofs.ItemLemmas.{length-mapped}
+use Rattle.call_laws.proofs.ItemLemmas.{length-mapped}
 
 -- all commands of a phase are lawful
-abbrev HasLawful : Header → Phase → Type 0
+abbrev pub HasLawful : Header → Phase → Type 0
 HasLawful header phase = Each (IsCommand header) phase.dos × Each (λ (call : LaneCall). IsCommand header call.command) phase.calls
 
 module _ (header : Header) where
@@ -63,18 +61,16 @@ planned-lawful script is plan there =
     Each-contains (λ (p : Planned). IsCommand script.header p.call.command) (planned script) plan
     (Each-counted (λ (u : Uncounted). IsCommand script.header u.command) [] (uncounted 0 0 (phases script)) (uncounted-lawful script.header (phases script) 0 0 (phases-lawful script.header script.lines [] script.header.period is.lines))) there
 
--- ---- how many
-
-counted-length : (earlier us : List Uncounted) → length (counted earlier us) ≡ length us
+pub counted-length : (earlier us : List Uncounted) → length (counted earlier us) ≡ length us
 counted-length earlier [] = refl
 counted-length earlier (u ∷ us) = ap suc (counted-length (earlier ++ u ∷ []) us)
 
 -- so many calls of some phases
-abbrev calls_in : List Phase → ℕ
+abbrev pub calls_in : List Phase → ℕ
 calls_in [] = 0
 calls_in (phase ∷ phs) = length phase.dos + length phase.calls + calls_in phs
 
-uncounted-length : (phs : List Phase) (index base : ℕ) → length (uncounted index base phs) ≡ calls_in phs
+pub uncounted-length : (phs : List Phase) (index base : ℕ) → length (uncounted index base phs) ≡ calls_in phs
 uncounted-length [] index base = refl
 uncounted-length (phase ∷ phs) index base =
     let dos : length (dos_of index phase) ≡ length phase.dos = length-mapped (λ (command : Command). record { lane = 0; command = command; stage = 2 * index; asked = 0 }) phase.dos in
@@ -85,7 +81,7 @@ uncounted-length (phase ∷ phs) index base =
     length-append (dos_of index phase ++ calls_at index base phase) (uncounted (index + 1) (base + phase.cycles) phs) in
     omega (arith, dos, calls, rest, first, all)
 
-calls-within : (lines : List Body) (period : ℕ) → calls_in (phases_of period lines) + length (lane_calls lines) ≤ count_by is_call lines
+pub calls-within : (lines : List Body) (period : ℕ) → calls_in (phases_of period lines) + length (lane_calls lines) ≤ count_by is_call lines
 calls-within [] period = omega arith
 calls-within (Do command ∷ lines) period =
     let sum : count_by is_call (Do command ∷ lines) ≡ 1 + count_by is_call lines = sum_by-cons (λ (l : Body). cond (is_call l) 1 0) (Do command) lines in

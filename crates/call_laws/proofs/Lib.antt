@@ -1,0 +1,6 @@
+pub mod ItemLemmas
+pub mod KeptLemmas
+pub mod LaneLemmas
+pub mod RoomLemmas
+pub mod ScriptLemmas
+pub mod StateLemmas

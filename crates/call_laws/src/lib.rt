@@ -1,0 +1,2 @@
+//! Lemmas that the calls of a session and of a report share. It has no code of its own.
+#![tactic(auto)]
