@@ -1,9 +1,9 @@
 -- From place to place, up to a cycle.
 --     next-as      the calls and the cycles that a script has say which line may come before the cycle
 --     advance      what a line's place says of the next one
-use Rattle.std.proofs.Common.{◌≡◌, ◌≢◌, ℕ, zero, suc, ◌+◌, ◌<◌, ◌≤◌, Bool, true, false, cond, ◌==◌, ◌&&◌, nat_lt, List, [], ◌∷◌, length, Option, Some, None, refl, sym, ◌∙◌, ap, ap₂, subst, arith, ne_eqb, eqb-true}
+use Rattle.std.proofs.Common.{◌≡◌, ◌≢◌, ℕ, ◌+◌, ◌<◌, ◌≤◌, Bool, true, false, cond, ◌==◌, ◌&&◌, nat_lt, [], ◌∷◌, length, Some, None, refl, sym, ◌∙◌, ap, subst, arith, ne_eqb, eqb-true}
 use Rattle.std.proofs.lemmas.Bool.Decides.{nat_tests}
-use Rattle.session_model.specs.Scripts.{Script, planned, turns}
+use Rattle.session_model.specs.Scripts.{Script}
 use Rattle.session_laws.proofs.ListLemmas.{slice-some}
 use Rattle.report_reader.specs.declared.rows.CycleLine.{CycleLine}
 use Rattle.report_reader.specs.declared.rows.Line.{Line}

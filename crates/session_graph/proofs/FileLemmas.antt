@@ -38,9 +38,11 @@ pub fault-told : (files : Option Files) (name bytes : List ℕ) (fault : ScriptF
 fault-told files name bytes fault h f = go fault.cause refl
   where
     told : (c : Cause) → fault.cause ≡ c → c ≢ cause.Memory → IsOfScript files name (BadScript fault)
-    told c e other =
-        if_bytes_map files name (λ whole. bytes ≡ take 1048577 whole) (λ whole. script_fault (take 1048577 whole) ≡ Some fault)
-        (λ whole same. ap script_fault (sym same) ∙ f (λ is. other (sym e ∙ is))) h
+    told c e other = (
+      λ is. other (sym e ∙ is),
+      if_bytes_map files name (λ whole. bytes ≡ take 1048577 whole) (λ whole. script_fault (take 1048577 whole) ≡ Some fault)
+          (λ whole same. ap script_fault (sym same) ∙ f (λ is. other (sym e ∙ is))) h,
+    )
 
     go : (c : Cause) → fault.cause ≡ c → IsOfScript files name (fault_by c fault)
     go cause.Header e = told cause.Header e (λ is. cc)
@@ -60,7 +62,7 @@ pub kept-err : {T : Type 0} (r : Result T GraphFault) (e : GraphFault) (P : Grap
 kept-err (Ok x) e P h p = tt
 kept-err (Err y) e P h p = subst P (sym h) p
 
-abbrev err : (T : Type 0) → GraphFault → Result T GraphFault
+abbrev pub err : (T : Type 0) → GraphFault → Result T GraphFault
 err T fault = Err fault
 
 pub passed-on : {T U : Type 0} (r : Result T GraphFault) (e fault : GraphFault) → IsErrAnd r (λ y. y ≡ e) → r ≡ err T fault → err U e ≡ err U fault

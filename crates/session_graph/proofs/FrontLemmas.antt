@@ -3,13 +3,12 @@
 --     front-read      up to the cycle's line
 --     broken-at, step-fault      up to a line that may not come
 --     told-front, goes-on      the same by the place that was reached
-use Rattle.std.proofs.Common.{◌≡◌, ℕ, zero, suc, ◌+◌, ◌<◌, ◌≤◌, List, [], ◌∷◌, ◌++◌, All, length, length-append, map, filter_map, take, slice_get, Option, Some, None, refl, sym, ◌∙◌, ap, subst, arith, append-nil, append_assoc}
+use Rattle.std.proofs.Common.{◌≡◌, ℕ, zero, suc, ◌+◌, ◌<◌, ◌≤◌, List, [], ◌∷◌, ◌++◌, All, length, length-append, map, take, slice_get, Option, Some, None, refl, sym, ◌∙◌, ap, subst, arith, append-nil, append_assoc}
 use Rattle.std.specs.Prelude.{IfSome, option_and_then, ◌-◌}
-use Rattle.std.proofs.lemmas.List.{map-append, take_all}
+use Rattle.std.proofs.lemmas.List.{map-append}
 use Rattle.std.proofs.lemmas.List.Elements.{filter_map-append}
 use Rattle.jack_types.specs.declared.replies.Row.{Row}
-use Rattle.session_model.specs.Checking.{BeginsReport, IsForm, IsWrongLine, ended_lines}
-use Rattle.session_model.specs.Grammar.{IsScript}
+use Rattle.session_model.specs.Checking.{BeginsReport, ended_lines}
 use Rattle.session_model.specs.Reports.{report_lines}
 use Rattle.session_model.specs.Scripts.{Script}
 use Rattle.session_laws.proofs.ListLemmas.{Each, Each-append}

@@ -9,4 +9,6 @@ mod ReplayLemmas
 mod FrontLemmas
 mod FileLemmas
 mod WordLemmas
+mod OneLemmas
+mod ExactLemmas
 mod TopLemmas

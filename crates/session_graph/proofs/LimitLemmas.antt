@@ -1,7 +1,7 @@
 -- How many cycles and calls a script has, by its lines.
 --     turns-length, turns-few      the cycles
 --     planned-length, planned-few      the calls
-use Rattle.std.proofs.Common.{◌≡◌, ℕ, zero, suc, ◌+◌, ◌*◌, ◌≤◌, Bool, true, false, cond, count_by, sum_by, List, [], ◌∷◌, ◌++◌, length, length-append, map, replicate, Option, Some, None, refl, sym, ◌∙◌, ap, subst, arith, append-nil}
+use Rattle.std.proofs.Common.{◌≡◌, ℕ, zero, suc, ◌+◌, ◌*◌, ◌≤◌, true, false, cond, count_by, sum_by, List, [], ◌∷◌, ◌++◌, length, length-append, map, replicate, Some, None, refl, sym, ◌∙◌, ap, subst, arith, append-nil}
 use Rattle.std.proofs.lemmas.List.Sums.{fold_push, sum_by-cons}
 use Rattle.jack_types.specs.declared.commands.Command.{Command}
 use Rattle.jack_types.specs.declared.scripts.Body.{Body}

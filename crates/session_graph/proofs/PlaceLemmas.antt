@@ -1,5 +1,5 @@
 -- The port that stands at a place.
-use Rattle.std.proofs.Common.{◌≡◌, ℕ, ◌<◌, ◌==◌, List, Option, Some, None, length, get_or, slice_get, refl, sym, ap, ◌∙◌}
+use Rattle.std.proofs.Common.{◌≡◌, ℕ, ◌<◌, ◌==◌, List, Option, Some, None, length, get_or, sym, ap, ◌∙◌}
 use Rattle.std.specs.Prelude.{position, IfSome, IsSome}
 use Rattle.std.specs.Option.{option_map}
 use Rattle.jack_types.specs.declared.ports.Port.{Port}

@@ -2,17 +2,15 @@
 --     replay-first, replay-more      before the first, and one more
 --     not-told, not-next, not-so      a call that is not right
 --     used-front, wrong-call, too-many      how a replay ends
-use Rattle.std.proofs.Common.{◌≡◌, ℕ, zero, suc, ◌+◌, ◌<◌, ◌≤◌, ◌==◌, count_by, List, [], ◌∷◌, ◌++◌, length, length-append, map, take, drop, get_or, slice_get, Option, Some, None, refl, sym, ap, subst, ◌∙◌, arith, inl, inr}
+use Rattle.std.proofs.Common.{◌≡◌, ℕ, zero, suc, ◌+◌, ◌<◌, ◌≤◌, ◌==◌, count_by, List, [], ◌∷◌, ◌++◌, length, length-append, map, take, drop, slice_get, Some, None, refl, sym, ap, subst, ◌∙◌, arith, inl, inr}
 use Rattle.std.specs.Prelude.{◌⊎◌, ◌-◌}
 use Rattle.std.specs.Option.{option_map}
-use Rattle.std.proofs.lemmas.List.{take_more, take-append-drop, take_all, length-take}
+use Rattle.std.proofs.lemmas.List.{take-append-drop, take_all}
 use Rattle.std.proofs.lemmas.List.Elements.{filter_map-append}
-use Rattle.std.proofs.lemmas.Option.{slice_get-get_or}
-use Rattle.jack_types.specs.declared.commands.Change.{Change}
 use Rattle.jack_types.specs.declared.replies.Entry.{Entry}
 use Rattle.jack_types.specs.declared.replies.Reply.{Reply}
 use Rattle.jack_types.specs.declared.replies.Reply.TheVariants.{Accepted, Refused, Latency}
-use Rattle.session_model.specs.Commands.{after, replay}
+use Rattle.session_model.specs.Commands.{after}
 use Rattle.session_model.specs.Grammar.{IsScript}
 use Rattle.session_model.specs.Histories.{accepted, state_after}
 use Rattle.session_model.specs.Replies.{reply}
@@ -39,7 +37,7 @@ printed-row (Accepted number) = refl
 printed-row (Refused refusal) = refl
 printed-row (Latency range) = refl
 
-told-append : (script : Script) (xs ys : List CallLine) → history_told script (xs ++ ys) ≡ history_told script xs ++ history_told script ys
+pub told-append : (script : Script) (xs ys : List CallLine) → history_told script (xs ++ ys) ≡ history_told script xs ++ history_told script ys
 told-append script xs ys = filter_map-append (entry_told script) xs ys
 
 told-one : (script : Script) (line : CallLine) (entry : Entry) → entry_told script line ≡ Some entry → history_told script (line ∷ []) ≡ entry ∷ []

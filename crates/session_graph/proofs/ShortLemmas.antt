@@ -1,7 +1,7 @@
 -- No client of a lawful script's is late by more than 4,096 frames.
 --     short-opening, short-after      before the first command, and behind one
 --     plan-lawful      the commands that lines tell of are lawful
-use Rattle.std.proofs.Common.{◌≡◌, ℕ, zero, suc, ◌+◌, ◌<◌, ◌≤◌, Bool, true, false, cond, not, ◌==◌, List, [], ◌∷◌, ◌++◌, length, filter, map, slice_get, All, Contains, Option, Some, None, is_none, refl, sym, ◌∙◌, ap, subst, arith}
+use Rattle.std.proofs.Common.{◌≡◌, ℕ, ◌≤◌, Bool, true, false, cond, not, ◌==◌, List, [], ◌∷◌, slice_get, Some, None, is_none, refl, sym, subst, arith}
 use Rattle.std.specs.Prelude.{nat_le, ◌&&◌, ◌-◌}
 use Rattle.std.specs.Str.{bytes_eq}
 use Rattle.jack_types.specs.declared.commands.Command.{Command}

@@ -2,7 +2,7 @@
 --     goes-nil, goes-trans      lines behind lines
 --     steps-line      a line that may come
 --     stuck-line, stuck-other, stuck-end      what may not come
-use Rattle.std.proofs.Common.{◌≡◌, ◌≢◌, ℕ, zero, suc, ◌+◌, ◌≤◌, Bool, true, false, cond, ◌==◌, List, [], ◌∷◌, ◌++◌, length, length-append, take, slice_get, Option, Some, None, refl, sym, ◌∙◌, ap, subst, arith, append_assoc}
+use Rattle.std.proofs.Common.{◌≡◌, ℕ, zero, suc, ◌≤◌, Bool, true, false, cond, ◌==◌, List, [], ◌∷◌, ◌++◌, length, length-append, take, slice_get, Option, Some, None, refl, sym, ◌∙◌, ap, arith, append_assoc}
 use Rattle.std.specs.Prelude.{slice_index_or}
 use Rattle.std.proofs.lemmas.List.{length-take, take_all}
 use Rattle.session_model.specs.Checking.{ended_lines}
@@ -11,7 +11,6 @@ use Rattle.session_model.specs.Texts.{with_byte}
 use Rattle.session_laws.proofs.ListLemmas.{slice-some}
 use Rattle.report_reader.specs.Forms.{IsLineForm, line_text}
 use Rattle.report_reader.specs.Nexts.{IsNext, TakesNext, first_line, next_text}
-use Rattle.report_reader.specs.declared.lines.Next.{Next}
 use Rattle.report_reader.specs.declared.lines.Next.TheVariants.{Line, Other, End}
 use Rattle.report_reader.specs.declared.rows.Line.{Line as ReportLine}
 use Rattle.report_reader.proofs.LineLemmas.{line-again, text-words, words_of}
@@ -89,7 +88,7 @@ first-is bytes text h = go (ended_lines bytes) h
 next-is : (bytes text : List ℕ) → slice_get (ended_lines bytes) 0 ≡ Some text → length text ≤ 513 → next_text bytes ≡ text
 next-is bytes text h short = ap (λ (t : List ℕ). take 513 t) (first-is bytes text h) ∙ take_all 513 text short
 
-same-line : (x y : ReportLine) → IsLineForm x → IsLineForm y → line_text x ≡ line_text y → x ≡ y
+pub same-line : (x y : ReportLine) → IsLineForm x → IsLineForm y → line_text x ≡ line_text y → x ≡ y
 same-line x y g h e = slice-some x y (sym (line-again (spaced (words_of x)) x g (sym (text-words x))) ∙ line-again (spaced (words_of x)) y h (sym (text-words x) ∙ e))
 
 pub stuck-line : (limits : Limits) (place : Place) (read : ReportLine) (bytes : List ℕ) → IsNext (next_text bytes) (Line read) → next limits place read ≡ None → IsStuck limits place bytes

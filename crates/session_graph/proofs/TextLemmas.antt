@@ -1,7 +1,7 @@
 -- Text that grows line by line is the text of a graph.
 --     client-put, ports-next, ports-kept, clients-next, edges-next      one line more, or one item more
 --     text-finished      all lines
-use Rattle.std.proofs.Common.{◌≡◌, ℕ, ◌+◌, ◌<◌, Bool, true, false, List, [], ◌∷◌, ◌++◌, length, map, filter, flat_map, take, get_or, codes, refl, sym, ap, subst, ◌∙◌, append-nil}
+use Rattle.std.proofs.Common.{◌≡◌, ℕ, ◌+◌, ◌<◌, true, false, List, [], ◌∷◌, ◌++◌, length, map, filter, flat_map, take, get_or, codes, refl, sym, ap, ◌∙◌, append-nil}
 use Rattle.std.specs.Prelude.{IfOk, Result}
 use Rattle.std.specs.Str.{bytes_eq}
 use Rattle.std.proofs.lemmas.List.{map-append, take_more}

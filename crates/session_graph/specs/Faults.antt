@@ -2,9 +2,12 @@
 --     code_of fault      the exit code
 --     fault_line fault      the line, where it has one
 --     PutsFault old new faults faults_after fault      what a sink gains by it
-use Rattle.std.specs.Prelude.{◌≡◌, ℕ, ◌≤◌, ◌⊎◌, List, [], ◌∷◌, ◌++◌, length, take, codes, decimal, Option, Some, None}
+--     IsOwnFault fault      what a fault tells, whatever the host tells
+use Rattle.std.specs.Prelude.{◌≡◌, ◌≢◌, ℕ, ◌≤◌, ◌⊎◌, List, [], ◌∷◌, ◌++◌, length, take, codes, decimal, ⊤, Option, Some, None}
 use Rattle.jack_types.specs.declared.scripts.Cause.{Cause}
 use Rattle.jack_types.specs.declared.scripts.Cause.TheVariants as cause
+use Rattle.jack_types.specs.declared.replies.Part.{Part}
+use Rattle.jack_types.specs.declared.replies.Part.TheVariants as part
 use Rattle.check_sights.specs.Parts.{part_name}
 use Rattle.jack_host.specs.Bytes.{Gains}
 use Rattle.jack_host.specs.Causes.{Rose}
@@ -41,10 +44,10 @@ fault_line (BadScript fault) = Some (codes "fault 5 script " ++ decimal fault.li
 fault_line WriteFault = None
 fault_line (Wrong row) = Some (codes "check wrong " ++ part_name row.what ++ codes " " ++ decimal row.number ++ 10 ∷ [])
 
--- the bytes were put out, or a first part of them where the sink's count of faults rose
+-- the bytes were put out, and no put failed, or a first part of them where the sink's count of faults rose
 abbrev pub PutsAll : Option (List ℕ) → Option (List ℕ) → ℕ → ℕ → List ℕ → Type 0
 PutsAll old new faults faults_after bytes =
-    Gains old new bytes ⊎ (Rose faults faults_after × ((k : ℕ) × (k ≤ length bytes) × Gains old new (take k bytes)))
+    (Gains old new bytes × (faults_after ≡ faults)) ⊎ (Rose faults faults_after × ((k : ℕ) × (k ≤ length bytes) × Gains old new (take k bytes)))
 
 -- nothing is put where there is no line
 abbrev pub PutsLine : Option (List ℕ) → Option (List ℕ) → ℕ → ℕ → Option (List ℕ) → Type 0
@@ -53,3 +56,19 @@ PutsLine old new faults faults_after None = Gains old new [] × (faults_after �
 
 abbrev pub PutsFault : Option (List ℕ) → Option (List ℕ) → ℕ → ℕ → GraphFault → Type 0
 PutsFault old new faults faults_after fault = PutsLine old new faults faults_after (fault_line fault)
+
+-- a part of a report that is looked at
+abbrev pub IsOwnPart : Part → Type 0
+IsOwnPart part.Report = ⊤
+IsOwnPart part.Call = ⊤
+IsOwnPart part.Cycle = ⊤
+IsOwnPart _ = ⊥
+
+-- want of memory is no fault of a script, and a row has no place
+abbrev pub IsOwnFault : GraphFault → Type 0
+IsOwnFault NoMemory = ⊤
+IsOwnFault Words = ⊤
+IsOwnFault ReadFault = ⊤
+IsOwnFault (BadScript fault) = fault.cause ≢ cause.Memory
+IsOwnFault WriteFault = ⊤
+IsOwnFault (Wrong row) = IsOwnPart row.what × (row.place ≡ 0)

@@ -3,11 +3,11 @@
 --     IfBoth files asking P      and of the bytes of script and report
 --     fault_of_script fault      the fault of a script's reading
 --     IsOfOutside fault, IsOfScript files name fault      what a fault says that ended a reading
-use Rattle.std.specs.Prelude.{◌≡◌, ◌⊎◌, ℕ, List, take, ⊤, Option, Some, None}
+use Rattle.std.specs.Prelude.{◌≡◌, ◌≢◌, ℕ, List, take, ⊤, Option, Some, None}
 use Rattle.jack_types.specs.declared.scripts.Cause.{Cause}
 use Rattle.jack_types.specs.declared.scripts.Cause.TheVariants as cause
 use Rattle.jack_types.specs.declared.scripts.ScriptFault.{ScriptFault}
-use Rattle.jack_host.specs.Files.{IsThere, bytes_under}
+use Rattle.jack_host.specs.Files.{bytes_under}
 use Rattle.session_model.specs.Reading.{script_fault}
 use Rattle.session_graph.specs.Askings.{Asking}
 use Rattle.session_graph.specs.declared.faults.GraphFault.{GraphFault}
@@ -23,10 +23,6 @@ IfBytes (Some files) name P = (bytes : List ℕ) × (bytes_under files name ≡ 
 -- of the script's bytes 1,048,577 are read at most
 abbrev pub IfBoth : Option Files → Asking → (List ℕ → List ℕ → Type 0) → Type 0
 IfBoth files asking P = IfBytes files asking.script (λ script. IfBytes files asking.report (λ report. P (take 1048577 script) report))
-
--- one of the two is not there
-abbrev pub LacksFile : Option Files → Asking → Type 0
-LacksFile files asking = (IsThere files asking.script → ⊥) ⊎ (IsThere files asking.report → ⊥)
 
 -- want of memory is no fault of the bytes
 abbrev pub fault_by : Cause → ScriptFault → GraphFault
@@ -57,6 +53,6 @@ abbrev pub IsOfScript : Option Files → List ℕ → GraphFault → Type 0
 IsOfScript files name NoMemory = ⊤
 IsOfScript files name Words = ⊥
 IsOfScript files name ReadFault = ⊤
-IsOfScript files name (BadScript fault) = IfBytes files name (λ bytes. script_fault (take 1048577 bytes) ≡ Some fault)
+IsOfScript files name (BadScript fault) = (fault.cause ≢ cause.Memory) × IfBytes files name (λ bytes. script_fault (take 1048577 bytes) ≡ Some fault)
 IsOfScript files name WriteFault = ⊥
 IsOfScript files name (Wrong row) = ⊥

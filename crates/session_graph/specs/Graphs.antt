@@ -1,13 +1,15 @@
 -- What is put out, and where each fault comes.
 --     IsShown asking script report text      the text of the graph that a cycle used
 --     IsPut, IsCut files out out_after asking      it was put out, or a first part of it
+--     LacksFile files asking      a file that a step opens is not there
 --     IsFaultOf files words fault      what the words and the files have where a fault is answered
-use Rattle.std.specs.Prelude.{◌≡◌, ℕ, ◌<◌, ◌≤◌, ◌⊎◌, Bool, true, false, List, length, take, ⊤, Option, Some}
-use Rattle.jack_types.specs.declared.replies.Part.{Part}
+--     ForGraph words P      of what the words ask for
+--     HasRefusal, HasGraph      where the host tells its files: what must be answered
+use Rattle.std.specs.Prelude.{◌≡◌, ℕ, ◌<◌, ◌≤◌, ◌⊎◌, Bool, true, false, List, length, take, ⊤, Option, Some, None}
 use Rattle.jack_types.specs.declared.replies.Part.TheVariants as part
 use Rattle.jack_types.specs.declared.replies.Row.{Row}
-use Rattle.jack_types.specs.declared.scripts.ScriptFault.{ScriptFault}
 use Rattle.jack_host.specs.Bytes.{Gains}
+use Rattle.jack_host.specs.Files.{IsThere}
 use Rattle.session_model.specs.Grammar.{Spells}
 use Rattle.session_model.specs.Reading.{script_fault}
 use Rattle.session_model.specs.Scripts.{Script, turns}
@@ -59,9 +61,11 @@ pub record IsWrongCycle (script : Script) (bytes : List ℕ) (cycle : ℕ) (row 
 abbrev pub IsWrongPart : Script → List ℕ → ℕ → Row → Type 0
 IsWrongPart script bytes cycle row = ((row.what ≡ part.Report) × IsBroken script bytes cycle row.number) ⊎ IsWrongCycle script bytes cycle row
 
+-- in a report of a script that has the cycle
 pub record IsWrongRow (script_bytes report_bytes : List ℕ) (cycle : ℕ) (row : Row) : Type 0 where
   pub script : Script
   pub spelled : Spells script_bytes script
+  pub within : cycle ≤ length (turns script)
   pub place : row.place ≡ 0
   pub wrong : IsWrongPart script report_bytes cycle row
 
@@ -70,6 +74,17 @@ pub record IsBehindLast (script_bytes : List ℕ) (cycle : ℕ) : Type 0 where
   pub script : Script
   pub spelled : Spells script_bytes script
   pub behind : length (turns script) < cycle
+
+pub record HasCycle (script_bytes : List ℕ) (cycle : ℕ) : Type 0 where
+  pub script : Script
+  pub spelled : Spells script_bytes script
+  pub within : cycle ≤ length (turns script)
+
+-- the script is not there, or it has the cycle, and the report is not there
+abbrev pub LacksFile : Option Files → Asking → Type 0
+LacksFile files asking =
+    (IsThere files asking.script → ⊥)
+    ⊎ (IfBytes files asking.script (λ bytes. HasCycle (take 1048577 bytes) asking.cycle) × (IsThere files asking.report → ⊥))
 
 abbrev pub HasFault : Option Files → Asking → GraphFault → Type 0
 HasFault files asking NoMemory = ⊤
@@ -82,3 +97,21 @@ HasFault files asking (Wrong row) = IfBoth files asking (λ script report. IsWro
 -- the words are an asking that has the fault, or are none
 abbrev pub IsFaultOf : Option Files → List (List ℕ) → GraphFault → Type 0
 IsFaultOf files words fault = ((asking : Asking) × IsGraph words asking × HasFault files asking fault) ⊎ ((fault ≡ Words) × ((asking : Asking) → IsGraph words asking → ⊥))
+
+abbrev pub ForGraph : List (List ℕ) → (Asking → Type 0) → Type 0
+ForGraph words P = (asking : Asking) → IsGraph words asking → P asking
+
+-- the files have what this fault tells
+abbrev pub HasRefusal : Option Files → Asking → GraphFault → Type 0
+HasRefusal None asking fault = ⊥
+HasRefusal (Some files) asking NoMemory = ⊥
+HasRefusal (Some files) asking Words = HasFault (Some files) asking Words
+HasRefusal (Some files) asking ReadFault = LacksFile (Some files) asking
+HasRefusal (Some files) asking (BadScript fault) = HasFault (Some files) asking (BadScript fault)
+HasRefusal (Some files) asking WriteFault = ⊥
+HasRefusal (Some files) asking (Wrong row) = HasFault (Some files) asking (Wrong row)
+
+-- the files have a graph of the cycle, with this text
+abbrev pub HasGraph : Option Files → Asking → List ℕ → Type 0
+HasGraph None asking text = ⊥
+HasGraph (Some files) asking text = IfBoth (Some files) asking (λ script report. IsShown asking script report text)

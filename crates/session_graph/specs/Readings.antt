@@ -7,9 +7,7 @@
 --     Steps limits place before after line behind      the line that comes next, in its place
 --     IsOfStep, IsOfReport, IsOfFront      what a fault says that ended a reading
 use Rattle.std.specs.Prelude.{◌≡◌, ℕ, ◌+◌, ◌≤◌, List, [], ◌∷◌, ◌++◌, All, IfSome, length, map, slice_get, ⊤, Option, Some, None}
-use Rattle.jack_types.specs.declared.replies.Part.{Part}
 use Rattle.jack_types.specs.declared.replies.Part.TheVariants.{Report as InReport}
-use Rattle.jack_types.specs.declared.replies.Row.{Row}
 use Rattle.jack_types.specs.declared.scripts.Body.{Body}
 use Rattle.jack_types.specs.declared.scripts.Body.TheVariants.{Do, Run, Freewheel, Lane, Period}
 use Rattle.session_model.specs.Checking.{ended_lines}

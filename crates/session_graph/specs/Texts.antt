@@ -2,7 +2,7 @@
 --     client_slots client, port_slots port, connection_slots connection      their lines
 --     graph_lines cycle state      all lines
 --     graph_text cycle state      the text
-use Rattle.std.specs.Prelude.{ℕ, Bool, true, false, List, [], ◌∷◌, ◌++◌, map, filter, flat_map, codes, decimal, if◌then◌else◌}
+use Rattle.std.specs.Prelude.{ℕ, Bool, true, false, List, [], ◌∷◌, ◌++◌, map, filter, flat_map, codes}
 use Rattle.std.specs.Str.{bytes_eq}
 use Rattle.jack_types.specs.Names.{client_part}
 use Rattle.jack_types.specs.declared.kinds.Kind.{Kind}

@@ -6,6 +6,7 @@ mod fault_lines;
 mod faults;
 mod graphs;
 mod kinds;
+pub mod laws;
 mod reading;
 mod replaying;
 mod reports;

@@ -1,6 +1,6 @@
 //! Reading the script.
 
-ghost use Rattle.std.specs.Prelude.{◌≡◌, ◌^◌, ◌<◌, ◌≤◌, ◌⊎◌, IfErr, IfOk, IfSome, IsErrOf, OnOk, take};
+ghost use Rattle.std.specs.Prelude.{◌≡◌, ◌≢◌, ◌^◌, ◌<◌, ◌≤◌, ◌⊎◌, IfErr, IfOk, IfSome, IsErrOf, OnOk, take};
 ghost use Rattle.jack_host.specs.Causes.{Rose};
 ghost use Rattle.jack_host.specs.Files.{IsThere, SameFiles};
 ghost use Rattle.session_model.specs.Grammar.{Spells};
@@ -22,6 +22,7 @@ fn read_all<S: Source>(alloc: Global, source: &mut S, limit: usize) -> Result<Ve
     ensures fault { IfErr result IsOfOutside }
     ensures later { S.faults source.old ≤ S.faults source.new }
     ensures kept { OnOk result (S.faults source.new ≡ S.faults source.old) }
+    ensures kept_err { IfErr result (λ fault. fault ≢ GraphFault.ReadFault → S.faults source.new ≡ S.faults source.old) }
     ensures read { IsErrOf result GraphFault.ReadFault → Rose (S.faults source.old) (S.faults source.new) }
 {
     let mut bytes = Vec::new(alloc);
@@ -53,6 +54,7 @@ fn load<H: Host>(
 
     ensures later { H.read_faults host.old ≤ H.read_faults host.new }
     ensures kept { OnOk result (H.read_faults host.new ≡ H.read_faults host.old) }
+    ensures kept_err { IfErr result (λ fault. fault ≢ GraphFault.ReadFault → H.read_faults host.new ≡ H.read_faults host.old) }
     ensures writes { H.write_faults host.new ≡ H.write_faults host.old }
     ensures files { SameFiles (H.files host.old) (H.files host.new) }
     ensures lent { H.lent host.new ≡ H.lent host.old }
@@ -87,6 +89,7 @@ pub(crate) fn read_script<H: Host>(
 
     ensures later { H.read_faults host.old ≤ H.read_faults host.new }
     ensures kept { OnOk result (H.read_faults host.new ≡ H.read_faults host.old) }
+    ensures kept_err { IfErr result (λ fault. fault ≢ GraphFault.ReadFault → H.read_faults host.new ≡ H.read_faults host.old) }
     ensures writes { H.write_faults host.new ≡ H.write_faults host.old }
     ensures files { SameFiles (H.files host.old) (H.files host.new) }
     ensures lent { H.lent host.new ≡ H.lent host.old }

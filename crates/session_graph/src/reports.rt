@@ -1,6 +1,6 @@
 //! The lines of a report up to a cycle's.
 
-ghost use Rattle.std.specs.Prelude.{◌≡◌, ◌≤◌, IfErr, IfOk, IfSome, IsErrOf, IsNone, OnOk, count_by, length, sum_by};
+ghost use Rattle.std.specs.Prelude.{◌≡◌, ◌≢◌, ◌≤◌, IfErr, IfOk, IfSome, IsErrOf, IsNone, OnOk, count_by, length, sum_by};
 ghost use Rattle.jack_host.specs.Causes.{Rose};
 ghost use Rattle.session_model.specs.Grammar.{IsScript, is_call};
 ghost use Rattle.session_model.specs.Scripts.{planned, turns};
@@ -111,6 +111,7 @@ fn step<S: Source>(
     ensures fault { IfErr result (IsOfStep limits.now place lines.old.left number) }
     ensures later { lines.old.faults ≤ lines.new.faults }
     ensures kept { OnOk result (lines.new.faults ≡ lines.old.faults) }
+    ensures kept_err { IfErr result (λ fault. fault ≢ GraphFault.ReadFault → lines.new.faults ≡ lines.old.faults) }
     ensures read { IsErrOf result GraphFault.ReadFault → Rose lines.old.faults lines.new.faults }
 {
     let Ok(next) = lines.next() else {
@@ -162,6 +163,7 @@ pub(crate) fn read_report<S: Source>(
     ensures fault { IfErr result (IsOfReport script.now lines.old.left cycle) }
     ensures later { lines.old.faults ≤ lines.new.faults }
     ensures kept { OnOk result (lines.new.faults ≡ lines.old.faults) }
+    ensures kept_err { IfErr result (λ fault. fault ≢ GraphFault.ReadFault → lines.new.faults ≡ lines.old.faults) }
     ensures read { IsErrOf result GraphFault.ReadFault → Rose lines.old.faults lines.new.faults }
 {
     let limits = limits_of(script);

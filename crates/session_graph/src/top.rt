@@ -1,17 +1,18 @@
 //! The command.
 
-ghost use Rattle.std.specs.Prelude.{◌≡◌, ◌≢◌, ◌<◌, ◌≤◌, ◌⊎◌, ℕ, IfErr, IfOk, IsErrOf, OnErr, OnOk, length, map, string_bytes, take};
+ghost use Rattle.std.specs.Prelude.{◌≡◌, ◌≢◌, ◌<◌, ◌≤◌, ◌⊎◌, ℕ, List, IfErr, IfOk, IsErrOf, IsOk, OnErr, OnOk, length, map, string_bytes, take};
 ghost use Rattle.cycle_plan.specs.Graphs.{state_of};
 ghost use Rattle.jack_host.specs.Bytes.{Gains};
 ghost use Rattle.jack_host.specs.Causes.{HasCause, Rose};
 ghost use Rattle.jack_host.specs.Files.{IsThere, SameFiles};
 ghost use Rattle.session_model.specs.Scripts.{turns};
 ghost use Rattle.session_graph.specs.Askings.{Asking, IsGraph};
-ghost use Rattle.session_graph.specs.Faults.{PutsFault};
-ghost use Rattle.session_graph.specs.Files.{IfBoth, IfBytes, LacksFile};
+ghost use Rattle.session_graph.specs.Faults.{IsOwnFault, PutsFault};
+ghost use Rattle.session_graph.specs.Files.{IfBoth, IfBytes};
 ghost use Rattle.session_graph.specs.Fronts.{IsFront};
-ghost use Rattle.session_graph.specs.Graphs.{HasFault, IsCut, IsFaultOf, IsPut, IsShown, IsTextOf};
+ghost use Rattle.session_graph.specs.Graphs.{ForGraph, HasFault, HasGraph, HasRefusal, IsCut, IsFaultOf, IsPut, IsShown, IsTextOf, LacksFile};
 ghost use Rattle.session_graph.specs.Readings.{IsOfFront};
+ghost use Rattle.session_graph.specs.declared.faults.GraphFault.{GraphFault as FaultValue};
 
 use crate::dots::dot_of;
 use crate::fault_lines::put_fault;
@@ -46,6 +47,7 @@ fn told<H: Host>(
 
     ensures later { H.read_faults host.old ≤ H.read_faults host.new }
     ensures kept { OnOk result (H.read_faults host.new ≡ H.read_faults host.old) }
+    ensures kept_err { IfErr result (λ fault. fault ≢ GraphFault.ReadFault → H.read_faults host.new ≡ H.read_faults host.old) }
     ensures writes { H.write_faults host.new ≡ H.write_faults host.old }
     ensures files { SameFiles (H.files host.old) (H.files host.new) }
     ensures lent { H.lent host.new ≡ H.lent host.old }
@@ -74,10 +76,12 @@ fn text<H: Host>(alloc: Global, host: &mut H, asked: &Asked<'_>) -> Result<Strin
     requires counted { 1 ≤ asked.now.cycle }
     ensures shown { IfOk result (λ text. IfBoth (H.files host.old) asked.now (λ script report. IsShown asked.now script report (string_bytes text))) }
     ensures fault { IfErr result (HasFault (H.files host.old) asked.now) }
+    ensures own { IfErr result IsOwnFault }
     ensures read { IsErrOf result GraphFault.ReadFault → Rose (H.read_faults host.old) (H.read_faults host.new) ⊎ LacksFile (H.files host.old) asked.now }
 
     ensures later { H.read_faults host.old ≤ H.read_faults host.new }
     ensures kept { OnOk result (H.read_faults host.new ≡ H.read_faults host.old) }
+    ensures kept_err { IfErr result (λ fault. fault ≢ GraphFault.ReadFault → H.read_faults host.new ≡ H.read_faults host.old) }
     ensures writes { H.write_faults host.new ≡ H.write_faults host.old }
     ensures files { SameFiles (H.files host.old) (H.files host.new) }
     ensures lent { H.lent host.new ≡ H.lent host.old }
@@ -118,16 +122,24 @@ pub fn graph<H: Host, K: Sink>(
     requires { H.lent host.old < 1000 }
 
     // What is put out is the graph behind the first calls of the report, as many accepted ones as the cycle's line says.
-    ensures shown { OnOk result ((asking : Asking) × IsGraph (map string_bytes words.now) asking × IsPut (H.files host.old) (K.content out.old) (K.content out.new) asking) }
+    ensures shown { OnOk result ((asking : Asking) × IsGraph (map string_bytes words.now) asking
+        × IsPut (H.files host.old) (K.content out.old) (K.content out.new) asking) }
 
     // A fault comes only where the words and the files have it, or the outside failed.
-    ensures fault { IfErr result (λ fault. fault ≢ GraphFault.WriteFault → IsFaultOf (H.files host.old) (map string_bytes words.now) fault) }
-    ensures read { IsErrOf result GraphFault.ReadFault → (asking : Asking) × IsGraph (map string_bytes words.now) asking ×
-        (Rose (H.read_faults host.old) (H.read_faults host.new) ⊎ LacksFile (H.files host.old) asking) }
+    ensures fault { IfErr result (λ fault. fault ≢ GraphFault.WriteFault →
+        IsFaultOf (H.files host.old) (map string_bytes words.now) fault) }
+    ensures own { IfErr result IsOwnFault }
+    ensures read { IsErrOf result GraphFault.ReadFault → (asking : Asking) × IsGraph (map string_bytes words.now) asking
+        × (Rose (H.read_faults host.old) (H.read_faults host.new) ⊎ LacksFile (H.files host.old) asking) }
     ensures write { IsErrOf result GraphFault.WriteFault → Rose (K.faults out.old) (K.faults out.new) }
-    ensures cut { IsErrOf result GraphFault.WriteFault → (asking : Asking) × IsGraph (map string_bytes words.now) asking ×
-        IsCut (H.files host.old) (K.content out.old) (K.content out.new) asking }
-    ensures line { IfErr result (λ fault. fault ≢ GraphFault.WriteFault → PutsFault (K.content out.old) (K.content out.new) (K.faults out.old) (K.faults out.new) fault) }
+    ensures cut { IsErrOf result GraphFault.WriteFault → (asking : Asking) × IsGraph (map string_bytes words.now) asking
+        × IsCut (H.files host.old) (K.content out.old) (K.content out.new) asking }
+    ensures line { IfErr result (λ fault. fault ≢ GraphFault.WriteFault →
+        PutsFault (K.content out.old) (K.content out.new) (K.faults out.old) (K.faults out.new) fault) }
+
+    // Words that ask for no graph are refused, and the host is not called.
+    ensures words { ((asking : Asking) → ¬ IsGraph (map string_bytes words.now) asking) → IsErrOf result GraphFault.Words }
+    ensures uncalled { ((asking : Asking) → ¬ IsGraph (map string_bytes words.now) asking) → host.new ≡ host.old }
 
     // No file is touched.
     ensures files { SameFiles (H.files host.old) (H.files host.new) }
@@ -135,8 +147,21 @@ pub fn graph<H: Host, K: Sink>(
     ensures lent { H.lent host.new ≡ H.lent host.old }
     ensures later { (H.read_faults host.old ≤ H.read_faults host.new) × (K.faults out.old ≤ K.faults out.new) }
 
-    // Where the graph is put out, nothing of the host or the sink has failed.
-    ensures kept { OnOk result ((H.read_faults host.new ≡ H.read_faults host.old) × (K.faults out.new ≡ K.faults out.old)) }
+    // Nothing of the host has failed where no fault of reading is answered, and nothing of the sink where the graph is put out.
+    ensures reads { ¬ IsErrOf result GraphFault.ReadFault → H.read_faults host.new ≡ H.read_faults host.old }
+    ensures puts { OnOk result (K.faults out.new ≡ K.faults out.old) }
+
+    // The refusal that the told files have is the answer, if no read fails and memory is found.
+    ensures exact { ForGraph (map string_bytes words.now) (λ asking. (fault : FaultValue) →
+        HasRefusal (H.files host.old) asking fault →
+        ¬ Rose (H.read_faults host.old) (H.read_faults host.new) →
+        IsErrOf result fault ⊎ IsErrOf result GraphFault.NoMemory) }
+
+    // A graph that they have is put out, if nothing outside fails and memory is found.
+    ensures complete { ForGraph (map string_bytes words.now) (λ asking. (text : List ℕ) →
+        HasGraph (H.files host.old) asking text →
+        ¬ Rose (H.read_faults host.old) (H.read_faults host.new) →
+        ¬ Rose (K.faults out.old) (K.faults out.new) → IsOk result ⊎ IsErrOf result GraphFault.NoMemory) }
 {
     let Some(asked) = read_words(words) else {
         put_fault(out, GraphFault::Words);

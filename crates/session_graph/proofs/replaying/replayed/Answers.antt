@@ -1,4 +1,4 @@
-use Rattle.std.proofs.Common.{◌≡◌, ◌+◌, ◌<◌, ◌≤◌, ◌++◌, ◌∷◌, [], List, get_or, length, take, refl, sym, ap, subst, arith, rules}
+use Rattle.std.proofs.Common.{List, get_or, refl, sym, subst, arith}
 use Rattle.std.proofs.lemmas.List.{take_more}
 use Rattle.std.proofs.lemmas.Option.{slice_get-get_or}
 use Rattle.cycle_plan.specs.Graphs.{state_of}

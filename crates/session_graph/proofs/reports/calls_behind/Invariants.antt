@@ -1,4 +1,4 @@
-use Rattle.std.proofs.Common.{◌≡◌, ◌≤◌, count_by, take}
+use Rattle.std.proofs.Common.{◌≡◌, count_by, take}
 use Rattle.session_model.specs.Grammar.{is_call}
 use Rattle.session_graph.proofs.reports.calls_behind.Given as goal
 

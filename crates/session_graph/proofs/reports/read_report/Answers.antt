@@ -1,4 +1,4 @@
-use Rattle.std.proofs.Common.{◌≡◌, ◌≤◌, ◌∙◌, ◌++◌, ◌∷◌, [], List, Option, ap, append-nil, arith, length, refl, rules, subst, sym}
+use Rattle.std.proofs.Common.{◌≡◌, ◌∙◌, ◌++◌, ◌∷◌, [], Option, ap, append-nil, arith, refl, rules, sym}
 use Rattle.std.specs.List.{cons_option}
 use Rattle.report_reader.specs.declared.rows.CallLine.{CallLine}
 use Rattle.session_graph.specs.Readings.{IsOfReport}

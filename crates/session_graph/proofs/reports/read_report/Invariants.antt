@@ -1,4 +1,4 @@
-use Rattle.std.proofs.Common.{◌≡◌, ◌≤◌, ◌+◌, ◌-◌, length}
+use Rattle.std.proofs.Common.{◌≡◌, ◌+◌, ◌-◌, length}
 use Rattle.session_graph.specs.Fronts.{IsBefore}
 use Rattle.session_graph.specs.Readings.{AreLimits, HasRead, IsNear}
 use Rattle.session_graph.proofs.reports.read_report.Given as goal

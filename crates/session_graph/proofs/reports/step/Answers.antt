@@ -1,5 +1,4 @@
-use Rattle.std.proofs.Common.{◌≡◌, ℕ, List, refl, sym, subst}
-use Rattle.std.specs.Prelude.{IfSome}
+use Rattle.std.proofs.Common.{refl, sym, subst}
 use Rattle.report_reader.specs.Nexts.{IsNext, TakesNext, next_text}
 use Rattle.report_reader.specs.declared.lines.Next.TheVariants.{Line, Other, End}
 use Rattle.session_graph.specs.Readings.{IsOfStep, IsStuck}

@@ -1,4 +1,4 @@
-use Rattle.std.proofs.Common.{rules, arith}
+use Rattle.std.proofs.Common.{rules}
 use Rattle.std.specs.Prelude.{string_bytes}
 use Rattle.port_registry.specs.Registered.{open_client}
 use Rattle.session_graph.proofs.TextLemmas.{client-put}

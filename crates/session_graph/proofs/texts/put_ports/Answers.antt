@@ -1,4 +1,4 @@
-use Rattle.std.proofs.Common.{rules, arith}
+use Rattle.std.proofs.Common.{rules}
 use Rattle.std.specs.Prelude.{string_bytes}
 use Rattle.session_graph.proofs.TextLemmas.{ports-next, ports-kept}
 use Rattle.session_graph.proofs.texts.put_ports.Goals.{then-is_of+in_ok-put_port, else-is_of}

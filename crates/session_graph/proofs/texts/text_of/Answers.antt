@@ -1,4 +1,4 @@
-use Rattle.std.proofs.Common.{rules, arith}
+use Rattle.std.proofs.Common.{rules}
 use Rattle.std.specs.Prelude.{string_bytes}
 use Rattle.cycle_plan.specs.Graphs.{state_of}
 use Rattle.session_graph.proofs.TextLemmas.{text-finished}

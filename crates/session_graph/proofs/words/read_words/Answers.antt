@@ -1,4 +1,4 @@
-use Rattle.std.proofs.Common.{◌≡◌, ◌≢◌, ◌-◌, arith, codes, drop, length, map, string_bytes, take, refl, rules}
+use Rattle.std.proofs.Common.{◌≡◌, ◌≢◌, arith, codes, string_bytes, refl, rules}
 use Rattle.std.proofs.lemmas.Grind.{common_steps}
 use Rattle.std.proofs.lemmas.Slice.Eq.{bytes_eq-Decides}
 use Rattle.play_words.proofs.PlayLemmas.{first_four}

@@ -1,9 +1,8 @@
-use Rattle.std.proofs.Common.{◌≡◌, ◌+◌, ◌∙◌, ◌∷◌, [], ◌++◌, List, length, IsTrue, refl, sym, ap, subst, arith, rules}
-use Rattle.session_model.specs.Histories.{accepted}
+use Rattle.std.proofs.Common.{◌+◌, sym, ap, arith}
 use Rattle.cycle_plan.specs.Graphs.{state_of}
 use Rattle.lane_calls.specs.Plans.{plan_of}
 use Rattle.session_graph.proofs.LawfulLemmas.{command-tempo}
-use Rattle.session_graph.proofs.ReplayLemmas.{not-so, not-told, replay-more}
+use Rattle.session_graph.proofs.ReplayLemmas.{replay-more}
 use Rattle.session_graph.proofs.ShortLemmas.{plan-lawful}
 use Rattle.session_graph.proofs.replaying.Replay.make.Goals as goal
 
