@@ -65,7 +65,7 @@ units-told rate channels xs fit =
     ap (λ (bytes : List ℕ). map (down 16) (samples_of 16 bytes)) (told-bytes rate channels xs)
     ∙ ap (map (down 16)) (samples_of-bytes_of 16 xs refl fit) ∙ all-down xs
 
-file-size : (format : Format) (bytes : List ℕ) → length (file_text format bytes) ≡ 44 + length (drop 44 (file_text format bytes))
+pub file-size : (format : Format) (bytes : List ℕ) → length (file_text format bytes) ≡ 44 + length (drop 44 (file_text format bytes))
 file-size format bytes = whole (file_text format bytes) (omega arith)
   where
     whole : (xs : List ℕ) → 44 ≤ length xs → length xs ≡ 44 + length (drop 44 xs)
@@ -114,7 +114,7 @@ played-fit course =
 -- ---- how many samples there are
 
 -- a cycle of 64 frames that is bound to the device
-abbrev plain : ScriptCycle
+abbrev pub plain : ScriptCycle
 plain = record { period = 64; is_freewheel = false; phase = 0 }
 
 turns-do : (index : ℕ) (command : Command) (phases : List Phase) → turns_from index (with_do command phases) ≡ turns_from index phases
@@ -150,11 +150,11 @@ turns-are n =
     ∙ turns-run 10000 (parts n).lanes (parts n).lanes_in
 
 -- a course of so many such cycles
-record HasTurns (course : Course) (cycles : ℕ) : Type 0 where
-  turns_are : turns course.script ≡ replicate cycles plain
-  two : course.script.header.playback ≡ 2
+pub record HasTurns (course : Course) (cycles : ℕ) : Type 0 where
+  pub turns_are : turns course.script ≡ replicate cycles plain
+  pub two : course.script.header.playback ≡ 2
 
-turn-plain : (course : Course) (cycles i : ℕ) → HasTurns course cycles → i < cycles → turn course (i + 1) ≡ plain
+pub turn-plain : (course : Course) (cycles i : ℕ) → HasTurns course cycles → i < cycles → turn course (i + 1) ≡ plain
 turn-plain course cycles i has few =
     ap (λ (all : List ScriptCycle). slice_index_or (no_turn ∷ all) (i + 1) no_turn) has.turns_are
     ∙ behind (replicate cycles plain) i
@@ -164,13 +164,13 @@ turn-plain course cycles i has few =
     behind all i = simp add-one
 
 -- numbers below so many all pass
-all-pass : (p : ℕ → Bool) (n : ℕ) → ((i : ℕ) → i < n → p i ≡ true) → filter p (below n) ≡ below n
+pub all-pass : (p : ℕ → Bool) (n : ℕ) → ((i : ℕ) → i < n → p i ≡ true) → filter p (below n) ≡ below n
 all-pass p zero each = refl
 all-pass p (suc n) each =
     filter-append p (below n) (n ∷ [])
     ∙ ap₂ (λ xs ys. xs ++ ys) (all-pass p n (λ i few. each i (omega (arith, few)))) (ap (λ b. cond b (n ∷ []) []) (each n (omega arith)))
 
-flat-length : (f : ℕ → List ℤ) (m n : ℕ) → ((i : ℕ) → i < n → length (f i) ≡ m) → length (flat_map f (below n)) ≡ n * m
+pub flat-length : (f : ℕ → List ℤ) (m n : ℕ) → ((i : ℕ) → i < n → length (f i) ≡ m) → length (flat_map f (below n)) ≡ n * m
 flat-length f m zero each = omega arith
 flat-length f m (suc n) each =
     ap length (flat_map-append f (below n) (n ∷ []))

@@ -3,7 +3,7 @@
 --     script      it is a script
 --     counts      how many lines of each sort it has
 use Rattle.std.proofs.Common.{◌≡◌, ℕ, zero, suc, ◌+◌, ◌*◌, ◌<◌, ◌≤◌, Bool, true, false, cond, ◌==◌, List, [], ◌∷◌, ◌++◌, map, All, pos, Some, None, refl, sym, ◌∙◌, ap, subst, arith, append_assoc, true≢false}
-use Rattle.std.specs.Prelude.{⊤, count_by, sum_by, codes, if◌then◌else◌}
+use Rattle.std.specs.Prelude.{⊤, count_by, sum_by, if◌then◌else◌}
 use Rattle.std.specs.List.{AllByRecursion}
 use Rattle.std.specs.List.Sorted.{IsNonDecreasing}
 use Rattle.std.proofs.Math.Nat.{mod-lt}
@@ -181,6 +181,24 @@ parts n =
       last_in = drawn-below 32 (behind_others n) (omega arith);
       lanes_in = lanes-in 32 0 (behind_last n) 0 (omega arith) (omega arith);
     }
+
+-- what holds of each turn's lines holds of the part
+module _ (P : Body → Type 0) (n : ℕ) where
+  pub each-client : ((k : ℕ) (h : Lcg) → AllByRecursion P (client_lines k h).0) → AllByRecursion P (parts n).clients
+  unfolding parts
+  each-client each = drawn-each P client_lines 32 0 (generator n) (λ k h low high. each k h)
+
+  pub each-chain : ((k : ℕ) (h : Lcg) → AllByRecursion P (chain_line k h).0) → AllByRecursion P (parts n).chain
+  unfolding parts
+  each-chain each = drawn-each P chain_line 31 1 (behind_clients n) (λ k h low high. each k h)
+
+  pub each-other : ((k : ℕ) (h : Lcg) → AllByRecursion P (any_line k h).0) → AllByRecursion P (parts n).others
+  unfolding parts
+  each-other each = drawn-each P any_line 32 0 (behind_chain n) (λ k h low high. each k h)
+
+  pub each-lane : ((k : ℕ) (h : Lcg) → AllByRecursion P (lane_lines k h).0) → AllByRecursion P (parts n).lanes
+  unfolding parts
+  each-lane each = drawn-each P lane_lines 32 0 (behind_last n) (λ k h low high. each k h)
 
 -- ---- it is a script
 

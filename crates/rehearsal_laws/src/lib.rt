@@ -4,5 +4,6 @@
 pub mod captures;
 pub mod names;
 pub mod playback;
+pub mod recording;
 pub mod scripts;
 pub mod serial;
