@@ -1,0 +1,2 @@
+pub mod OneOfs
+pub mod Tremolos
