@@ -16,7 +16,11 @@ struct Listener {
 }
 
 impl Guest for Listener {
+    ghost use Rattle.guests.specs.Sounds.{sound_by};
+
     ghost score = { λ listener. listener.guest.score };
+
+    ghost sound = { sound_by };
 
     ghost numbers = { λ listener. listener.guest.numbers };
 

@@ -2,10 +2,10 @@
 #![tactic(auto)]
 
 #[cfg(test)]
+mod folder;
+#[cfg(test)]
 mod kept;
 #[cfg(test)]
 mod refused;
-#[cfg(test)]
-mod steps;
 #[cfg(test)]
 mod written;

@@ -1,89 +1,85 @@
 //! What is written is read again.
 
-use crate::steps::{
-    begun, closed, give_back, made, opened, read_back, read_by, refuses_opening, write,
-};
-use jack_host::{Failed, FileHost, FileStore, Sink, WriterSink};
-use jack_types::Memory;
+use crate::folder::{Folder, Step};
+use jack_host::{Sink, WriterSink};
+use std::alloc::Alloc;
 use std::fs;
-use std::test::Fail;
+use std::fs::{File, Files};
+use std::process::Abort;
 
 #[test]
-fn real_files_keep_what_was_written(rt: HostRuntime) -> Result<(), Fail> {
-    let mut host = FileHost::new(rt.alloc(), &rt, 1)?;
-    let mut output = begun(&mut host, "made", b"hallo")?;
-    assert_eq!(rt; write(&mut output, 1, b"e"), Ok(()));
-    assert_eq!(rt; closed(&mut host, output), Ok(()));
-    let bytes = read_back(rt.alloc(), &mut host, "made", &mut [0; 2])?;
-    fs::remove_file(&rt, "made")?;
-    assert_eq!(rt; bytes.as_slice(), b"hello".as_slice());
-    assert!(rt; refuses_opening(&mut host, "made"));
-    Ok(())
-}
-
-// Puts bytes behind those of a file, and in their middle.
-fn write_behind_and_within(output: &mut FileStore) -> Result<(), Failed> {
-    write(output, 5, b"!")?;
-    write(output, 1, b"e")
+fn real_files_keep_what_was_written(rt: HostRuntime) {
+    Folder::new(&rt, rt.alloc(), 1).walk(&[
+        Step::Make("made"),
+        Step::Put(0, "hallo"),
+        Step::Put(1, "e"),
+        Step::Done,
+        Step::Open("made"),
+        Step::Reads("hello", 2),
+        Step::Back(0),
+        Step::Removed("made"),
+        Step::CannotOpen("made"),
+    ]);
 }
 
 #[test]
-fn a_file_without_a_room_moves_the_bytes_of_each_call(rt: HostRuntime) -> Result<(), Fail> {
-    fs::write(&rt, "roomy", "hey")?;
-    let mut host = FileHost::new(rt.alloc(), &rt, 2)?;
-    let first = opened(&mut host, "roomy")?;
-    let second = opened(&mut host, "roomy")?;
-    let mut bare = begun(&mut host, "bare", b"hallo")?;
-    assert_eq!(rt; write_behind_and_within(&mut bare), Ok(()));
-    assert_eq!(rt; fs::read(&rt, "bare")?.as_slice(), b"hello!".as_slice());
-    assert_eq!(rt; closed(&mut host, bare), Ok(()));
-    let bare = opened(&mut host, "bare")?;
-    let mut last = opened(&mut host, "bare")?;
-    give_back(&mut host, bare);
-    let bytes = read_by(rt.alloc(), &mut last, &mut [0; 4])?;
-    give_back(&mut host, last);
-    give_back(&mut host, second);
-    give_back(&mut host, first);
-    fs::remove_file(&rt, "roomy")?;
-    fs::remove_file(&rt, "bare")?;
-    assert_eq!(rt; bytes.as_slice(), b"hello!".as_slice());
-    Ok(())
+fn a_file_without_a_room_moves_the_bytes_of_each_call(rt: HostRuntime) {
+    Folder::new(&rt, rt.alloc(), 2).walk(&[
+        Step::Written("roomy", "hey"),
+        Step::Open("roomy"),
+        Step::Open("roomy"),
+        Step::Make("bare"),
+        Step::Put(0, "hallo"),
+        Step::Put(5, "!"),
+        Step::Put(1, "e"),
+        Step::Holds("bare", "hello!"),
+        Step::Done,
+        Step::Open("bare"),
+        Step::Open("bare"),
+        Step::Back(2),
+        Step::Reads("hello!", 4),
+        Step::Back(2),
+        Step::Back(1),
+        Step::Back(0),
+        Step::Removed("roomy"),
+        Step::Removed("bare"),
+    ]);
 }
 
-// Writes such a piece eight times, and then a byte at the beginning, in the middle and at the end.
-fn write_long(output: &mut FileStore, piece: &[u8]) -> Result<(), Failed> {
+// A file of 80,001 bytes: such a piece eight times, and then a byte at the beginning, in the middle and at the end.
+fn write_long<R: Alloc + Files<File = File> + Abort>(folder: &mut Folder<'_, R>, piece: &[u8]) {
+    folder.walk(&[Step::Make("long")]);
     for k in 0..8 {
-        write(output, 10_000 * k, piece)?;
+        folder.put(10_000 * k, piece);
     }
-    write(output, 0, b"a")?;
-    write(output, 40_000, b"b")?;
-    write(output, 80_000, b"c")
+    folder.walk(&[
+        Step::Put(0, "a"),
+        Step::Put(40_000, "b"),
+        Step::Put(80_000, "c"),
+        Step::Done,
+    ]);
 }
 
 #[test]
-fn a_long_file_is_written_in_order(rt: HostRuntime) -> Result<(), Fail> {
-    let piece = vec![in rt.alloc(); 7u8; 10_000]?;
-    let mut host = FileHost::new(rt.alloc(), &rt, 1)?;
-    let mut output = made(&mut host, "long")?;
-    assert_eq!(rt; write_long(&mut output, &piece), Ok(()));
-    assert_eq!(rt; closed(&mut host, output), Ok(()));
-    let bytes = read_back(rt.alloc(), &mut host, "long", &mut [0; 2_000])?;
-    fs::remove_file(&rt, "long")?;
+fn a_long_file_is_written_in_order(rt: HostRuntime) {
+    let piece = vec![in rt.alloc(); 7u8; 10_000].expect(&rt, "memory");
+    let mut folder = Folder::new(&rt, rt.alloc(), 1);
+    write_long(&mut folder, &piece);
+    folder.walk(&[Step::Open("long")]);
+    let bytes = folder.read_by(2_000);
+    folder.walk(&[Step::Back(0), Step::Removed("long")]);
     assert_eq!(rt; bytes.len(), 80_001);
     assert_eq!(rt; bytes.iter().filter(|byte| **byte == 7).count(), 79_998);
-    assert_eq!(rt; bytes.first(), Some(&b'a'));
-    assert_eq!(rt; bytes.get(40_000), Some(&b'b'));
-    assert_eq!(rt; bytes.get(80_000), Some(&b'c'));
-    Ok(())
+    let others = [bytes.first(), bytes.get(40_000), bytes.get(80_000)];
+    assert_eq!(rt; others, [Some(&b'a'), Some(&b'b'), Some(&b'c')]);
 }
 
 #[test]
-fn a_writer_gets_each_put(rt: HostRuntime) -> Result<(), Fail> {
-    let mut sink = WriterSink::new(fs::create(&rt, "put")?);
-    assert_eq!(rt; sink.put(b"one "), Ok(()));
-    assert_eq!(rt; sink.put(b"two"), Ok(()));
-    let bytes = fs::read(&rt, "put")?;
-    fs::remove_file(&rt, "put")?;
-    assert_eq!(rt; bytes.as_slice(), b"one two".as_slice());
-    Ok(())
+fn a_writer_gets_each_put(rt: HostRuntime) {
+    let mut sink = WriterSink::new(fs::create(&rt, "put").expect(&rt, "made"));
+    sink.put(b"one ").expect(&rt, "put");
+    sink.put(b"two").expect(&rt, "put");
+    let found = fs::read_to_string(&rt, "put").expect(&rt, "read");
+    fs::remove_file(&rt, "put").expect(&rt, "removed");
+    assert_eq!(rt; found.as_str(), "one two");
 }

@@ -4,17 +4,17 @@ ghost use Rattle.bench_crew.specs.Ensembles.{bench_of};
 
 use bench_crew::{Ensemble, Load};
 use client_benches::{ClientBench, Rooms};
-use client_kinds::Shape;
+use client_kinds::{Guest, Shape};
 use guests::HoldGuest;
 use jack_host::Gate;
-use jack_types::{Kind, Link, Memory, Moment, TransportState};
+use jack_types::{Kind, Link, Memory, Moment, Score, TransportState};
 use std::alloc::Global;
 use std::process::Abort;
 use std::sync::atomic::{AtomicU64, Ordering};
 use std::test::Fail;
 use std::thread::Threads;
 
-type Bench = ClientBench<HoldGuest>;
+type Bench = ClientBench<Busy>;
 
 const MOMENT: Moment = Moment {
     cycle: 1,
@@ -59,6 +59,38 @@ impl Gate for Others {
     fn before_turn(&self, _disk: u8) {}
 }
 
+// A guest that plays the last sample of the cycle before, and tells so much work.
+#[derive(Drop)]
+struct Busy {
+    guest: HoldGuest,
+    work: u32,
+}
+
+impl Guest for Busy {
+    ghost use Rattle.std.specs.Prelude.{None};
+    ghost use Rattle.guests.specs.Sounds.{sound_by};
+
+    ghost score = { λ busy. busy.guest.score };
+
+    ghost sound = { sound_by };
+
+    ghost numbers = { λ busy. busy.guest.numbers };
+
+    ghost told = { λ _. None };
+
+    fn process(&mut self, moment: &Moment, ports: Shape, input: &[i32], output: &mut [i32]) -> i32 {
+        self.guest.process(moment, ports, input, output)
+    }
+
+    fn work(&self, _ports: Shape) -> u32 {
+        self.work
+    }
+
+    fn reset(&mut self) {
+        self.guest.reset();
+    }
+}
+
 // A wave of four frames, which is handed on over the two links that go out from its node.
 fn wave(alloc: Global) -> Result<Bench, Memory>
     ensures { IfOk result (λ bench. (has_room_at bench 0 ≡ true) × (has_room_at bench 1 ≡ true)) }
@@ -95,10 +127,24 @@ fn times(alloc: Global, factor: i32) -> Result<Bench, Memory> {
     Ok(bench)
 }
 
+// A bench with a guest that tells so much work. It hears nothing.
+fn seated(alloc: Global, work: u32) -> Result<Bench, Memory> {
+    let mut bench = ClientBench::new(alloc, Kind::Guest { guest: 0 }, 4)?;
+    let guest = HoldGuest::new(alloc, Score::Hold)?;
+    bench.lend(Busy { guest, work });
+    let ports = Shape {
+        inputs: 1,
+        outputs: 1,
+        period: 4,
+    };
+    bench.begin(&MOMENT, ports, 0);
+    Ok(bench)
+}
+
 // Plays a cycle over links from node 0 to the two nodes, and answers whether other seats than the first played.
 fn play<T: Threads + Sync>(
     threads: &T,
-    ensemble: &mut Ensemble<HoldGuest>,
+    ensemble: &mut Ensemble<Busy>,
     benches: &mut [Bench],
     low: u32,
     high: u32,
@@ -199,5 +245,29 @@ fn what_one_seat_begins_it_plays_alone(rt: HostRuntime) -> Result<(), Fail> {
     };
     let shared = plays_two_plans(&rt, false, [begun_by_one, HEAVY])?;
     assert_eq!(rt; shared, [false, true]);
+    Ok(())
+}
+
+// Whether a light cycle is shared by other seats than the first, where node 3 has a guest that tells so much work.
+fn shares_beside<R: Threads + Sync + AllocGlobal + Abort>(rt: &R, work: u32) -> Result<bool, Fail> {
+    let alloc = rt.alloc();
+    let mut benches = Vec::with_capacity(alloc, 4)?;
+    benches.push_reserved(wave(alloc)?);
+    benches.push_reserved(times(alloc, 2)?);
+    benches.push_reserved(times(alloc, 3)?);
+    benches.push_reserved(seated(alloc, work)?);
+    let mut ensemble = Ensemble::new(alloc, 4, 4, false)?;
+    let shared = play(rt, &mut ensemble, benches.as_mut_slice(), 1, 2, LIGHT);
+    assert_eq!(rt;
+        given(&benches),
+        [ends(1000), ends(2000), ends(3000), ends(0)]
+    );
+    Ok(shared)
+}
+
+#[test]
+fn a_guest_that_tells_much_work_is_worth_threads(rt: HostRuntime) -> Result<(), Fail> {
+    assert!(rt; !shares_beside(&rt, 4)?);
+    assert!(rt; shares_beside(&rt, 1_000_000)?);
     Ok(())
 }
