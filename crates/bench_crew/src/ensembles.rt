@@ -188,11 +188,11 @@ fn play_by<G: Guest + Send, K: Gate, T: Threads + Sync>(
     requires benches { (length benches.old ≡ (ensembled_of means.old).nodes) × HaveRoom has_room_at links.now benches.old }
     ensures means { ensembled_of means.new ≡ ensembled_of means.old }
     ensures ready { IsReady means.new }
-    ensures played { AreReturned (λ bench. bench.kept) has_room_at kept_after kept_gives links.now benches.old benches.new }
+    ensures played { AreReturned (λ bench. bench.kept) has_room_at (kept_after G.sound) (kept_gives G.sound) links.now benches.old benches.new }
 {
     means.sources.relist(links);
     match &mut means.team {
-        Some(team) if team.worth.is_met(&means.sources, load) => play_over(
+        Some(team) if team.worth.is_met(&means.sources, load.with_guests(benches)) => play_over(
             threads,
             gate,
             &mut team.crew,
@@ -224,7 +224,7 @@ impl<G: Guest + Send> Ensemble<G> {
         requires rooms { HaveRoom has_room_at links.now benches.old }
         ensures crew { self.new ≡ self.old }
         ensures count { length benches.new ≡ length benches.old }
-        ensures played { (n : ℕ) → n < length benches.old → (bench_of benches.new n).kept ≡ sequential kept_after kept_gives links.now (λ m. (bench_of benches.old m).kept) n }
+        ensures played { (n : ℕ) → n < length benches.old → (bench_of benches.new n).kept ≡ sequential (kept_after G.sound) (kept_gives G.sound) links.now (λ m. (bench_of benches.old m).kept) n }
         ensures rooms { (n : ℕ) (place : ℕ) → n < length benches.old → has_room_at (bench_of benches.new n) place ≡ has_room_at (bench_of benches.old n) place }
     {
         play_by(&mut self.means, threads, gate, links, load, benches);

@@ -2,6 +2,8 @@
 ghost use Rattle.std.specs.Prelude.{◌≡◌, ◌≤◌, ◌<◌};
 
 use crate::sources::Sources;
+use client_benches::ClientBench;
+use client_kinds::Guest;
 
 /// The work of a cycle that is worth the start of threads, and what each of them asks for besides.
 const LEAST_WORK: u64 = 400_000;
@@ -13,8 +15,19 @@ const LEAST_SHARE: u64 = 100_000;
 pub struct Load {
     /// How many of the first nodes have a client.
     pub clients: u32,
-    /// Clients and connections, times the frames of the period.
+    /// Clients and connections, times the frames of the period. What guests have beyond that, the crew adds.
     pub work: u64,
+}
+
+impl Load {
+    /// With what the guests of these benches have beyond the work of other clients.
+    pub(crate) fn with_guests<G: Guest>(self, benches: &[ClientBench<G>]) -> Load {
+        let mut work = self.work;
+        for bench in benches {
+            work = work.saturating_add(u64::from(bench.extra_work()));
+        }
+        Load { work, ..self }
+    }
 }
 
 /// What a cycle needs to be worth the start of a thread for each seat.

@@ -15,7 +15,9 @@ use Rattle.jack_types.specs.declared.kinds.Kind.TheVariants.{Pass}
 use Rattle.jack_types.specs.declared.ports.Link.{Link}
 use Rattle.session_model.specs.Activation.{AreLinks, link_at, place_among, sequential}
 use Rattle.session_model.specs.Benches.{Signal}
+use Rattle.session_model.specs.Kinds.{Sound}
 use Rattle.session_model.specs.Samples.{below}
+use Rattle.client_kinds.specs.Scores.{Score}
 use Rattle.client_benches.specs.Seen.{Remembered, Seen, has_room_at, kept_after, kept_gives, new_bench, room_count}
 use Rattle.client_benches.specs.Wires.{kept_count}
 use Rattle.cycle_workers.specs.Runs.{HaveRoom}
@@ -49,11 +51,11 @@ whole-played benches new links spare spare_links long wires rooms whole = record
 }
 
 -- a play takes no connection and makes none
-pub wires-played : (benches new : List Seen) (nodes : ℕ) (links : List Link)
-    → ((n : ℕ) → n < nodes → (bench_among new n).kept ≡ sequential kept_after kept_gives links (λ m. (bench_among benches m).kept) n)
+pub wires-played : (sound : Score → Sound) (benches new : List Seen) (nodes : ℕ) (links : List Link)
+    → ((n : ℕ) → n < nodes → (bench_among new n).kept ≡ sequential (kept_after sound) (kept_gives sound) links (λ m. (bench_among benches m).kept) n)
     → ((n : ℕ) → nodes ≤ n → bench_among new n ≡ bench_among benches n)
     → (n : ℕ) → kept_count (bench_among new n).kept.wires ≡ kept_count (bench_among benches n).kept.wires
-wires-played benches new nodes links played others n = go (nat_lt n nodes) refl
+wires-played sound benches new nodes links played others n = go (nat_lt n nodes) refl
   where
     go : (b : Bool) → nat_lt n nodes ≡ b → kept_count (bench_among new n).kept.wires ≡ kept_count (bench_among benches n).kept.wires
     go true h = ap (λ (kept : Remembered). kept_count kept.wires) (played n (leb-true (suc n) nodes h))
@@ -86,13 +88,13 @@ module _ (nodes from : ℕ) (benches new : List Seen) (few : nodes ≤ length be
       ∙ get_or-drop from benches (n - nodes) (new_bench Pass 0)
       ∙ ap (bench_among benches) (omega (arith, high, here))
 
-  pub played-front : (links : List Link) → AreLinks nodes links
-      → ((n : ℕ) → n < length (take from benches) → (bench_among new n).kept ≡ sequential kept_after kept_gives links (λ m. (bench_among (take from benches) m).kept) n)
-      → (n : ℕ) → n < nodes → (bench_among (new ++ drop from benches) n).kept ≡ sequential kept_after kept_gives links (λ m. (bench_among benches m).kept) n
-  played-front links are played n low =
+  pub played-front : (sound : Score → Sound) (links : List Link) → AreLinks nodes links
+      → ((n : ℕ) → n < length (take from benches) → (bench_among new n).kept ≡ sequential (kept_after sound) (kept_gives sound) links (λ m. (bench_among (take from benches) m).kept) n)
+      → (n : ℕ) → n < nodes → (bench_among (new ++ drop from benches) n).kept ≡ sequential (kept_after sound) (kept_gives sound) links (λ m. (bench_among benches m).kept) n
+  played-front sound links are played n low =
       ap (λ (bench : Seen). bench.kept) (front-there n low)
       ∙ played n (omega (arith, low, front-taken))
-      ∙ sequential-same kept_after kept_gives nodes links are (λ m. (bench_among (take from benches) m).kept) (λ m. (bench_among benches m).kept) (λ m there. ap (λ (bench : Seen). bench.kept) (front-before m there)) n low
+      ∙ sequential-same (kept_after sound) (kept_gives sound) nodes links are (λ m. (bench_among (take from benches) m).kept) (λ m. (bench_among benches m).kept) (λ m there. ap (λ (bench : Seen). bench.kept) (front-before m there)) n low
 
   pub rooms-front : ((n place : ℕ) → n < length (take from benches) → has_room_at (bench_among new n) place ≡ has_room_at (bench_among (take from benches) n) place)
       → (n place : ℕ) → has_room_at (bench_among (new ++ drop from benches) n) place ≡ has_room_at (bench_among benches n) place

@@ -27,7 +27,7 @@ fn play_front<G: Guest + Send, T: Threads + Sync, K: Gate>(
     requires rooms { (l : ℕ) → l < length links.now → has_room_at (bench_among benches.old (link_at links.now l).from) (place_among links.now l) ≡ true }
     ensures crew { ensemble.new ≡ ensemble.old }
     ensures count { length benches.new ≡ length benches.old }
-    ensures played { (n : ℕ) → n < ensemble.old.nodes → (bench_among benches.new n).kept ≡ sequential kept_after kept_gives links.now (λ n. (bench_among benches.old n).kept) n }
+    ensures played { (n : ℕ) → n < ensemble.old.nodes → (bench_among benches.new n).kept ≡ sequential (kept_after G.sound) (kept_gives G.sound) links.now (λ n. (bench_among benches.old n).kept) n }
     ensures rooms { (n place : ℕ) → has_room_at (bench_among benches.new n) place ≡ has_room_at (bench_among benches.old n) place }
     ensures others { (n : ℕ) → ensemble.old.nodes ≤ n → bench_among benches.new n ≡ bench_among benches.old n }
 {
@@ -55,7 +55,7 @@ impl<G: Guest + Send> Rack<G> {
         ensures crew { ensemble.new ≡ ensemble.old }
         ensures count { length self.new.benches ≡ length self.old.benches }
         ensures links { self.new.links ≡ self.old.links }
-        ensures played { (n : ℕ) → n < ensemble.old.nodes → (bench_at self.new n).kept ≡ sequential kept_after kept_gives links.now (λ n. (bench_at self.old n).kept) n }
+        ensures played { (n : ℕ) → n < ensemble.old.nodes → (bench_at self.new n).kept ≡ sequential (kept_after G.sound) (kept_gives G.sound) links.now (λ n. (bench_at self.old n).kept) n }
         ensures rooms { (n place : ℕ) → has_room_at (bench_at self.new n) place ≡ has_room_at (bench_at self.old n) place }
         ensures others { (n : ℕ) → ensemble.old.nodes ≤ n → bench_at self.new n ≡ bench_at self.old n }
     {

@@ -6,10 +6,10 @@ use client_kinds::{Guest, Shape};
 use jack_types::Moment;
 
 impl<G: Guest> Rack<G> {
-    ghost use Rattle.std.specs.Prelude.{◌≡◌, ◌*◌, ◌<◌, ◌≤◌, [], IfNone, IfSome, List, None, Some, false, length, slice_set};
+    ghost use Rattle.std.specs.Prelude.{◌≡◌, ◌*◌, ◌<◌, ◌≤◌, [], IfNone, IfSome, List, None, Some, false, length, map, slice_set};
     ghost use Rattle.std.specs.Option.{ForSome};
-    ghost use Rattle.jack_types.specs.declared.kinds.Score.{Score};
     ghost use Rattle.session_model.specs.Kinds.{first};
+    ghost use Rattle.client_kinds.specs.Scores.{Score};
     ghost use Rattle.client_kinds.specs.Standings.{HasScore, IsDisk, IsGuest};
     ghost use Rattle.client_benches.specs.Seen.{MayPlay, cleared, moved_to, rested};
     ghost use Rattle.bench_rack.specs.Racks.{begun, bench_at, fed_with, moved, with_bench};
@@ -79,7 +79,7 @@ impl<G: Guest> Rack<G> {
         ensures kind { (bench_at self.new place).kept.standing.kind ≡ (bench_at self.old place).kept.standing.kind }
         ensures period { (bench_at self.new place).kept.standing.period ≡ (bench_at self.old place).kept.standing.period }
         ensures score { (bench_at self.new place).kept.standing.score ≡ Some (G.score guest) }
-        ensures memory { (scores : List Score) → HasScore (bench_at self.new place).kept.standing scores → (bench_at self.new place).kept.standing.memory ≡ first scores (bench_at self.new place).kept.standing.kind }
+        ensures memory { (scores : List Score) → HasScore (bench_at self.new place).kept.standing scores → (bench_at self.new place).kept.standing.memory ≡ first (map G.sound scores) (bench_at self.new place).kept.standing.kind }
         ensures others { self.new ≡ with_bench self.old place (record (bench_at self.old place) { kept = record (bench_at self.old place).kept { standing = (bench_at self.new place).kept.standing } }) }
     {
         self.benches[place].lend(guest);

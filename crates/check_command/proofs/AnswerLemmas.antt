@@ -5,12 +5,12 @@
 use Rattle.std.proofs.Common.{◌≡◌, ◌≢◌, ◌∙◌, ◌⊎◌, ℕ, List, Some, None, inl, inr, ap, refl, subst, sym, take}
 use Rattle.std.specs.Prelude.{⊤, Option}
 use Rattle.check_sights.specs.declared.sights.Sight.{Sight}
-use Rattle.jack_types.specs.declared.kinds.Score.{Score}
 use Rattle.jack_types.specs.declared.replies.Row.{Row}
 use Rattle.jack_host.specs.Bytes.{Gains}
 use Rattle.session_model.specs.Checking.{IsFirstWrong}
 use Rattle.session_model.specs.Explanations.{Explained, Given, Printed, Written}
 use Rattle.session_model.specs.Grammar.{IsScript}
+use Rattle.session_model.specs.Kinds.{Sound}
 use Rattle.session_check.specs.declared.verdict.Verdict.{Verdict}
 use Rattle.session_check.specs.declared.verdict.Verdict.TheVariants.{Explained as IsRight, Wrong as IsWrong}
 use Rattle.play_words.specs.Checks.{Check}
@@ -114,7 +114,7 @@ module _ (given : Given) (written : Written) (lawful : IsScript given.script) (l
   named one (IsWrong row sight) result same rose (inl put) none is other first =
       inl (sight, put.0 ∙ ap (λ r. Wrong r sight) (one given lawful written row other is first))
 
-module _ (scores : List Score) (check : Check) where
+module _ (scores : List Sound) (check : Check) where
   pub put-explained : (files : Option Files) (verdict : Verdict) (result : Status) (same rose : Type 0) → IfCase files scores check (IsVerdict verdict) → IsPut verdict result same rose → result ≡ Ok
       → IfCase files scores check IsExplained
   put-explained files IsRight result same rose told put e = told
@@ -164,7 +164,7 @@ module _ (scores : List Score) (check : Check) where
 
 -- ---- there was none
 
-module _ (scores : List Score) (check : Check) where
+module _ (scores : List Sound) (check : Check) where
   pub early-fault : (files : Option Files) (status : Status) → OpeningStatus files scores check.play status → CheckStatus files scores check status
   early-fault files Ok is = is
   early-fault files NoMemory is = tt

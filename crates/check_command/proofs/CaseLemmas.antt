@@ -8,11 +8,11 @@ use Rattle.std.proofs.Common.{◌≡◌, ◌∙◌, ℕ, zero, suc, ◌<◌, ℤ
 use Rattle.std.specs.Prelude.{Contains, IfOk, OnOk, Option, Result, is_some}
 use Rattle.std.proofs.lemmas.Option.{none-some}
 use Rattle.check_sights.specs.declared.sights.Sight.{Sight}
-use Rattle.jack_types.specs.declared.kinds.Score.{Score}
 use Rattle.jack_types.specs.declared.replies.Row.{Row}
 use Rattle.jack_host.specs.Files.{IsThere, bytes_under}
 use Rattle.session_model.specs.Checking.{IsFirstWrong}
 use Rattle.session_model.specs.Explanations.{Given, Written}
+use Rattle.session_model.specs.Kinds.{Sound}
 use Rattle.session_model.specs.Scripts.{Script}
 use Rattle.session_check.specs.Cases.{IsCase as IsGivenCase}
 use Rattle.session_check.specs.declared.verdict.CheckFault.{CheckFault}
@@ -43,7 +43,7 @@ some-same (x ∷ xs) (y ∷ ys) e =
     let tail : xs ≡ ys = some-same xs ys rest in
     (λ k. head k ∷ tail k)
 
-module _ (files : Files) (scores : List Score) (check : Check) where
+module _ (files : Files) (scores : List Sound) (check : Check) where
   one-given : (given other : Given) (written more : Written) → IsCase files scores check given written → IsCase files scores check other more → given ≡ other
   one-given given other written more a b =
       let scripts : b.script_bytes ≡ a.script_bytes = cc (a.script_is, b.script_is) in
@@ -64,12 +64,12 @@ module _ (files : Files) (scores : List Score) (check : Check) where
       subst (λ (w : Written). P given w) (one-written has.0 given has.1 written has.2 is)
       (subst (λ (g : Given). P g has.1) (one-given has.0 given has.1 written has.2 is) has.3)
 
-pub case-map : (files : Option Files) (scores : List Score) (check : Check) (P Q : Given → Written → Type 0) → ((given : Given) (written : Written) → P given written → Q given written) → IfCase files scores check P → IfCase files scores check Q
+pub case-map : (files : Option Files) (scores : List Sound) (check : Check) (P Q : Given → Written → Type 0) → ((given : Given) (written : Written) → P given written → Q given written) → IfCase files scores check P → IfCase files scores check Q
 case-map None scores check P Q f has = tt
 case-map (Some files) scores check P Q f has = (has.0, has.1, has.2, f has.0 has.1 has.3)
 
 -- the sources that were opened tell a case of the files
-pub case-told : (files : Option Files) (scores : List Score) (check : Check) (script : Script) (left : Option (List ℤ)) (report playback : Option (List ℕ)) (records : List (Option (List ℕ)))
+pub case-told : (files : Option Files) (scores : List Sound) (check : Check) (script : Script) (left : Option (List ℤ)) (report playback : Option (List ℕ)) (records : List (Option (List ℕ)))
     (P : Given → Written → Type 0) → GivesInput files scores check.play script left → GivesWritten files check.report check.play report playback records
     → ((given : Given) (written : Written) → IsGivenCase script left scores report playback records given written → P given written) → IfCase files scores check P
 case-told None scores check script left report playback records P gives tells f = tt
@@ -95,7 +95,7 @@ case-told (Some files) scores check script left report playback records P (scrip
 )
 
 -- what a play is given is told by what was opened
-input-told : (files : Option Files) (scores : List Score) (play : Play) (script : Script) (left : Option (List ℤ)) → GivesInput files scores play script left → IfInput files scores play
+input-told : (files : Option Files) (scores : List Sound) (play : Play) (script : Script) (left : Option (List ℤ)) → GivesInput files scores play script left → IfInput files scores play
 input-told files scores play script left =
     if_bytes_map files play.script (λ script_bytes. IfBytes files play.capture (Reads script_bytes)) (λ script_bytes. IfBytes files play.capture (Has script_bytes))
     (λ script_bytes. if_bytes_map files play.capture (Reads script_bytes) (Has script_bytes) (λ capture_bytes has. (has.0, has.1)))
@@ -106,19 +106,19 @@ input-told files scores play script left =
     Has : List ℕ → List ℕ → Type 0
     Has script_bytes capture_bytes = (given : Given) × IsInput script_bytes capture_bytes scores play given
 
-pub input-named : (files : Option Files) (scores : List Score) (check : Check) (play : Play) (script : Script) (left : Option (List ℤ)) → play ≡ check.play → GivesInput files scores play script left → IfInput files scores check.play
+pub input-named : (files : Option Files) (scores : List Sound) (check : Check) (play : Play) (script : Script) (left : Option (List ℤ)) → play ≡ check.play → GivesInput files scores play script left → IfInput files scores check.play
 input-named files scores check play script left are gives = subst (λ (p : Play). IfInput files scores p) are (input-told files scores play script left gives)
 
-pub gives-named : (files : Option Files) (scores : List Score) (check : Check) (play : Play) (script : Script) (left : Option (List ℤ)) → play ≡ check.play → GivesInput files scores play script left
+pub gives-named : (files : Option Files) (scores : List Sound) (check : Check) (play : Play) (script : Script) (left : Option (List ℤ)) → play ≡ check.play → GivesInput files scores play script left
     → GivesInput files scores check.play script left
 gives-named files scores check play script left are gives = subst (λ (p : Play). GivesInput files scores p script left) are gives
 
 -- and is there where a case is
-pub input-of : (files : Option Files) (scores : List Score) (check : Check) → HasCase files scores check → HasInput files scores check.play
+pub input-of : (files : Option Files) (scores : List Sound) (check : Check) → HasCase files scores check → HasInput files scores check.play
 input-of None scores check has = has
 input-of (Some files) scores check has = (has.2.script_bytes, has.2.script_is, (has.2.capture_bytes, has.2.capture_is, (has.0, has.2.input)))
 
-pub has-case : (files : Files) (scores : List Score) (check : Check) (P : Given → Written → Type 0) → IfCase (Some files) scores check P → HasCase (Some files) scores check
+pub has-case : (files : Files) (scores : List Sound) (check : Check) (P : Given → Written → Type 0) → IfCase (Some files) scores check P → HasCase (Some files) scores check
 has-case files scores check P has = (has.0, has.1, has.2)
 
 -- each of these names has bytes
@@ -128,7 +128,7 @@ all-there files (own ∷ names) [] e name (k, within, is) = cc e
 all-there files (own ∷ names) (bytes ∷ all) e name (zero, within, is) = let here : bytes_under files own ≡ Some bytes = cc e in subst (λ (n : List ℕ). IsThere (Some files) n) is (ap is_some here)
 all-there files (own ∷ names) (bytes ∷ all) e name (suc k, within, is) = let rest : map (bytes_under files) names ≡ map Some all = cc e in all-there files names all rest name (k, omega (arith, within), is)
 
-pub there-none : (files : Option Files) (scores : List Score) (check : Check) → HasCase files scores check → LacksOne files (checked_names check) → ⊥
+pub there-none : (files : Option Files) (scores : List Sound) (check : Check) → HasCase files scores check → LacksOne files (checked_names check) → ⊥
 there-none None scores check has lacks = has
 there-none (Some files) scores check has (name, among, none) =
     let written : Written = has.1 in
@@ -152,7 +152,7 @@ kept-of verdict result a b n is same kept = subst (λ (r : Result Verdict Status
     go (Err Read) same = tt
     go (Err Memory) same = tt
 
-module _ (files : Option Files) (scores : List Score) (check : Check) (script : Script) (left : Option (List ℤ)) (report playback : Option (List ℕ)) (records : List (Option (List ℕ)))
+module _ (files : Option Files) (scores : List Sound) (check : Check) (script : Script) (left : Option (List ℤ)) (report playback : Option (List ℕ)) (records : List (Option (List ℕ)))
     (gives : GivesInput files scores check.play script left) (tells : GivesWritten files check.report check.play report playback records) where
   abbrev Case : Given → Written → Type 0
   Case given written = IsGivenCase script left scores report playback records given written

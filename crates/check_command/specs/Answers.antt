@@ -5,12 +5,12 @@
 --     PutsVerdict out out_after status      what stands on the sink behind a verdict
 --     IsVerdictCut files scores check out out_after      and where it could not be put whole
 use Rattle.std.specs.Prelude.{◌≡◌, ℕ, ◌⊎◌, List, take, ⊤, Option}
-use Rattle.jack_types.specs.declared.kinds.Score.{Score}
 use Rattle.jack_types.specs.declared.replies.Row.{Row}
 use Rattle.check_sights.specs.declared.sights.Sight.{Sight}
 use Rattle.jack_host.specs.Bytes.{Gains}
 use Rattle.session_model.specs.Checking.{IsFirstWrong}
 use Rattle.session_model.specs.Explanations.{Given, Written}
+use Rattle.session_model.specs.Kinds.{Sound}
 use Rattle.play_words.specs.Checks.{Check}
 use Rattle.play_inputs.specs.declared.status.Status.{Status}
 use Rattle.play_inputs.specs.declared.status.Status.TheVariants.{Ok, NoMemory, Words, ReadFault, BadWave, BadScript, WriteFault, Differs, Wrong}
@@ -34,7 +34,7 @@ IsDecided (Differs difference) = ⊥
 IsDecided (Wrong row sight) = ⊤
 
 -- a script, a capture and numbers are refused as by a play
-abbrev pub CheckStatus : Option Files → List Score → Check → Status → Type 0
+abbrev pub CheckStatus : Option Files → List Sound → Check → Status → Type 0
 CheckStatus files scores check Ok = ⊥
 CheckStatus files scores check NoMemory = ⊤
 CheckStatus files scores check Words = ⊥
@@ -58,6 +58,6 @@ PutsVerdict out out_after (Differs difference) = ⊤
 PutsVerdict out out_after (Wrong row sight) = Gains out out_after (wrong_line row)
 
 -- a front of the line of the verdict that the files have
-abbrev pub IsVerdictCut : Option Files → List Score → Check → Option (List ℕ) → Option (List ℕ) → Type 0
+abbrev pub IsVerdictCut : Option Files → List Sound → Check → Option (List ℕ) → Option (List ℕ) → Type 0
 IsVerdictCut files scores check out out_after =
     IfCase files scores check (λ given written. (line : List ℕ) × IsVerdictLine given written line × ((k : ℕ) × Gains out out_after (take k line)))

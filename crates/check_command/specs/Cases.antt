@@ -6,15 +6,15 @@
 --     LacksOne files names      one of these names is not there
 --     LacksCase files scores check      a name that a step opens is not there
 use Rattle.std.specs.Prelude.{◌≡◌, ◌⊎◌, ℕ, List, ◌∷◌, map, ⊤, Contains, Option, Some, None}
-use Rattle.jack_types.specs.declared.kinds.Score.{Score}
 use Rattle.jack_host.specs.Files.{bytes_under, IsThere}
 use Rattle.session_model.specs.Explanations.{Given, Written}
+use Rattle.session_model.specs.Kinds.{Sound}
 use Rattle.play_words.specs.Checks.{Check}
 use Rattle.play_inputs.specs.Answers.{IfInput, LacksInput}
 use Rattle.play_inputs.specs.Inputs.{Files, IsInput}
 
 -- what a play of the names would be given, and the bytes that are checked
-pub record IsCase (files : Files) (scores : List Score) (check : Check) (given : Given) (written : Written) : Type 0 where
+pub record IsCase (files : Files) (scores : List Sound) (check : Check) (given : Given) (written : Written) : Type 0 where
   pub script_bytes : List ℕ
   pub capture_bytes : List ℕ
   pub script_is : bytes_under files check.play.script ≡ Some script_bytes
@@ -24,15 +24,15 @@ pub record IsCase (files : Files) (scores : List Score) (check : Check) (given :
   pub playback_is : bytes_under files check.play.playback ≡ Some written.playback
   pub records_are : map (bytes_under files) check.play.records ≡ map Some written.records
 
-abbrev pub IfCase : Option Files → List Score → Check → (Given → Written → Type 0) → Type 0
+abbrev pub IfCase : Option Files → List Sound → Check → (Given → Written → Type 0) → Type 0
 IfCase None scores check P = ⊤
 IfCase (Some files) scores check P = (given : Given) × (written : Written) × IsCase files scores check given written × P given written
 
-abbrev pub OfCase : Option Files → List Score → Check → (Given → Written → Type 0) → Type 0
+abbrev pub OfCase : Option Files → List Sound → Check → (Given → Written → Type 0) → Type 0
 OfCase None scores check P = ⊤
 OfCase (Some files) scores check P = (given : Given) (written : Written) → IsCase files scores check given written → P given written
 
-abbrev pub HasCase : Option Files → List Score → Check → Type 0
+abbrev pub HasCase : Option Files → List Sound → Check → Type 0
 HasCase None scores check = ⊥
 HasCase (Some files) scores check = (given : Given) × (written : Written) × IsCase files scores check given written
 
@@ -44,7 +44,7 @@ abbrev pub LacksOne : Option Files → List (List ℕ) → Type 0
 LacksOne files names = (name : List ℕ) × Contains names name × (¬ IsThere files name)
 
 -- a file that a play of the names would read is not there; or they fit, and one that is compared is not there
-abbrev pub LacksCase : Option Files → List Score → Check → Type 0
+abbrev pub LacksCase : Option Files → List Sound → Check → Type 0
 LacksCase files scores check =
     LacksInput files scores check.play
     ⊎ (IfInput files scores check.play × LacksOne files (checked_names check))

@@ -3,13 +3,14 @@
 --     written_names name play      the names of a report, and of a play's playback and records
 --     Tells files name play report playback records      the sources of these do
 --     GivesWritten      the same, where the files are told
---     faults_in files, faults_in_all      how many of their reads failed, and of all sources of a check
+--     faults_in files, faults_of checked      how many of their reads failed, and of those of all sources that a check hands back
 --     IsFresh compared      nothing was read of it, and no read failed
 use Rattle.std.specs.Prelude.{◌≡◌, ℕ, ◌+◌, List, ◌∷◌, map, sum_by, ⊤, Option, Some, None}
 use Rattle.jack_host.specs.Files.{bytes_under}
 use Rattle.session_model.specs.Explanations.{Written}
 use Rattle.file_compare.specs.Comparisons.{Compared}
 use Rattle.session_check.specs.Cases.{IsUntouched}
+use Rattle.session_check.specs.declared.checking.Checked.{Checked}
 use Rattle.play_words.specs.Words.{Play}
 use Rattle.play_inputs.specs.Inputs.{Files}
 
@@ -38,6 +39,9 @@ faults_in files = sum_by (λ (one : Compared). one.faults) files
 
 abbrev pub faults_in_all : ℕ → ℕ → Compared → List Compared → ℕ
 faults_in_all capture report playback records = capture + report + playback.faults + faults_in records
+
+abbrev pub faults_of : {S : Type 0} → Checked S → ℕ
+faults_of checked = faults_in_all checked.capture.faults checked.report.faults checked.playback checked.records.items
 
 pub record IsFresh (compared : Compared) : Type 0 where
   pub untouched : IsUntouched compared

@@ -6,7 +6,7 @@ ghost use Rattle.jack_host.specs.Files.{SameFiles};
 ghost use Rattle.play_inputs.specs.Answers.{HasOwnFault};
 ghost use Rattle.play_inputs.specs.Openings.{OpeningStatus};
 ghost use Rattle.check_command.specs.Cases.{IfCase, LacksCase};
-ghost use Rattle.check_command.specs.Files.{faults_in_all};
+ghost use Rattle.check_command.specs.Files.{faults_of};
 ghost use Rattle.check_command.specs.Verdicts.{IsVerdict, answer_of as answer};
 
 use crate::files::{WrittenFiles, back_records, open_written};
@@ -33,8 +33,8 @@ fn answer_of(verdict: Result<Verdict, CheckFault>) -> Result<Verdict, Status>
 fn hand_back<H: Host>(host: &mut H, checked: Checked<H::In>) -> Result<Verdict, Status>
     requires { 3 + length checked.records.items ≤ H.lent host.old }
     ensures answer { result ≡ answer checked.verdict }
-    ensures reads { Adds (H.read_faults host.old) (faults_in_all checked.capture.faults checked.report.faults checked.playback checked.records.items) (H.read_faults host.new) }
-    ensures no_more { H.read_faults host.new ≤ H.read_faults host.old + faults_in_all checked.capture.faults checked.report.faults checked.playback checked.records.items }
+    ensures reads { Adds (H.read_faults host.old) (faults_of checked) (H.read_faults host.new) }
+    ensures no_more { H.read_faults host.new ≤ H.read_faults host.old + faults_of checked }
     ensures writes { H.write_faults host.new ≡ H.write_faults host.old }
     ensures files { SameFiles (H.files host.old) (H.files host.new) }
     ensures lent { H.lent host.new + 3 + length checked.records.items ≡ H.lent host.old }
@@ -63,11 +63,14 @@ pub(crate) fn decide<T: Threads + Sync, H: Host, G: Guest + Send, A: Gate>(
     gate: &A,
 ) -> Result<Verdict, Status>
     requires { H.lent host.old < 900 }
-    ensures verdict { IfOk result (λ verdict. IfCase (H.files host.old) (map G.score guests.items) names.now (IsVerdict verdict)) }
-    ensures fault { IfErr result (OpeningStatus (H.files host.old) (map G.score guests.items) names.now.play) }
+    ensures verdict { IfOk result (λ verdict.
+        IfCase (H.files host.old) (map G.sound (map G.score guests.items)) names.now (IsVerdict verdict)) }
+    ensures fault { IfErr result
+        (OpeningStatus (H.files host.old) (map G.sound (map G.score guests.items)) names.now.play) }
     ensures own { IfErr result HasOwnFault }
     ensures read { IsErrOf result Status.ReadFault →
-        Rose (H.read_faults host.old) (H.read_faults host.new) ⊎ LacksCase (H.files host.old) (map G.score guests.items) names.now }
+        Rose (H.read_faults host.old) (H.read_faults host.new)
+        ⊎ LacksCase (H.files host.old) (map G.sound (map G.score guests.items)) names.now }
 
     ensures later { H.read_faults host.old ≤ H.read_faults host.new }
     ensures kept { OnOk result (H.read_faults host.new ≡ H.read_faults host.old) }

@@ -47,7 +47,8 @@ fn open_records<H: Host>(
     ensures opened { OnOk result (GivesAll (H.files host.old) names.now.records (map left_of records.new.items)) }
     ensures many { OnOk result (length records.new.items ≡ length names.now.records) }
     ensures fresh { All IsFresh records.new.items }
-    ensures read { OnErr result (Rose (H.read_faults host.old) (H.read_faults host.new) ⊎ LacksOne (H.files host.old) names.now.records) }
+    ensures read { OnErr result
+        (Rose (H.read_faults host.old) (H.read_faults host.new) ⊎ LacksOne (H.files host.old) names.now.records) }
     ensures later { H.read_faults host.old ≤ H.read_faults host.new }
     ensures kept { OnOk result (H.read_faults host.new ≡ H.read_faults host.old) }
     ensures writes { H.write_faults host.new ≡ H.write_faults host.old }
@@ -71,9 +72,11 @@ pub(crate) fn open_written<H: Host>(
     names: &Names<'_>,
 ) -> Result<WrittenFiles<H::In>, Status>
     requires { H.lent host.old < 940 }
-    ensures opened { IfOk result (λ written. GivesWritten (H.files host.old) report.now names.now written.report.left written.playback.left (map left_of written.records.items)) }
+    ensures opened { IfOk result (λ written. GivesWritten (H.files host.old) report.now names.now
+        written.report.left written.playback.left (map left_of written.records.items)) }
     ensures many { IfOk result (λ written. length written.records.items ≡ length names.now.records) }
-    ensures fresh { IfOk result (λ written. (written.report.faults ≡ 0) × IsFresh written.playback × All IsFresh written.records.items) }
+    ensures fresh { IfOk result (λ written.
+        (written.report.faults ≡ 0) × IsFresh written.playback × All IsFresh written.records.items) }
     ensures fault { IfErr result (λ status. (status ≡ Status.NoMemory) ⊎ (status ≡ Status.ReadFault)) }
     ensures read { IsErrOf result Status.ReadFault →
         Rose (H.read_faults host.old) (H.read_faults host.new) ⊎ LacksOne (H.files host.old) (written_names report.now names.now) }

@@ -36,30 +36,40 @@ pub fn check_named<T: Threads + Sync, H: Host, K: Sink, G: Guest + Send, A: Gate
 ) -> Status
     requires { H.lent host.old < 900 }
     ensures explained { result ≡ Status.Ok →
-        IfCase (H.files host.old) (map G.score guests.items) names.now IsExplained }
+        IfCase (H.files host.old) (map G.sound (map G.score guests.items)) names.now IsExplained }
     ensures wrong { (row : RowValue) (sight : SightValue) → result ≡ Status.Wrong row sight →
-        IfCase (H.files host.old) (map G.score guests.items) names.now (λ given written. IsFirstWrong given written row) }
+        IfCase (H.files host.old) (map G.sound (map G.score guests.items)) names.now
+        (λ given written. IsFirstWrong given written row) }
 
     // An explained report is answered so, and a wrong one by its first wrong part, if no read and no put fails and memory is found.
-    ensures decides { OfCase (H.files host.old) (map G.score guests.items) names.now (λ given written. IsExplained given written →
-        ¬ Rose (H.read_faults host.old) (H.read_faults host.new) → ¬ Rose (K.faults out.old) (K.faults out.new) → IsDoneOrNoMemory result) }
-    ensures names { OfCase (H.files host.old) (map G.score guests.items) names.now (λ given written. (row : RowValue) → IsFirstWrong given written row →
-        ¬ Rose (H.read_faults host.old) (H.read_faults host.new) → ¬ Rose (K.faults out.old) (K.faults out.new) → IsWrongAt row result ⊎ (result ≡ Status.NoMemory)) }
-    ensures decided { HasCase (H.files host.old) (map G.score guests.items) names.now →
+    ensures decides { OfCase (H.files host.old) (map G.sound (map G.score guests.items)) names.now (λ given written.
+        IsExplained given written →
+        ¬ Rose (H.read_faults host.old) (H.read_faults host.new) → ¬ Rose (K.faults out.old) (K.faults out.new) →
+        IsDoneOrNoMemory result) }
+    ensures names { OfCase (H.files host.old) (map G.sound (map G.score guests.items)) names.now (λ given written.
+        (row : RowValue) → IsFirstWrong given written row →
+        ¬ Rose (H.read_faults host.old) (H.read_faults host.new) → ¬ Rose (K.faults out.old) (K.faults out.new) →
+        IsWrongAt row result ⊎ (result ≡ Status.NoMemory)) }
+    ensures decided { HasCase (H.files host.old) (map G.sound (map G.score guests.items)) names.now →
         ¬ Rose (H.read_faults host.old) (H.read_faults host.new) → ¬ Rose (K.faults out.old) (K.faults out.new) → IsDecided result }
 
     ensures lawful { result ≢ Status.Words }
-    ensures fault { result ≢ Status.Ok → CheckStatus (H.files host.old) (map G.score guests.items) names.now result }
+    ensures fault { result ≢ Status.Ok →
+        CheckStatus (H.files host.old) (map G.sound (map G.score guests.items)) names.now result }
     ensures own { HasOwnFault result }
     ensures read { result ≡ Status.ReadFault →
-        Rose (H.read_faults host.old) (H.read_faults host.new) ⊎ LacksCase (H.files host.old) (map G.score guests.items) names.now }
+        Rose (H.read_faults host.old) (H.read_faults host.new)
+        ⊎ LacksCase (H.files host.old) (map G.sound (map G.score guests.items)) names.now }
     ensures write { result ≡ Status.WriteFault → Rose (K.faults out.old) (K.faults out.new)
-        × IsVerdictCut (H.files host.old) (map G.score guests.items) names.now (K.content out.old) (K.content out.new) }
-    ensures exact { (status : StatusValue) → HasRefusal (H.files host.old) (map G.score guests.items) names.now.play status →
+        × IsVerdictCut (H.files host.old) (map G.sound (map G.score guests.items)) names.now
+        (K.content out.old) (K.content out.new) }
+    ensures exact { (status : StatusValue) →
+        HasRefusal (H.files host.old) (map G.sound (map G.score guests.items)) names.now.play status →
         ¬ Rose (H.read_faults host.old) (H.read_faults host.new) → (result ≡ status) ⊎ (result ≡ Status.NoMemory) }
 
     ensures verdict { PutsVerdict (K.content out.old) (K.content out.new) result }
-    ensures line { HasLine result → PutsFault (K.content out.old) (K.content out.new) (K.faults out.old) (K.faults out.new) result }
+    ensures line { HasLine result →
+        PutsFault (K.content out.old) (K.content out.new) (K.faults out.old) (K.faults out.new) result }
     ensures silent { result ≡ Status.NoMemory → out.new ≡ out.old }
     ensures unwritten { SameFiles (H.files host.old) (H.files host.new) × (H.write_faults host.new ≡ H.write_faults host.old) }
     ensures lent { H.lent host.new ≡ H.lent host.old }

@@ -83,7 +83,8 @@ pub(crate) fn put_verdict<K: Sink>(out: &mut K, verdict: Verdict) -> Status
     ensures status { ((result ≡ status_of verdict) × (K.faults out.new ≡ K.faults out.old))
         ⊎ ((result ≡ Status.WriteFault) × Rose (K.faults out.old) (K.faults out.new)) }
     ensures puts { PutsVerdict (K.content out.old) (K.content out.new) result }
-    ensures cut { result ≡ Status.WriteFault → (k : ℕ) × Gains (K.content out.old) (K.content out.new) (take k (line_of verdict)) }
+    ensures cut { result ≡ Status.WriteFault →
+        (k : ℕ) × Gains (K.content out.old) (K.content out.new) (take k (line_of verdict)) }
     ensures later { K.faults out.old ≤ K.faults out.new }
 {
     let line = line_of_verdict(verdict);

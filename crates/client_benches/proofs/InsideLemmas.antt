@@ -3,23 +3,23 @@
 --     room-carried, sound-carried      with one more route
 --     room-stays, shape-played, sound-played      behind a play
 --     reached-none, reached-filled      where there is no room at all, and behind a play
-use Rattle.std.proofs.Common.{◌≡◌, ℕ, zero, suc, ◌<◌, ◌*◌, List, [], ◌∷◌, ◌++◌, length, replicate, ℤ, Option, Some, None, option_map, refl, sym, ◌∙◌, ap, subst, arith, true≢false}
+use Rattle.std.proofs.Common.{◌≡◌, ℕ, zero, suc, ◌<◌, ◌*◌, List, [], ◌∷◌, ◌++◌, length, map, replicate, ℤ, Option, Some, None, option_map, refl, sym, ◌∙◌, ap, subst, arith, true≢false}
 use Rattle.std.specs.Option.{ForSome}
 use Rattle.std.specs.Prelude.{IfSome, if◌then◌else◌, is_some, nat_lt, slice_index_or, vec_capacity}
 use Rattle.jack_types.specs.declared.kinds.Kind.{Kind}
 use Rattle.jack_types.specs.declared.kinds.Kind.TheVariants.{Pass, Gain, Mix as MixKind, Delay, Tone, Click, Meter, Tape, Guest, Midiplay, Midithru, Midilog, Disk}
-use Rattle.jack_types.specs.declared.kinds.Score.{Score}
 use Rattle.std.specs.Global.{Vec}
 use Rattle.port_mixer.specs.Sums.{Mix}
 use Rattle.session_model.specs.Benches.{Signal}
-use Rattle.session_model.specs.Kinds.{Memory, first, play}
+use Rattle.session_model.specs.Kinds.{Memory, Sound, first, play}
+use Rattle.client_kinds.specs.Scores.{Score}
 use Rattle.client_kinds.specs.Standings.{Standing, HasGuest, HasScore, IsGuest}
 use Rattle.client_benches.specs.declared.benches.Stint.{Stint}
 use Rattle.client_benches.specs.declared.values.Route.{Route}
 use Rattle.client_benches.specs.declared.wires.Wire.{Wire}
 use Rattle.client_benches.specs.Insides.{HasAllRoom, IsPlayedShape, IsReached, IsSound}
 use Rattle.client_benches.specs.Routes.{HasOutput, IsBelow}
-use Rattle.client_benches.specs.Seen.{AreFilled, MayPlay, own_scores}
+use Rattle.client_benches.specs.Seen.{AreFilled, MayPlay, own_scores, own_sounds}
 use Rattle.client_benches.proofs.KeptLemmas.{HasScore-own, first-log, play-log}
 use Rattle.client_benches.proofs.RouteLemmas.{All-more, length-more}
 
@@ -39,12 +39,12 @@ not-lent (Disk disk) score is e there = is
 not-lent (Guest guest) None is e there = true≢false (sym there)
 not-lent (Guest guest) (Some score) is e there = true≢false (ap (λ o. is_some o) e)
 
-pub sound-lent : (standing new : Standing) (turn : Option Stint) (routes : List Route) → IsGuest standing.kind → standing.score ≡ None
-    → ((scores : List Score) → HasScore new scores → new.memory ≡ first scores new.kind) → IsSound standing turn routes → IsSound new turn routes
-sound-lent standing new turn routes kind none fresh s = record {
+pub sound-lent : (sound : Score → Sound) (standing new : Standing) (turn : Option Stint) (routes : List Route) → IsGuest standing.kind → standing.score ≡ None
+    → ((scores : List Score) → HasScore new scores → new.memory ≡ first (map sound scores) new.kind) → IsSound standing turn routes → IsSound new turn routes
+sound-lent sound standing new turn routes kind none fresh s = record {
   task = λ now e. absurd (not-lent standing.kind standing.score kind none (s.task now e).guest);
   outputs = s.outputs;
-  log = ap (λ memory. memory.log) (fresh (own_scores new) (HasScore-own new)) ∙ first-log (own_scores new) new.kind;
+  log = ap (λ memory. memory.log) (fresh (own_scores new) (HasScore-own new)) ∙ first-log (own_sounds sound new) new.kind;
 }
 
 below-carried : (turn : Option Stint) (output : Option ℕ) → IfSome output (λ output. ForSome turn (λ now. output < now.ports.outputs)) → (now : Stint) → turn ≡ Some now → IsBelow now.ports.outputs output
@@ -79,10 +79,10 @@ room-stays standing new memory mixer mixer_now padded padded_now input input_now
 pub shape-played : (standing new : Standing) (memory : Memory) (turn : Stint) → new ≡ record standing { memory = memory } → MayPlay standing turn → IsPlayedShape new.period turn.ports
 shape-played standing new memory turn is may = record { inputs = may.inputs; outputs = may.outputs; within = omega (arith, may.period, ap (λ (s : Standing). s.period) is) }
 
-pub sound-played : (standing new : Standing) (turn : Option Stint) (now : Stint) (routes : List Route) (inputs : List (List ℤ)) → turn ≡ Some now
-    → new ≡ record standing { memory = (play (own_scores standing) standing.kind standing.memory now.ports.outputs now.moment now.ports.period inputs).memory }
+pub sound-played : (sound : Score → Sound) (standing new : Standing) (turn : Option Stint) (now : Stint) (routes : List Route) (inputs : List (List ℤ)) → turn ≡ Some now
+    → new ≡ record standing { memory = (play (own_sounds sound standing) standing.kind standing.memory now.ports.outputs now.moment now.ports.period inputs).memory }
     → IsSound standing turn routes → IsSound new turn routes
-sound-played standing new turn now routes inputs busy is s = subst (λ (z : Standing). IsSound z turn routes) (sym is) (record {
+sound-played sound standing new turn now routes inputs busy is s = subst (λ (z : Standing). IsSound z turn routes) (sym is) (record {
   task = λ at e. (let old : MayPlay standing at = s.task at e in record {
     guest = old.guest;
     rate = old.rate;
@@ -92,7 +92,7 @@ sound-played standing new turn now routes inputs busy is s = subst (λ (z : Stan
     outputs = old.outputs;
   });
   outputs = s.outputs;
-  log = play-log (own_scores standing) standing.kind standing.memory now.ports.outputs now.moment now.ports.period inputs ∙ s.log;
+  log = play-log (own_sounds sound standing) standing.kind standing.memory now.ports.outputs now.moment now.ports.period inputs ∙ s.log;
 })
 
 pub room-carried : (period : ℕ) (mixer : Mix) (padded input output : List ℤ) (wires : Vec Wire) (routes routes_now : Vec Route) (rooms : List (Option (List Signal))) (route : Route)

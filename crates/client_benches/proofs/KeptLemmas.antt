@@ -12,19 +12,19 @@ use Rattle.std.proofs.lemmas.Bool.{leb-true, ltb-false}
 use Rattle.std.proofs.lemmas.List.{get_or_past}
 use Rattle.jack_types.specs.declared.kinds.Kind.{Kind}
 use Rattle.jack_types.specs.declared.kinds.Kind.TheVariants.{Pass, Gain, Mix, Delay, Tone, Click, Meter, Guest, Disk, Midilog}
-use Rattle.jack_types.specs.declared.kinds.Score.{Score}
 use Rattle.jack_types.specs.declared.moments.Moment.{Moment}
 use Rattle.session_model.specs.Benches.{Bench, Signal, Task, mixed, task_turn, bench_played, handed, routed, audio_part}
 use Rattle.session_model.specs.Cycles.{ClientPlayed}
-use Rattle.session_model.specs.Kinds.{Memory, first, no_memory, play, midi_play, guest_turn, guest_played, silent, input_at}
+use Rattle.session_model.specs.Kinds.{Memory, Sound, first, guest_played, guest_turn, input_at, midi_play, no_memory, play, silent}
 use Rattle.session_model.specs.Samples.{below, mix}
 use Rattle.session_laws.proofs.ActivationLemmas.{length-map_below, get_or-map_below}
 use Rattle.session_laws.proofs.PlaceLemmas.{map-after}
+use Rattle.client_kinds.specs.Scores.{Score}
 use Rattle.client_kinds.specs.Standings.{Standing, HasScore}
 use Rattle.client_benches.specs.declared.benches.Stint.{Stint}
 use Rattle.client_benches.specs.declared.values.Route.{Route}
 use Rattle.client_benches.specs.Routes.{carried_by, route_of, routes_on}
-use Rattle.client_benches.specs.Seen.{Remembered, kept_after, kept_gives, own_bench, own_scores, task_in}
+use Rattle.client_benches.specs.Seen.{Remembered, kept_after, kept_gives, own_bench, own_scores, own_sounds, task_in}
 use Rattle.client_benches.specs.Wires.{inputs_of, parts_into}
 
 score-there : (guest : ℕ) (score : Score) → slice_get (replicate (suc guest) score) guest ≡ Some score
@@ -51,11 +51,11 @@ pub midi-none : (kind : Kind) (memory : Memory) (moment : Moment) (period : ℕ)
 midi-none Midilog memory moment period quiet = ap (λ log. record memory { log = take 4096 (log ++ []) }) quiet ∙ ap (λ log. record memory { log = log }) (sym quiet)
 midi-none _ memory moment period quiet = refl
 
-pub play-log : (scores : List Score) (kind : Kind) (memory : Memory) (outputs : ℕ) (moment : Moment) (period : ℕ) (inputs : List (List ℤ)) → (play scores kind memory outputs moment period inputs).memory.log ≡ memory.log
+pub play-log : (scores : List Sound) (kind : Kind) (memory : Memory) (outputs : ℕ) (moment : Moment) (period : ℕ) (inputs : List (List ℤ)) → (play scores kind memory outputs moment period inputs).memory.log ≡ memory.log
 play-log scores (Guest guest) memory outputs moment period inputs = go memory.is_dead
   where
     go : (dead : Bool)
-        → (if dead then silent period outputs memory else guest_played period outputs memory (guest_turn (slice_get scores guest) memory.numbers (input_at period inputs 0))).memory.log ≡ memory.log
+        → (if dead then silent period outputs memory else guest_played period outputs memory (guest_turn (slice_get scores guest) moment outputs period memory.numbers inputs)).memory.log ≡ memory.log
     go true = refl
     go false = refl
 play-log scores (Delay frames) memory outputs moment period inputs = refl
@@ -64,15 +64,15 @@ play-log scores Meter memory outputs moment period inputs = refl
 play-log scores (Disk disk) memory outputs moment period inputs = refl
 play-log scores _ memory outputs moment period inputs = refl
 
-pub first-log : (scores : List Score) (kind : Kind) → (first scores kind).log ≡ []
+pub first-log : (scores : List Sound) (kind : Kind) → (first scores kind).log ≡ []
 first-log scores (Delay frames) = refl
 first-log scores (Guest guest) = refl
 first-log scores _ = refl
 
 -- what a bench with this task gets, plays and gives
-module _ (kept : Remembered) (given : List (List Signal)) where
+module _ (sound : Score → Sound) (kept : Remembered) (given : List (List Signal)) where
   abbrev bench_by : Option Stint → Bench
-  bench_by turn = record (own_bench kept) { task = option_map (task_in (own_scores kept.standing) kept) turn }
+  bench_by turn = record (own_bench sound kept) { task = option_map (task_in (own_sounds sound kept.standing) kept) turn }
 
   abbrev after_by : Option Stint → Remembered
   after_by turn =
@@ -82,21 +82,21 @@ module _ (kept : Remembered) (given : List (List Signal)) where
   abbrev gives_by : ℕ → Option Stint → List Signal
   gives_by place turn = option_map_or (handed (bench_by turn) given place) (bench_by turn).task []
 
-  pub kept-idle : kept.turn ≡ None → kept ≡ kept_after kept given
+  pub kept-idle : kept.turn ≡ None → kept ≡ kept_after sound kept given
   kept-idle idle = ap after_by (sym idle)
 
-  pub gives-idle : (place : ℕ) → kept.turn ≡ None → [] ≡ kept_gives kept given place
+  pub gives-idle : (place : ℕ) → kept.turn ≡ None → [] ≡ kept_gives sound kept given place
   gives-idle place idle = ap (gives_by place) (sym idle)
 
   module _ (turn : Stint) where
     abbrev the_task : Task
-    the_task = task_in (own_scores kept.standing) kept turn
+    the_task = task_in (own_sounds sound kept.standing) kept turn
 
     abbrev sound_of : List (List ℤ) → List (List ℤ)
-    sound_of sounds = (play (own_scores kept.standing) kept.standing.kind kept.standing.memory turn.ports.outputs turn.moment turn.ports.period sounds).outputs
+    sound_of sounds = (play (own_sounds sound kept.standing) kept.standing.kind kept.standing.memory turn.ports.outputs turn.moment turn.ports.period sounds).outputs
 
     abbrev memory_of : List (List ℤ) → Memory
-    memory_of sounds = (play (own_scores kept.standing) kept.standing.kind kept.standing.memory turn.ports.outputs turn.moment turn.ports.period sounds).memory
+    memory_of sounds = (play (own_sounds sound kept.standing) kept.standing.kind kept.standing.memory turn.ports.outputs turn.moment turn.ports.period sounds).memory
 
     mixed-is : inputs_of turn.ports.period kept.wires given turn.ports.inputs ≡ mixed the_task given
     mixed-is = sym (map-after (λ parts. mix turn.ports.period (map (audio_part given) parts)) (parts_into kept.wires) (below turn.ports.inputs))
@@ -105,12 +105,12 @@ module _ (kept : Remembered) (given : List (List Signal)) where
     memory-is sounds quiet is =
         ap memory_of is
         ∙ sym (midi-none kept.standing.kind (memory_of (mixed the_task given)) turn.moment turn.ports.period
-        (play-log (own_scores kept.standing) kept.standing.kind kept.standing.memory turn.ports.outputs turn.moment turn.ports.period (mixed the_task given) ∙ quiet))
+        (play-log (own_sounds sound kept.standing) kept.standing.kind kept.standing.memory turn.ports.outputs turn.moment turn.ports.period (mixed the_task given) ∙ quiet))
 
     pub kept-played : (standing : Standing) (sounds audio : List (List ℤ)) → kept.turn ≡ Some turn → kept.standing.memory.log ≡ []
         → sounds ≡ inputs_of turn.ports.period kept.wires given turn.ports.inputs
         → standing ≡ record kept.standing { memory = memory_of sounds } → audio ≡ sound_of sounds
-        → record kept { standing = standing; sounds = sounds; audio = audio } ≡ kept_after kept given
+        → record kept { standing = standing; sounds = sounds; audio = audio } ≡ kept_after sound kept given
     kept-played standing sounds audio busy quiet heard stands plays =
         ap (λ (s : Standing). record kept { standing = s; sounds = sounds; audio = audio }) stands
         ∙ ap (λ (m : Memory). record kept { standing = record kept.standing { memory = m }; sounds = sounds; audio = audio }) (memory-is sounds quiet heard_is)
@@ -136,7 +136,7 @@ module _ (kept : Remembered) (given : List (List Signal)) where
         go false h = sym (get_or_past (map (routes_on kept.routes) (below turn.links)) place [] (omega (arith, ltb-false place turn.links h, length-map_below (routes_on kept.routes) turn.links)))
 
     pub gives-carried : (sounds audio : List (List ℤ)) (place : ℕ) → kept.turn ≡ Some turn → sounds ≡ inputs_of turn.ports.period kept.wires given turn.ports.inputs → audio ≡ sound_of sounds
-        → (if nat_lt place turn.links then carried_by turn.ports.period audio place kept.routes else []) ≡ kept_gives kept given place
+        → (if nat_lt place turn.links then carried_by turn.ports.period audio place kept.routes else []) ≡ kept_gives sound kept given place
     gives-carried sounds audio place busy heard plays =
         outside (nat_lt place turn.links)
         ∙ ap (map (routed turn.ports.period played)) (routes_at place)

@@ -1,9 +1,9 @@
 -- What contracts see of a client's bench.
 --     Remembered      what it remembers from one play to the next
 --     Seen      a bench: what it remembers, and its rooms by place
---     own_scores standing      scores that have its guest's at its place
---     task_in scores kept turn, bench_in scores kept      its task, and it as a bench of the program's scores
---     kept_after kept given, kept_gives kept given place      what it remembers behind one play, and what it gives over its outgoing link of this place
+--     own_scores standing, own_sounds sound standing      scores that have its guest's at its place, and what is played by them
+--     task_in sounds kept turn, bench_in sounds kept      its task, and it as a bench of the program's sounds
+--     kept_after sound kept given, kept_gives sound kept given place      what it remembers behind one play, and what it gives over its outgoing link of this place
 --     HasScores scores kept      these are the scores that it plays by
 --     new_bench kind period, cleared bench, rested bench      a new bench, one whose work is taken, and one that gives nothing either
 --     moved_to moment period turn      a task at another moment
@@ -11,12 +11,12 @@
 use Rattle.std.specs.Prelude.{◌≡◌, ℕ, suc, ◌+◌, ◌<◌, ◌≤◌, ◌^◌, List, [], length, map, replicate, ℤ, Option, Some, None, option_map, slice_index_or, Bool, is_some, count_by, nat_lt, if◌then◌else◌}
 use Rattle.std.specs.Option.{option_map_or}
 use Rattle.jack_types.specs.declared.kinds.Kind.{Kind}
-use Rattle.jack_types.specs.declared.kinds.Score.{Score}
 use Rattle.jack_types.specs.declared.kinds.Kind.TheVariants.{Pass, Guest}
 use Rattle.jack_types.specs.declared.moments.Moment.{Moment}
 use Rattle.session_model.specs.Benches.{Task, Bench, Signal, bench_after, bench_gives}
-use Rattle.session_model.specs.Kinds.{first}
+use Rattle.session_model.specs.Kinds.{Sound, first}
 use Rattle.session_model.specs.Samples.{below}
+use Rattle.client_kinds.specs.Scores.{Score}
 use Rattle.client_kinds.specs.Standings.{Standing, HasGuest, HasScore}
 use Rattle.client_benches.specs.declared.benches.Stint.{Stint}
 use Rattle.client_benches.specs.declared.values.Route.{Route}
@@ -55,10 +55,13 @@ own_scores standing = scores_by standing.kind
     scores_by (Guest guest) = option_map_or (λ score. replicate (suc guest) score) standing.score []
     scores_by _ = []
 
+abbrev pub own_sounds : (Score → Sound) → Standing → List Sound
+own_sounds sound standing = map sound (own_scores standing)
+
 -- there is no MIDI
-abbrev pub task_in : List Score → Remembered → Stint → Task
-task_in scores kept turn = record {
-  scores = scores;
+abbrev pub task_in : List Sound → Remembered → Stint → Task
+task_in sounds kept turn = record {
+  scores = sounds;
   list = [];
   kind = kept.standing.kind;
   moment = turn.moment;
@@ -70,9 +73,9 @@ task_in scores kept turn = record {
   routes = map (routes_on kept.routes) (below turn.links);
 }
 
-abbrev pub bench_in : List Score → Remembered → Bench
-bench_in scores kept = record {
-  task = option_map (task_in scores kept) kept.turn;
+abbrev pub bench_in : List Sound → Remembered → Bench
+bench_in sounds kept = record {
+  task = option_map (task_in sounds kept) kept.turn;
   memory = kept.standing.memory;
   sounds = kept.sounds;
   notes = [];
@@ -80,17 +83,17 @@ bench_in scores kept = record {
   midi = [];
 }
 
-abbrev pub own_bench : Remembered → Bench
-own_bench kept = bench_in (own_scores kept.standing) kept
+abbrev pub own_bench : (Score → Sound) → Remembered → Bench
+own_bench sound kept = bench_in (own_sounds sound kept.standing) kept
 
 -- the memory of a bench behind one play, and what it got and gave; all else stays
-abbrev pub kept_after : Remembered → List (List Signal) → Remembered
-kept_after kept given =
-    let after = bench_after (own_bench kept) given in
+abbrev pub kept_after : (Score → Sound) → Remembered → List (List Signal) → Remembered
+kept_after sound kept given =
+    let after = bench_after (own_bench sound kept) given in
     record kept { standing = record kept.standing { memory = after.memory }; sounds = after.sounds; audio = after.audio }
 
-abbrev pub kept_gives : Remembered → List (List Signal) → ℕ → List Signal
-kept_gives kept given place = bench_gives (own_bench kept) given place
+abbrev pub kept_gives : (Score → Sound) → Remembered → List (List Signal) → ℕ → List Signal
+kept_gives sound kept given place = bench_gives (own_bench sound kept) given place
 
 -- of a bench that has a task, the scores of the program's guests have its guest's at its place
 abbrev pub HasScores : List Score → Remembered → Type 0

@@ -6,7 +6,7 @@ ghost use Rattle.client_kinds.specs.Buffers.{buffers_of};
 ghost use Rattle.client_kinds.specs.Standings.{HasGuest};
 ghost use Rattle.client_benches.specs.Insides.{IsReached};
 ghost use Rattle.client_benches.specs.Routes.{HasOutput, carried_by};
-ghost use Rattle.client_benches.specs.Seen.{AreFilled, own_scores};
+ghost use Rattle.client_benches.specs.Seen.{AreFilled, own_sounds};
 
 use crate::benches::{BenchMemory, ClientBench, Stint};
 use crate::mixing::mix_inputs;
@@ -76,8 +76,8 @@ fn play_front<G: Guest>(
     requires input { ports.inputs * ports.period ≤ length input.now }
     requires output { ports.outputs * ports.period ≤ length output.old }
     ensures length { length output.new ≡ length output.old }
-    ensures bench { bench.new ≡ record bench.old { memory = (play (own_scores bench.old) bench.old.kind bench.old.memory ports.outputs moment.now ports.period (buffers_of ports.inputs ports.period input.now)).memory } }
-    ensures output { buffers_of ports.outputs ports.period output.new ≡ (play (own_scores bench.old) bench.old.kind bench.old.memory ports.outputs moment.now ports.period (buffers_of ports.inputs ports.period input.now)).outputs }
+    ensures bench { bench.new ≡ record bench.old { memory = (play (own_sounds G.sound bench.old) bench.old.kind bench.old.memory ports.outputs moment.now ports.period (buffers_of ports.inputs ports.period input.now)).memory } }
+    ensures output { buffers_of ports.outputs ports.period output.new ≡ (play (own_sounds G.sound bench.old) bench.old.kind bench.old.memory ports.outputs moment.now ports.period (buffers_of ports.inputs ports.period input.now)).outputs }
 {
     let heard = usize::from(ports.inputs) * ports.period as usize;
     let sounded = usize::from(ports.outputs) * ports.period as usize;
@@ -93,8 +93,8 @@ impl<G: Guest> ClientBench<G> {
     fn play_turn(&mut self, turn: Stint, given: &[Option<Rooms>])
         requires turn { self.old.kept.turn ≡ Some turn }
         requires given { All (λ value. IsSome value) given.now }
-        ensures kept { self.new.kept ≡ kept_after self.old.kept (values_of given.now) }
-        ensures rooms { (place : ℕ) → room_at self.new place ≡ option_map (λ _. kept_gives self.old.kept (values_of given.now) place) (room_at self.old place) }
+        ensures kept { self.new.kept ≡ kept_after G.sound self.old.kept (values_of given.now) }
+        ensures rooms { (place : ℕ) → room_at self.new place ≡ option_map (λ _. kept_gives G.sound self.old.kept (values_of given.now) place) (room_at self.old place) }
     {
         let parts = &mut *self.parts;
         mix_inputs(
@@ -137,9 +137,9 @@ impl<G: Guest> Work for ClientBench<G> {
 
     ghost value_at = { value_in };
 
-    ghost after = { kept_after };
+    ghost after = { kept_after G.sound };
 
-    ghost gives = { kept_gives };
+    ghost gives = { kept_gives G.sound };
 
     fn play(&mut self, given: &[Option<Rooms>]) {
         match self.parts.turn {

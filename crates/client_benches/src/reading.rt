@@ -22,7 +22,7 @@ pub(crate) fn buffer(samples: &[i32], count: u16, period: u32, place: usize) -> 
 }
 
 impl<G: Guest> ClientBench<G> {
-    ghost use Rattle.std.specs.Prelude.{◌≡◌, [], is_none, is_some, slice_index_or};
+    ghost use Rattle.std.specs.Prelude.{◌≡◌, [], None, is_none, is_some, slice_index_or};
 
     /// Whether it has no task.
     pub fn is_idle(&self) -> bool
@@ -43,6 +43,20 @@ impl<G: Guest> ClientBench<G> {
         ensures { result ≡ is_some self.now.kept.standing.score }
     {
         self.parts.bench.has_guest()
+    }
+
+    /// How much more work its turn is than that of a client that copies samples, as its guest tells it. It is
+    /// 0 where it has no turn or no guest.
+    pub fn extra_work(&self) -> u32
+        ensures none { self.now.kept.standing.score ≡ None → result ≡ 0 }
+    {
+        match &self.parts.turn {
+            Some(turn) => {
+                let work = self.parts.bench.work(turn.ports);
+                work.saturating_sub(turn.ports.period)
+            }
+            None => 0,
+        }
     }
 
     /// A meter's peak, the greatest magnitude of its inputs so far.

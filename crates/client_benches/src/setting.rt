@@ -38,11 +38,11 @@ fn empty_places(rooms: &mut [Option<Rooms>], spare: &mut Vec<Rooms>)
 }
 
 impl<G: Guest> ClientBench<G> {
-    ghost use Rattle.std.specs.Prelude.{◌≡◌, ◌+◌, ◌*◌, ◌<◌, ◌≤◌, ◌++◌, ◌∷◌, [], false, true, ℕ, IfNone, IfSome, IsSome, List, Some, None, length, option_map, slice_get, slice_index_or, slice_set, vec_capacity};
+    ghost use Rattle.std.specs.Prelude.{◌≡◌, ◌+◌, ◌*◌, ◌<◌, ◌≤◌, ◌++◌, ◌∷◌, [], false, true, ℕ, IfNone, IfSome, IsSome, List, Some, None, length, map, option_map, slice_get, slice_index_or, slice_set, vec_capacity};
     ghost use Rattle.std.specs.Option.{ForSome};
-    ghost use Rattle.jack_types.specs.declared.kinds.Score.{Score};
     ghost use Rattle.session_model.specs.Kinds.{first};
     ghost use Rattle.client_kinds.specs.Buffers.{channels_of};
+    ghost use Rattle.client_kinds.specs.Scores.{Score};
     ghost use Rattle.client_kinds.specs.Standings.{HasScore, IsDisk, IsGuest};
     ghost use Rattle.client_benches.specs.Seen.{MayPlay, cleared, moved_to, rested, room_count};
     ghost use Rattle.client_benches.specs.Wires.{kept_count, with_samples};
@@ -55,7 +55,7 @@ impl<G: Guest> ClientBench<G> {
         ensures kind { self.new.kept.standing.kind ≡ self.old.kept.standing.kind }
         ensures period { self.new.kept.standing.period ≡ self.old.kept.standing.period }
         ensures score { self.new.kept.standing.score ≡ Some (G.score guest) }
-        ensures memory { (scores : List Score) → HasScore self.new.kept.standing scores → self.new.kept.standing.memory ≡ first scores self.new.kept.standing.kind }
+        ensures memory { (scores : List Score) → HasScore self.new.kept.standing scores → self.new.kept.standing.memory ≡ first (map G.sound scores) self.new.kept.standing.kind }
         ensures others { self.new ≡ record self.old { kept = record self.old.kept { standing = self.new.kept.standing } } }
     {
         self.parts.bench.lend(guest);

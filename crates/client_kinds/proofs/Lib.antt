@@ -1,4 +1,5 @@
 pub mod FillLemmas
+pub mod FitLemmas
 pub mod GainLemmas
 pub mod BufferLemmas
 pub mod LineLemmas

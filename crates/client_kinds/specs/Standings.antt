@@ -5,8 +5,8 @@
 use Rattle.std.specs.Prelude.{◌≡◌, ℕ, ◌≤◌, ⊤, List, slice_get, ℤ, negsuc, ◌≤ℤ◌, IsSome, Option}
 use Rattle.jack_types.specs.declared.kinds.Kind.{Kind}
 use Rattle.jack_types.specs.declared.kinds.Kind.TheVariants.{Gain, Delay, Tone, Guest, Disk}
-use Rattle.jack_types.specs.declared.kinds.Score.{Score}
 use Rattle.session_model.specs.Kinds.{Memory}
+use Rattle.client_kinds.specs.Scores.{Score}
 
 pub record Standing : Type 0 where
   pub kind : Kind

@@ -1,12 +1,12 @@
 //! A bench: a client's memory, and its play.
 
-ghost use Rattle.std.specs.Prelude.{◌≡◌, ◌+◌, ◌*◌, ◌<◌, ◌≤◌, ◌^◌, IfOk, IsTrue, List, length};
-ghost use Rattle.jack_types.specs.declared.kinds.Score.{Score};
+ghost use Rattle.std.specs.Prelude.{◌≡◌, ◌+◌, ◌*◌, ◌<◌, ◌≤◌, ◌^◌, IfOk, IsTrue, List, length, map};
 ghost use Rattle.port_mixer.specs.Sums.{sums_of};
 ghost use Rattle.session_model.specs.Kinds.{outputs_by, play};
 ghost use Rattle.client_kinds.specs.Benches.{standing};
 ghost use Rattle.client_kinds.specs.Buffers.{buffers_of};
 ghost use Rattle.client_kinds.specs.Rooms.{HasMixed, IsMixed, IsRoomy, HasSums};
+ghost use Rattle.client_kinds.specs.Scores.{Score};
 ghost use Rattle.client_kinds.specs.Seats.{IsTold};
 ghost use Rattle.client_kinds.specs.Sounds.{asks_guest, sound, stepped};
 ghost use Rattle.client_kinds.specs.Standings.{HasGuest, HasScore};
@@ -140,8 +140,8 @@ fn play_parts<G: Guest>(
     ensures kind { voice.new.kind ≡ voice.old.kind }
     ensures period { voice.new.period ≡ voice.old.period }
     ensures score { (standing voice.new seat.new.seated).score ≡ (standing voice.old seat.old.seated).score }
-    ensures memory { (scores : List Score) → HasScore (standing voice.old seat.old.seated) scores → (standing voice.new seat.new.seated).memory ≡ (play scores voice.old.kind (standing voice.old seat.old.seated).memory ports.outputs moment.now ports.period (buffers_of ports.inputs ports.period input.now)).memory }
-    ensures output { (scores : List Score) → HasScore (standing voice.old seat.old.seated) scores → buffers_of ports.outputs ports.period output.new ≡ (play scores voice.old.kind (standing voice.old seat.old.seated).memory ports.outputs moment.now ports.period (buffers_of ports.inputs ports.period input.now)).outputs }
+    ensures memory { (scores : List Score) → HasScore (standing voice.old seat.old.seated) scores → (standing voice.new seat.new.seated).memory ≡ (play (map G.sound scores) voice.old.kind (standing voice.old seat.old.seated).memory ports.outputs moment.now ports.period (buffers_of ports.inputs ports.period input.now)).memory }
+    ensures output { (scores : List Score) → HasScore (standing voice.old seat.old.seated) scores → buffers_of ports.outputs ports.period output.new ≡ (play (map G.sound scores) voice.old.kind (standing voice.old seat.old.seated).memory ports.outputs moment.now ports.period (buffers_of ports.inputs ports.period input.now)).outputs }
     ensures told { IsTrue (asks_guest voice.old.kind) → IsTold seat.old.seated.is_dead moment.now seat.old.told seat.new.told }
 {
     match voice.kind() {
@@ -161,11 +161,11 @@ fn room_for(alloc: Global, kind: Kind, period: u32) -> Result<Mixer, Memory>
 }
 
 impl<G: Guest> Bench<G> {
-    ghost use Rattle.std.specs.Prelude.{◌≡◌, ◌+◌, ◌*◌, ◌<◌, ◌≤◌, ◌^◌, [], false, IfNone, IfOk, IfSome, List, is_some, length};
-    ghost use Rattle.jack_types.specs.declared.kinds.Score.{Score};
+    ghost use Rattle.std.specs.Prelude.{◌≡◌, ◌+◌, ◌*◌, ◌<◌, ◌≤◌, ◌^◌, [], false, IfNone, IfOk, IfSome, List, None, is_some, length, map};
     ghost use Rattle.session_model.specs.Kinds.{first, play};
     ghost use Rattle.client_kinds.specs.Buffers.{buffers_of, channels_of};
     ghost use Rattle.client_kinds.specs.Healths.{health_of};
+    ghost use Rattle.client_kinds.specs.Scores.{Score};
     ghost use Rattle.client_kinds.specs.Standings.{HasGuest, HasScore, IsDisk, IsGuest, IsPlayable};
 
     /// The bench of a kind in its first memory, for cycles of at most so many frames.
@@ -192,7 +192,7 @@ impl<G: Guest> Bench<G> {
         ensures kind { self.new.kind ≡ self.old.kind }
         ensures period { self.new.period ≡ self.old.period }
         ensures score { self.new.score ≡ Some (G.score guest) }
-        ensures memory { (scores : List Score) → HasScore self.new scores → self.new.memory ≡ first scores self.new.kind }
+        ensures memory { (scores : List Score) → HasScore self.new scores → self.new.memory ≡ first (map G.sound scores) self.new.kind }
     {
         self.seat.lend(guest);
     }
@@ -241,8 +241,8 @@ impl<G: Guest> Bench<G> {
         ensures kind { self.new.kind ≡ self.old.kind }
         ensures period { self.new.period ≡ self.old.period }
         ensures score { self.new.score ≡ self.old.score }
-        ensures memory { (scores : List Score) → HasScore self.old scores → self.new.memory ≡ (play scores self.old.kind self.old.memory ports.outputs moment.now ports.period (buffers_of ports.inputs ports.period input.now)).memory }
-        ensures output { (scores : List Score) → HasScore self.old scores → buffers_of ports.outputs ports.period output.new ≡ (play scores self.old.kind self.old.memory ports.outputs moment.now ports.period (buffers_of ports.inputs ports.period input.now)).outputs }
+        ensures memory { (scores : List Score) → HasScore self.old scores → self.new.memory ≡ (play (map G.sound scores) self.old.kind self.old.memory ports.outputs moment.now ports.period (buffers_of ports.inputs ports.period input.now)).memory }
+        ensures output { (scores : List Score) → HasScore self.old scores → buffers_of ports.outputs ports.period output.new ≡ (play (map G.sound scores) self.old.kind self.old.memory ports.outputs moment.now ports.period (buffers_of ports.inputs ports.period input.now)).outputs }
         ensures health { result ≡ health_of self.new.memory.is_dead }
     {
         play_parts(
@@ -266,6 +266,14 @@ impl<G: Guest> Bench<G> {
         } else {
             Health::Alive
         }
+    }
+
+    /// How much work a cycle with such ports is, as its guest tells it. A bench with no guest has as much as
+    /// the period has frames.
+    pub fn work(&self, ports: Shape) -> u32
+        ensures none { self.now.score ≡ None → result ≡ ports.period }
+    {
+        self.seat.work(ports)
     }
 
     /// A meter's peak, the greatest magnitude of its inputs so far.

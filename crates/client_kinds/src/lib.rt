@@ -2,7 +2,6 @@
 #![tactic(auto)]
 
 mod benches;
-mod boxes;
 mod buffers;
 mod guests;
 mod lines;

@@ -1,10 +1,9 @@
 //! Where a bench keeps its guest.
 
-ghost use Rattle.std.specs.Prelude.{◌≡◌, ◌*◌, ◌==◌, IfNone, IfSome, IsSome, false, is_some, length, option_map, replicate};
+ghost use Rattle.std.specs.Prelude.{◌≡◌, ◌*◌, ◌+◌, ◌<◌, ◌≤◌, ◌^◌, ◌==◌, IfNone, IfSome, IsSome, None, false, is_some, length, option_map};
 ghost use Rattle.std.specs.Option.{ForSome};
-ghost use Rattle.session_model.specs.Kinds.{first_numbers, guest_turn, input_at};
 ghost use Rattle.client_kinds.specs.Buffers.{buffers_of};
-ghost use Rattle.client_kinds.specs.Seats.{IsTold, Playing, seat_output, seated_after, turn_of};
+ghost use Rattle.client_kinds.specs.Seats.{IsTold, Playing, seat_outputs, seated_after, turn_of};
 
 use crate::buffers::fill_silent;
 use crate::guests::{Guest, Shape};
@@ -45,7 +44,7 @@ impl<G: Guest> GuestSeat<G> {
     /// Seats a guest in its first memory.
     pub(crate) fn lend(&mut self, guest: G)
         requires { self.old.seated.playing ≡ None }
-        ensures { self.new ≡ record { seated = record { playing = Some (record { score = G.score guest; numbers = first_numbers (Some (G.score guest)) }); is_dead = false }; told = None } }
+        ensures { self.new ≡ record { seated = record { playing = Some (record { score = G.score guest; numbers = (G.sound (G.score guest)).first }); is_dead = false }; told = None } }
     {
         let mut guest = guest;
         guest.reset();
@@ -77,15 +76,29 @@ impl<G: Guest> GuestSeat<G> {
         self.is_dead
     }
 
+    /// How much work its guest has in a cycle, which is as much as the period has frames where there is none.
+    pub(crate) fn work(&self, ports: Shape) -> u32
+        ensures none { self.now.seated.playing ≡ None → result ≡ ports.period }
+    {
+        match self.guest.as_ref() {
+            Some(guest) => guest.work(ports),
+            None => ports.period,
+        }
+    }
+
     /// Asks the guest, unless it is dead.
     pub(crate) fn play(&mut self, moment: &Moment, ports: Shape, input: &[i32], output: &mut [i32])
         requires guest { IsSome self.old.seated.playing }
+        requires rate { 8000 ≤ moment.now.rate }
+        requires frames { moment.now.frame + ports.period < 2 ^ 32 }
+        requires few_inputs { ports.inputs ≤ 16 }
+        requires few_outputs { ports.outputs ≤ 16 }
         requires input { length input.now ≡ ports.inputs * ports.period }
         requires output { length output.old ≡ ports.outputs * ports.period }
         ensures score { option_map (λ (playing : Playing). playing.score) self.new.seated.playing ≡ option_map (λ (playing : Playing). playing.score) self.old.seated.playing }
         ensures told { IsTold self.old.seated.is_dead moment.now self.old.told self.new.told }
-        ensures after { (playing : Playing) → self.old.seated.playing ≡ Some playing → self.new.seated ≡ seated_after self.old.seated playing (input_at ports.period (buffers_of ports.inputs ports.period input.now) 0) }
-        ensures output { (playing : Playing) → self.old.seated.playing ≡ Some playing → buffers_of ports.outputs ports.period output.new ≡ replicate ports.outputs (seat_output self.old.seated.is_dead ports.period (turn_of playing (input_at ports.period (buffers_of ports.inputs ports.period input.now) 0))) }
+        ensures after { (playing : Playing) → self.old.seated.playing ≡ Some playing → self.new.seated ≡ seated_after self.old.seated playing (turn_of G.sound playing moment.now ports.outputs ports.period (buffers_of ports.inputs ports.period input.now)) }
+        ensures output { (playing : Playing) → self.old.seated.playing ≡ Some playing → buffers_of ports.outputs ports.period output.new ≡ seat_outputs self.old.seated.is_dead ports.period ports.outputs (turn_of G.sound playing moment.now ports.outputs ports.period (buffers_of ports.inputs ports.period input.now)) }
     {
         if self.is_dead {
             fill_silent(ports, output);
@@ -106,13 +119,17 @@ fn ask<G: Guest>(
     input: &[i32],
     output: &mut [i32],
 ) -> bool
+    requires rate { 8000 ≤ moment.now.rate }
+    requires frames { moment.now.frame + ports.period < 2 ^ 32 }
+    requires few_inputs { ports.inputs ≤ 16 }
+    requires few_outputs { ports.outputs ≤ 16 }
     requires input { length input.now ≡ ports.inputs * ports.period }
     requires output { length output.old ≡ ports.outputs * ports.period }
     ensures score { G.score guest.new ≡ G.score guest.old }
     ensures told { ForSome (G.told guest.new) (λ told. told ≡ moment.now) }
-    ensures numbers { G.numbers guest.new ≡ (guest_turn (Some (G.score guest.old)) (G.numbers guest.old) (input_at ports.period (buffers_of ports.inputs ports.period input.now) 0)).numbers }
-    ensures output { buffers_of ports.outputs ports.period output.new ≡ replicate ports.outputs (seat_output false ports.period (guest_turn (Some (G.score guest.old)) (G.numbers guest.old) (input_at ports.period (buffers_of ports.inputs ports.period input.now) 0))) }
-    ensures answer { result ≡ ((guest_turn (Some (G.score guest.old)) (G.numbers guest.old) (input_at ports.period (buffers_of ports.inputs ports.period input.now) 0)).answer == 0) }
+    ensures numbers { G.numbers guest.new ≡ ((G.sound (G.score guest.old)).turn moment.now ports.outputs ports.period (G.numbers guest.old) (buffers_of ports.inputs ports.period input.now)).numbers }
+    ensures output { buffers_of ports.outputs ports.period output.new ≡ seat_outputs false ports.period ports.outputs ((G.sound (G.score guest.old)).turn moment.now ports.outputs ports.period (G.numbers guest.old) (buffers_of ports.inputs ports.period input.now)) }
+    ensures answer { result ≡ (((G.sound (G.score guest.old)).turn moment.now ports.outputs ports.period (G.numbers guest.old) (buffers_of ports.inputs ports.period input.now)).answer == 0) }
 {
     let answer = guest.process(moment, ports, input, output);
     if answer == 0 {

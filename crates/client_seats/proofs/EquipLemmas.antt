@@ -1,13 +1,13 @@
 -- A bench of nobody that gets its guest.
 --     equipped-lent      a guest's bench
 --     equipped-plain      a bench that asks no guest
-use Rattle.std.proofs.Common.{◌≡◌, ◌≢◌, ℕ, ◌<◌, ◌⊎◌, inl, inr, [], List, length, get_or, set, Option, Some, None, IsSome, true≢false, refl, sym, ◌∙◌, ap, subst, get_or-set_same, get_or-set_other}
+use Rattle.std.proofs.Common.{◌≡◌, ◌≢◌, ℕ, ◌<◌, ◌⊎◌, inl, inr, [], List, length, get_or, set, Option, Some, None, IsSome, true≢false, refl, sym, ◌∙◌, ap, subst, get_or-set_same, get_or-set_other, map}
 use Rattle.std.proofs.lemmas.Bool.{cases_eq}
 use Rattle.std.proofs.lemmas.List.{length-set, set-get_or}
 use Rattle.jack_types.specs.declared.kinds.Kind.{Kind}
 use Rattle.jack_types.specs.declared.kinds.Kind.TheVariants.{Pass, Gain, Mix, Delay, Tone, Click, Meter, Tape, Guest, Midiplay, Midithru, Midilog, Disk}
-use Rattle.jack_types.specs.declared.kinds.Score.{Score}
-use Rattle.session_model.specs.Kinds.{Memory, first, no_memory}
+use Rattle.session_model.specs.Kinds.{Memory, Sound, first, no_memory}
+use Rattle.client_kinds.specs.Scores.{Score}
 use Rattle.client_kinds.specs.Standings.{HasGuest, HasScore, Standing}
 use Rattle.client_benches.specs.Seen.{Seen, new_bench}
 use Rattle.bench_rack.specs.Racks.{Racked}
@@ -19,20 +19,20 @@ some-is : (o : Option Score) → IsSome o → (score : Score) × (o ≡ Some sco
 some-is None h = absurd (true≢false (sym h))
 some-is (Some score) h = (score, refl)
 
-first-bare : (scores : List Score) (kind : Kind) (guest : ℕ) (memory : Memory) → kind ≡ Guest guest → memory ≡ first scores kind → IsBare kind memory
+first-bare : (scores : List Sound) (kind : Kind) (guest : ℕ) (memory : Memory) → kind ≡ Guest guest → memory ≡ first scores kind → IsBare kind memory
 first-bare scores kind guest memory same is =
     subst (λ (k : Kind). memory ≡ first scores k → IsBare k memory) (sym same)
     (λ h. subst (λ (m : Memory). m ≡ record no_memory { numbers = m.numbers; is_dead = m.is_dead }) (sym h) refl) is
 
-pub equipped-lent : (rack : Racked) (owned : Owned) (after : Racked) (owned_after : Owned) (place guest : ℕ) → IsSeating rack owned
+pub equipped-lent : (sound : Score → Sound) → (rack : Racked) (owned : Owned) (after : Racked) (owned_after : Owned) (place guest : ℕ) → IsSeating rack owned
     → kind_at rack place ≡ Guest guest → guest < length owned.pool → IsSome (pooled owned guest)
     → after ≡ with_standing rack place (standing_at after place) → kind_at after place ≡ kind_at rack place
     → (standing_at after place).period ≡ (standing_at rack place).period → (standing_at after place).score ≡ pooled owned guest
-    → ((scores : List Score) → HasScore (standing_at after place) scores → (standing_at after place).memory ≡ first scores (kind_at after place))
+    → ((scores : List Score) → HasScore (standing_at after place) scores → (standing_at after place).memory ≡ first (map sound scores) (kind_at after place))
     → owned_after ≡ record owned { pool = set owned.pool guest None }
-    → IsEquipped rack owned after owned_after place
-equipped-lent rack owned after owned_after place guest s kind number there rack_is same period score memory owned_is =
-    subst (λ (x : Owned). IsEquipped rack owned after x place) (sym owned_is) (record {
+    → (IsEquipped sound) rack owned after owned_after place
+equipped-lent sound rack owned after owned_after place guest s kind number there rack_is same period score memory owned_is =
+    subst (λ (x : Owned). (IsEquipped sound) rack owned after x place) (sym owned_is) (record {
       rack_is = rack_is;
       owned_is = refl;
       kind = same;
@@ -40,7 +40,7 @@ equipped-lent rack owned after owned_after place guest s kind number there rack_
       guest = subst (λ (k : Kind). HasGuest k (standing_at after place).score) (sym asked) (subst IsSome (sym score) there);
       scored = λ _. has;
       memory = memory owned.scores has;
-      bare = first-bare owned.scores (kind_at after place) guest (standing_at after place).memory asked (memory owned.scores has);
+      bare = first-bare (map sound owned.scores) (kind_at after place) guest (standing_at after place).memory asked (memory owned.scores has);
       as_many = length-set owned.pool guest None;
       pool = λ g x h. pool_of g x h (cases_eq g guest);
       still = λ g h. still_of g h (cases_eq g guest);
@@ -77,7 +77,7 @@ plain-guest Midithru score n = tt
 plain-guest Midilog score n = tt
 plain-guest (Disk disk) score n = tt
 
-plain-first : (kind : Kind) (scores : List Score) → ((guest : ℕ) → kind ≡ Guest guest → ⊥) → first [] kind ≡ first scores kind
+plain-first : (kind : Kind) (scores : List Sound) → ((guest : ℕ) → kind ≡ Guest guest → ⊥) → first [] kind ≡ first scores kind
 plain-first (Guest guest) scores n = absurd (n guest refl)
 plain-first Pass scores n = refl
 plain-first (Gain factor shift) scores n = refl
@@ -92,16 +92,16 @@ plain-first Midithru scores n = refl
 plain-first Midilog scores n = refl
 plain-first (Disk disk) scores n = refl
 
-pub equipped-plain : (rack : Racked) (owned : Owned) (place : ℕ) → IsSeating rack owned → owner_at owned place ≡ None
-    → ((guest : ℕ) → kind_at rack place ≡ Guest guest → ⊥) → IsEquipped rack owned rack owned place
-equipped-plain rack owned place s nobody plain = record {
+pub equipped-plain : (sound : Score → Sound) → (rack : Racked) (owned : Owned) (place : ℕ) → IsSeating rack owned → owner_at owned place ≡ None
+    → ((guest : ℕ) → kind_at rack place ≡ Guest guest → ⊥) → (IsEquipped sound) rack owned rack owned place
+equipped-plain sound rack owned place s nobody plain = record {
   rack_is = ap (λ (benches : List Seen). record rack { benches = benches }) (sym (set-get_or rack.benches place (new_bench Pass 0)));
   owned_is = refl;
   kind = refl;
   period = refl;
   guest = plain-guest (kind_at rack place) (standing_at rack place).score plain;
   scored = s.scored place;
-  memory = ap (λ (z : Standing). z.memory) (s.free place nobody) ∙ plain-first (kind_at rack place) owned.scores plain;
+  memory = ap (λ (z : Standing). z.memory) (s.free place nobody) ∙ plain-first (kind_at rack place) (map sound owned.scores) plain;
   bare = s.bare place;
   as_many = refl;
   pool = λ guest score h. h;

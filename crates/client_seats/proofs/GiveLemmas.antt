@@ -2,15 +2,16 @@
 --     IsSeating-given, Moves-given      what this keeps, and what it changes
 --     HasBench-given, HasBench-new      the other clients' benches, and the new one
 --     equipped-given      all of it, of a bench that got its guest
-use Rattle.std.proofs.Common.{◌≡◌, ◌≢◌, ℕ, ◌<◌, ◌⊎◌, inl, inr, List, length, get_or, set, slice_get, Option, Some, None, IsSome, refl, sym, ◌∙◌, ap, subst, get_or-set_same, get_or-set_other}
+use Rattle.std.proofs.Common.{◌≡◌, ◌≢◌, ℕ, ◌<◌, ◌⊎◌, inl, inr, List, length, get_or, set, slice_get, Option, Some, None, IsSome, refl, sym, ◌∙◌, ap, subst, get_or-set_same, get_or-set_other, map}
 use Rattle.std.specs.List.{Contains}
 use Rattle.std.proofs.lemmas.Bool.{cases_eq}
 use Rattle.std.proofs.lemmas.List.{length-set}
 use Rattle.jack_types.specs.declared.kinds.Kind.TheVariants.{Guest}
-use Rattle.jack_types.specs.declared.kinds.Score.{Score}
 use Rattle.session_model.specs.Benches.{node_at}
 use Rattle.session_model.specs.Kinds.{first}
 use Rattle.session_model.specs.State.{OpenClient}
+use Rattle.session_model.specs.Kinds.{Sound}
+use Rattle.client_kinds.specs.Scores.{Score}
 use Rattle.client_kinds.specs.Standings.{HasGuest, Standing}
 use Rattle.client_benches.specs.Seen.{Seen, new_standing}
 use Rattle.bench_rack.specs.Racks.{Racked, bench_at}
@@ -20,7 +21,7 @@ use Rattle.client_seats.specs.Seatings.{HasBench, HasNoPast, IsBare, IsLent, IsN
 use Rattle.client_seats.specs.Moves.{Gives, HadBench, HasBenchYet, HasNewBench, IsEquipped, Moves, with_standing}
 use Rattle.client_seats.proofs.StandingLemmas.{bench-other, idle-kept, kinds-same, periods-kept, standing-same}
 
-module _ (rack : Racked) (owned : Owned) (p birth : ℕ) (standing : Standing) (left : List (Option Score))
+module _ (sound : Score → Sound) (rack : Racked) (owned : Owned) (p birth : ℕ) (standing : Standing) (left : List (Option Score))
     (s : IsSeating rack owned) (within : p < length rack.benches) (nobody : owner_at owned p ≡ None) (none : IsNobodys owned birth)
     (kind : standing.kind ≡ kind_at rack p) where
   abbrev after : Racked
@@ -114,7 +115,7 @@ module _ (rack : Racked) (owned : Owned) (p birth : ℕ) (standing : Standing) (
       past_of kept q c h (inr n) = s.past kept q c (sym (owner-other q n) ∙ h)
 
   pub Moves-given : (nodes : List OpenClient) (n : ℕ) → n < length nodes → (node_at nodes n).birth ≡ birth → kind_at rack p ≡ (node_at nodes n).kind
-      → standing.period ≡ (standing_at rack p).period → standing.memory ≡ first owned.scores (node_at nodes n).kind → Moves nodes rack owned after given
+      → standing.period ≡ (standing_at rack p).period → standing.memory ≡ first (map sound owned.scores) (node_at nodes n).kind → (Moves sound) nodes rack owned after given
   Moves-given nodes n node client same period memory = record {
     from = λ q b h. from_of q b h (cases_eq q p);
     onward = λ q b h. onward_of q b h (cases_eq q p);
@@ -127,7 +128,7 @@ module _ (rack : Racked) (owned : Owned) (p birth : ℕ) (standing : Standing) (
     links = refl;
   }
     where
-      from_of : (q b : ℕ) → owner_at given q ≡ Some b → (q ≡ p) ⊎ (q ≢ p) → HadBench rack owned after b q ⊎ HasNewBench nodes owned after b q
+      from_of : (q b : ℕ) → owner_at given q ≡ Some b → (q ≡ p) ⊎ (q ≢ p) → HadBench rack owned after b q ⊎ (HasNewBench sound) nodes owned after b q
       from_of q b h (inl e) =
           let f : Some birth ≡ Some b = sym owner-here ∙ subst (λ x. owner_at given x ≡ Some b) e h in
           let g : birth ≡ b = cc in
@@ -164,21 +165,21 @@ module _ (rack : Racked) (owned : Owned) (p birth : ℕ) (standing : Standing) (
     guest = subst (λ (z : Standing). HasGuest z.kind z.score) (sym (standing-same rack p standing within)) has;
   }
 
-pub equipped-given : (nodes : List OpenClient) (n : ℕ) (rack : Racked) (owned : Owned) (middle : Racked) (owned_middle owned_after : Owned) (p : ℕ)
+pub equipped-given : (sound : Score → Sound) → (nodes : List OpenClient) (n : ℕ) (rack : Racked) (owned : Owned) (middle : Racked) (owned_middle owned_after : Owned) (p : ℕ)
     → IsSeating rack owned → n < length nodes → p < length rack.benches → owner_at owned p ≡ None → kind_at rack p ≡ (node_at nodes n).kind
-    → IsNobodys owned (node_at nodes n).birth → HasNoPast nodes owned → IsEquipped rack owned middle owned_middle p
+    → IsNobodys owned (node_at nodes n).birth → HasNoPast nodes owned → (IsEquipped sound) rack owned middle owned_middle p
     → owned_after ≡ record owned_middle { births = set owned_middle.births p (Some (node_at nodes n).birth) }
-    → Gives nodes rack owned middle owned_after n p
-equipped-given nodes n rack owned middle owned_middle owned_after p s node within nobody same none past e after_is =
-    subst (λ (o : Owned). Gives nodes rack owned middle o n p) (sym (after_is ∙ ap (λ (o : Owned). record o { births = set o.births p (Some (node_at nodes n).birth) }) e.owned_is))
-    (subst (λ (r : Racked). Gives nodes rack owned r (record owned { births = set owned.births p (Some (node_at nodes n).birth); pool = owned_middle.pool }) n p) (sym e.rack_is) built)
+    → (Gives sound) nodes rack owned middle owned_after n p
+equipped-given sound nodes n rack owned middle owned_middle owned_after p s node within nobody same none past e after_is =
+    subst (λ (o : Owned). (Gives sound) nodes rack owned middle o n p) (sym (after_is ∙ ap (λ (o : Owned). record o { births = set o.births p (Some (node_at nodes n).birth) }) e.owned_is))
+    (subst (λ (r : Racked). (Gives sound) nodes rack owned r (record owned { births = set owned.births p (Some (node_at nodes n).birth); pool = owned_middle.pool }) n p) (sym e.rack_is) built)
   where
-    built : Gives nodes rack owned (with_standing rack p (standing_at middle p)) (record owned { births = set owned.births p (Some (node_at nodes n).birth); pool = owned_middle.pool }) n p
+    built : (Gives sound) nodes rack owned (with_standing rack p (standing_at middle p)) (record owned { births = set owned.births p (Some (node_at nodes n).birth); pool = owned_middle.pool }) n p
     built = record {
-      seating = IsSeating-given rack owned p (node_at nodes n).birth (standing_at middle p) owned_middle.pool s within nobody none e.kind e.guest e.scored e.bare e.as_many
+      seating = (IsSeating-given sound) rack owned p (node_at nodes n).birth (standing_at middle p) owned_middle.pool s within nobody none e.kind e.guest e.scored e.bare e.as_many
           (λ guest score h. s.pool guest score (e.pool guest score h)) e.still (λ kept c h. past n kept node c h);
-      moves = Moves-given rack owned p (node_at nodes n).birth (standing_at middle p) owned_middle.pool s within nobody none e.kind nodes n node refl same e.period
-          (e.memory ∙ ap (first owned.scores) (e.kind ∙ same));
-      has = HasBench-new rack owned p (node_at nodes n).birth (standing_at middle p) owned_middle.pool s within nobody none e.kind nodes n refl same e.guest;
-      seated = λ m q h. HasBench-given rack owned p (node_at nodes n).birth (standing_at middle p) owned_middle.pool s within nobody none e.kind nodes m q h;
+      moves = (Moves-given sound) rack owned p (node_at nodes n).birth (standing_at middle p) owned_middle.pool s within nobody none e.kind nodes n node refl same e.period
+          (e.memory ∙ ap (first (map sound owned.scores)) (e.kind ∙ same));
+      has = (HasBench-new sound) rack owned p (node_at nodes n).birth (standing_at middle p) owned_middle.pool s within nobody none e.kind nodes n refl same e.guest;
+      seated = λ m q h. (HasBench-given sound) rack owned p (node_at nodes n).birth (standing_at middle p) owned_middle.pool s within nobody none e.kind nodes m q h;
     }

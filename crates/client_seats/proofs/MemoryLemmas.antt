@@ -4,7 +4,7 @@
 --     owned_or_not, found_past      who owns a bench, and what is found of who owns none
 --     memory-cases      who has a memory is one of these
 --     memory-kept, memory-fresh      what changes leave, and what they add
-use Rattle.std.proofs.Common.{◌≡◌, ◌≢◌, ℕ, zero, suc, ◌<◌, Bool, true, false, cond, eqb, ◌==◌, ◌⊎◌, inl, inr, List, [], ◌∷◌, ◌++◌, length, get_or, find, Option, Some, None, option_map, refl, sym, ◌∙◌, ap, subst, arith}
+use Rattle.std.proofs.Common.{◌≡◌, ◌≢◌, ℕ, zero, suc, ◌<◌, Bool, true, false, cond, eqb, ◌==◌, ◌⊎◌, inl, inr, List, [], ◌∷◌, ◌++◌, length, get_or, find, Option, Some, None, option_map, refl, sym, ◌∙◌, ap, subst, arith, map}
 use Rattle.std.specs.List.{Contains}
 use Rattle.std.specs.Option.{option_map_or}
 use Rattle.std.proofs.lemmas.Bool.Decides.{eqb_tells}
@@ -12,6 +12,8 @@ use Rattle.jack_types.specs.declared.kinds.Kind.TheVariants.{Pass}
 use Rattle.session_model.specs.Benches.{node_at}
 use Rattle.session_model.specs.Kinds.{first, Memory}
 use Rattle.session_model.specs.State.{OpenClient}
+use Rattle.session_model.specs.Kinds.{Sound}
+use Rattle.client_kinds.specs.Scores.{Score}
 use Rattle.session_laws.proofs.LoopLemmas.{Contains-cases, Contains-first, Contains-later}
 use Rattle.client_benches.specs.Seen.{Remembered as Kept, Seen, new_bench}
 use Rattle.bench_rack.specs.Racks.{Racked}
@@ -158,9 +160,9 @@ memory-cases rack owned s birth memory h = go (owned_or_not owned.births birth)
         inl (record { place = o.0; owner = o.1; is = cc })
     go (inr n) = inr (had (find (born birth) owned.past) refl (sym (ap (option_map (λ (k : Remembered). k.memory)) (found_past owned.births rack.benches owned.past birth n)) ∙ h))
 
-pub memory-kept : (nodes : List OpenClient) (rack : Racked) (owned : Owned) (after : Racked) (owned_after : Owned) → IsSeating rack owned → IsSeating after owned_after
-    → Moves nodes rack owned after owned_after → (birth : ℕ) (memory : Memory) → memory_of rack owned birth ≡ Some memory → memory_of after owned_after birth ≡ Some memory
-memory-kept nodes rack owned after owned_after s t m birth memory h = go (memory-cases rack owned s birth memory h)
+pub memory-kept : (sound : Score → Sound) → (nodes : List OpenClient) (rack : Racked) (owned : Owned) (after : Racked) (owned_after : Owned) → IsSeating rack owned → IsSeating after owned_after
+    → (Moves sound) nodes rack owned after owned_after → (birth : ℕ) (memory : Memory) → memory_of rack owned birth ≡ Some memory → memory_of after owned_after birth ≡ Some memory
+memory-kept sound nodes rack owned after owned_after s t m birth memory h = go (memory-cases rack owned s birth memory h)
   where
     still : (o : OwnsMemory rack owned birth memory)
         → HasBenchYet rack after owned_after birth o.place ⊎ Contains owned_after.past (record { birth = birth; memory = (standing_at rack o.place).memory })
@@ -173,13 +175,13 @@ memory-kept nodes rack owned after owned_after s t m birth memory h = go (memory
     go (inr k) = subst (λ b. memory_of after owned_after b ≡ Some memory) k.client
         (memory-past after owned_after t k.kept (m.past_stays k.kept k.among) ∙ ap (λ (x : Memory). Some x) k.is)
 
-pub memory-fresh : (nodes : List OpenClient) (rack : Racked) (owned : Owned) (after : Racked) (owned_after : Owned) → IsSeating rack owned → IsSeating after owned_after
-    → Moves nodes rack owned after owned_after → (birth : ℕ) (memory : Memory) → memory_of rack owned birth ≡ None → memory_of after owned_after birth ≡ Some memory
-    → (n : ℕ) × (n < length nodes) × ((node_at nodes n).birth ≡ birth) × (memory ≡ first owned.scores (node_at nodes n).kind)
-memory-fresh nodes rack owned after owned_after s t m birth memory none some = go (memory-cases after owned_after t birth memory some)
+pub memory-fresh : (sound : Score → Sound) → (nodes : List OpenClient) (rack : Racked) (owned : Owned) (after : Racked) (owned_after : Owned) → IsSeating rack owned → IsSeating after owned_after
+    → (Moves sound) nodes rack owned after owned_after → (birth : ℕ) (memory : Memory) → memory_of rack owned birth ≡ None → memory_of after owned_after birth ≡ Some memory
+    → (n : ℕ) × (n < length nodes) × ((node_at nodes n).birth ≡ birth) × (memory ≡ first (map sound owned.scores) (node_at nodes n).kind)
+memory-fresh sound nodes rack owned after owned_after s t m birth memory none some = go (memory-cases after owned_after t birth memory some)
   where
-    new : (o : OwnsMemory after owned_after birth memory) → HadBench rack owned after birth o.place ⊎ HasNewBench nodes owned after birth o.place
-        → (n : ℕ) × (n < length nodes) × ((node_at nodes n).birth ≡ birth) × (memory ≡ first owned.scores (node_at nodes n).kind)
+    new : (o : OwnsMemory after owned_after birth memory) → HadBench rack owned after birth o.place ⊎ (HasNewBench sound) nodes owned after birth o.place
+        → (n : ℕ) × (n < length nodes) × ((node_at nodes n).birth ≡ birth) × (memory ≡ first (map sound owned.scores) (node_at nodes n).kind)
     new o (inl v) = let e = memory-owned rack owned s v.before birth v.owner in cc
     new o (inr v) = (v.n, v.node, v.client, sym o.is ∙ v.memory)
 
@@ -188,7 +190,7 @@ memory-fresh nodes rack owned after owned_after s t m birth memory none some = g
     past k (inr l) = let e = memory-owned rack owned s l.place k.kept.birth l.owner in let f = ap (memory_of rack owned) k.client in cc
 
     go : OwnsMemory after owned_after birth memory ⊎ HadMemory owned_after birth memory
-        → (n : ℕ) × (n < length nodes) × ((node_at nodes n).birth ≡ birth) × (memory ≡ first owned.scores (node_at nodes n).kind)
+        → (n : ℕ) × (n < length nodes) × ((node_at nodes n).birth ≡ birth) × (memory ≡ first (map sound owned.scores) (node_at nodes n).kind)
     go (inl o) = new o (m.from o.place birth o.owner)
     go (inr k) = absurd (past k (m.past k.kept k.among))
 

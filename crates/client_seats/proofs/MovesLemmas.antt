@@ -1,11 +1,13 @@
 -- What changes, step by step.
 --     Moves-refl, Moves-trans      nothing, and one change after another
-use Rattle.std.proofs.Common.{◌≡◌, ℕ, ◌⊎◌, inl, inr, List, refl, sym, ◌∙◌, ap, subst, Some}
+use Rattle.std.proofs.Common.{◌≡◌, ℕ, ◌⊎◌, inl, inr, List, refl, sym, ◌∙◌, ap, subst, Some, map}
 use Rattle.std.specs.List.{Contains}
 use Rattle.std.proofs.lemmas.List.Sorted.{IsPermutation-refl, IsPermutation-trans}
 use Rattle.session_model.specs.Benches.{node_at}
 use Rattle.session_model.specs.Kinds.{first, Memory}
 use Rattle.session_model.specs.State.{OpenClient}
+use Rattle.session_model.specs.Kinds.{Sound}
+use Rattle.client_kinds.specs.Scores.{Score}
 use Rattle.client_benches.specs.Seen.{Remembered as Kept}
 use Rattle.bench_rack.specs.Racks.{Racked}
 use Rattle.driver_laws.specs.Drivers.{Remembered}
@@ -13,8 +15,8 @@ use Rattle.client_seats.specs.Owners.{Owned, owner_at}
 use Rattle.client_seats.specs.Seatings.{IsSeating, standing_at}
 use Rattle.client_seats.specs.Moves.{HadBench, HasBenchYet, HasNewBench, LostGuest, Moves, kinds_of}
 
-pub Moves-refl : (nodes : List OpenClient) (rack : Racked) (owned : Owned) → Moves nodes rack owned rack owned
-Moves-refl nodes rack owned = record {
+pub Moves-refl : (sound : Score → Sound) → (nodes : List OpenClient) (rack : Racked) (owned : Owned) → (Moves sound) nodes rack owned rack owned
+Moves-refl sound nodes rack owned = record {
   from = λ place birth h. inl (record { before = place; owner = h; same = refl });
   onward = λ place birth h. inl (record { place = place; owner = h; same = refl });
   past = λ kept c. inl c;
@@ -26,10 +28,10 @@ Moves-refl nodes rack owned = record {
   links = refl;
 }
 
-pub Moves-trans : (nodes : List OpenClient) (rack : Racked) (owned : Owned) (between : Racked) (owned_between : Owned) (after : Racked) (owned_after : Owned)
-    → Moves nodes rack owned between owned_between → Moves nodes between owned_between after owned_after → IsSeating after owned_after
-    → Moves nodes rack owned after owned_after
-Moves-trans nodes rack owned between owned_between after owned_after m n s = record {
+pub Moves-trans : (sound : Score → Sound) → (nodes : List OpenClient) (rack : Racked) (owned : Owned) (between : Racked) (owned_between : Owned) (after : Racked) (owned_after : Owned)
+    → (Moves sound) nodes rack owned between owned_between → (Moves sound) nodes between owned_between after owned_after → IsSeating after owned_after
+    → (Moves sound) nodes rack owned after owned_after
+Moves-trans sound nodes rack owned between owned_between after owned_after m n s = record {
   from = λ place birth h. from_of place birth h (n.from place birth h);
   onward = λ place birth h. onward_of place birth (m.onward place birth h);
   past = λ kept c. past_of kept (n.past kept c);
@@ -41,14 +43,14 @@ Moves-trans nodes rack owned between owned_between after owned_after m n s = rec
   links = n.links ∙ m.links;
 }
   where
-    not_before : (place birth p : ℕ) → owner_at owned_after place ≡ Some birth → HasNewBench nodes owned_between after birth place
+    not_before : (place birth p : ℕ) → owner_at owned_after place ≡ Some birth → (HasNewBench sound) nodes owned_between after birth place
         → HasBenchYet rack between owned_between birth p ⊎ Contains owned_between.past (record { birth = birth; memory = (standing_at rack p).memory }) → ⊥
     not_before place birth p h w (inl y) = w.none y.place y.owner
     not_before place birth p h w (inr c) = s.past (record { birth = birth; memory = (standing_at rack p).memory }) place (n.past_stays _ c) h
 
     had : (place birth : ℕ) (w : HadBench between owned_between after birth place)
-        → HadBench rack owned between birth w.before ⊎ HasNewBench nodes owned between birth w.before
-        → HadBench rack owned after birth place ⊎ HasNewBench nodes owned after birth place
+        → HadBench rack owned between birth w.before ⊎ (HasNewBench sound) nodes owned between birth w.before
+        → HadBench rack owned after birth place ⊎ (HasNewBench sound) nodes owned after birth place
     had place birth w (inl v) = inl (record { before = v.before; owner = v.owner; same = w.same ∙ v.same })
     had place birth w (inr v) = inr (record {
       n = v.n;
@@ -59,15 +61,15 @@ Moves-trans nodes rack owned between owned_between after owned_after m n s = rec
       none = v.none;
     })
 
-    from_of : (place birth : ℕ) → owner_at owned_after place ≡ Some birth → HadBench between owned_between after birth place ⊎ HasNewBench nodes owned_between after birth place
-        → HadBench rack owned after birth place ⊎ HasNewBench nodes owned after birth place
+    from_of : (place birth : ℕ) → owner_at owned_after place ≡ Some birth → HadBench between owned_between after birth place ⊎ (HasNewBench sound) nodes owned_between after birth place
+        → HadBench rack owned after birth place ⊎ (HasNewBench sound) nodes owned after birth place
     from_of place birth h (inl w) = had place birth w (m.from w.before birth w.owner)
     from_of place birth h (inr w) = inr (record {
       n = w.n;
       node = w.node;
       client = w.client;
       kind = w.kind;
-      memory = w.memory ∙ ap (λ scores. first scores (node_at nodes w.n).kind) m.scores;
+      memory = w.memory ∙ ap (λ scores. first (map sound scores) (node_at nodes w.n).kind) m.scores;
       none = λ p k. not_before place birth p h w (m.onward p birth k);
     })
 
@@ -83,7 +85,7 @@ Moves-trans nodes rack owned between owned_between after owned_after m n s = rec
     onward_of place birth (inr c) = inr (n.past_stays _ c)
 
     lost : (kept : Remembered) (l : LostGuest nodes between owned_between kept.birth)
-        → HadBench rack owned between kept.birth l.place ⊎ HasNewBench nodes owned between kept.birth l.place → LostGuest nodes rack owned kept.birth
+        → HadBench rack owned between kept.birth l.place ⊎ (HasNewBench sound) nodes owned between kept.birth l.place → LostGuest nodes rack owned kept.birth
     lost kept l (inl v) = record {
       place = v.before;
       guest = l.guest;

@@ -3,10 +3,10 @@
 --     pooled_within      a guest in the pool has a place there
 --     open_within, within_open      there are as many open clients as clients
 use Rattle.std.proofs.lemmas.List.{length-map}
-use Rattle.jack_types.specs.declared.kinds.Score.{Score}
 use Rattle.jack_types.specs.declared.ports.Client.{Client}
 use Rattle.port_registry.specs.Registered.{open_client, open_clients}
 use Rattle.std.proofs.Common.{IsSome, true≢false, subst, ◌≡◌, ℕ, zero, suc, ◌<◌, List, [], ◌∷◌, length, get_or, Option, Some, None, sym, arith}
+use Rattle.client_kinds.specs.Scores.{Score}
 
 pub owner_within : (births : List (Option ℕ)) (p birth : ℕ) → get_or births p None ≡ Some birth → p < length births
 owner_within [] p birth h = cc

@@ -5,12 +5,13 @@ use Rattle.std.proofs.Common.{◌≡◌, ℕ, ◌⊎◌, inl, inr, Bool, true, f
 use Rattle.std.specs.Prelude.{if◌then◌else◌, slice_get}
 use Rattle.jack_types.specs.declared.kinds.Kind.{Kind}
 use Rattle.jack_types.specs.declared.kinds.Kind.TheVariants.{Pass, Gain, Mix, Delay, Tone, Click, Meter, Tape, Guest, Midiplay, Midithru, Midilog, Disk}
-use Rattle.jack_types.specs.declared.kinds.Score.{Score}
 use Rattle.session_model.specs.Benches.{Signal, mixed}
-use Rattle.session_model.specs.Kinds.{GuestTurn, Memory, guest_played, guest_turn, input_at, silent}
+use Rattle.session_model.specs.Kinds.{GuestTurn, Memory, guest_played, guest_turn, silent}
+use Rattle.session_model.specs.Kinds.{Sound}
+use Rattle.client_kinds.specs.Scores.{Score}
 use Rattle.client_kinds.specs.Standings.{HasGuest, HasScore, Standing}
 use Rattle.client_benches.specs.declared.benches.Stint.{Stint}
-use Rattle.client_benches.specs.Seen.{Remembered, kept_after, new_standing, own_scores, task_in}
+use Rattle.client_benches.specs.Seen.{Remembered, kept_after, new_standing, own_sounds, task_in}
 use Rattle.bench_rack.specs.Racks.{Racked}
 use Rattle.client_seats.specs.Owners.{Owned, owner_at, pooled}
 use Rattle.client_seats.specs.Seatings.{IsBare, IsLent, IsSameBench, IsScored, IsSeating, standing_at}
@@ -20,31 +21,31 @@ guest-bare : (dead : Bool) (guest period outputs : ℕ) (memory : Memory) (turn 
 guest-bare true guest period outputs memory turn bare = bare
 guest-bare false guest period outputs memory turn bare = ap (λ (m : Memory). record m { numbers = turn.numbers; is_dead = (guest_played period outputs memory turn).memory.is_dead }) bare
 
-played-bare : (kept : Remembered) (given : List (List Signal)) (kind : Kind) (turn : Option Stint) → IsBare kind kept.standing.memory
-    → IsBare kind (kept_after (record kept { standing = record kept.standing { kind = kind }; turn = turn }) given).standing.memory
-played-bare kept given (Guest guest) None bare = bare
-played-bare kept given (Guest guest) (Some turn) bare = guest-bare kept.standing.memory.is_dead guest turn.ports.period turn.ports.outputs kept.standing.memory
-    (guest_turn (slice_get (own_scores (record kept.standing { kind = Guest guest })) guest) kept.standing.memory.numbers
-    (input_at turn.ports.period (mixed (task_in (own_scores (record kept.standing { kind = Guest guest })) (record kept { standing = record kept.standing { kind = Guest guest }; turn = Some turn }) turn) given) 0)) bare
-played-bare kept given Pass turn bare = tt
-played-bare kept given (Gain factor shift) turn bare = tt
-played-bare kept given Mix turn bare = tt
-played-bare kept given (Delay frames) turn bare = tt
-played-bare kept given (Tone half level) turn bare = tt
-played-bare kept given (Click level) turn bare = tt
-played-bare kept given Meter turn bare = tt
-played-bare kept given (Tape recorder) turn bare = tt
-played-bare kept given (Midiplay list) turn bare = tt
-played-bare kept given Midithru turn bare = tt
-played-bare kept given Midilog turn bare = tt
-played-bare kept given (Disk disk) turn bare = tt
+played-bare : (sound : Score → Sound) → (kept : Remembered) (given : List (List Signal)) (kind : Kind) (turn : Option Stint) → IsBare kind kept.standing.memory
+    → IsBare kind ((kept_after sound) (record kept { standing = record kept.standing { kind = kind }; turn = turn }) given).standing.memory
+played-bare sound kept given (Guest guest) None bare = bare
+played-bare sound kept given (Guest guest) (Some turn) bare = guest-bare kept.standing.memory.is_dead guest turn.ports.period turn.ports.outputs kept.standing.memory
+    (guest_turn (slice_get ((own_sounds sound) (record kept.standing { kind = Guest guest })) guest) turn.moment turn.ports.outputs turn.ports.period kept.standing.memory.numbers
+    (mixed (task_in ((own_sounds sound) (record kept.standing { kind = Guest guest })) (record kept { standing = record kept.standing { kind = Guest guest }; turn = Some turn }) turn) given)) bare
+played-bare sound kept given Pass turn bare = tt
+played-bare sound kept given (Gain factor shift) turn bare = tt
+played-bare sound kept given Mix turn bare = tt
+played-bare sound kept given (Delay frames) turn bare = tt
+played-bare sound kept given (Tone half level) turn bare = tt
+played-bare sound kept given (Click level) turn bare = tt
+played-bare sound kept given Meter turn bare = tt
+played-bare sound kept given (Tape recorder) turn bare = tt
+played-bare sound kept given (Midiplay list) turn bare = tt
+played-bare sound kept given Midithru turn bare = tt
+played-bare sound kept given Midilog turn bare = tt
+played-bare sound kept given (Disk disk) turn bare = tt
 
-pub IsSameBench-played : (kept : Remembered) (given : List (List Signal)) → IsSameBench kept.standing (kept_after kept given).standing
-IsSameBench-played kept given = record {
+pub IsSameBench-played : (sound : Score → Sound) → (kept : Remembered) (given : List (List Signal)) → IsSameBench kept.standing ((kept_after sound) kept given).standing
+IsSameBench-played sound kept given = record {
   kind = refl;
   period = refl;
   score = refl;
-  bare = λ bare. played-bare kept given kept.standing.kind kept.turn bare;
+  bare = λ bare. (played-bare sound) kept given kept.standing.kind kept.turn bare;
 }
 
 score-kept : (before after : Standing) (scores : List Score) (kind : Kind) → after.score ≡ before.score → HasScore (record before { kind = kind }) scores → HasScore (record after { kind = kind }) scores

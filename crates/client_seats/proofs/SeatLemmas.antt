@@ -11,6 +11,8 @@ use Rattle.std.proofs.lemmas.List.{length-map}
 use Rattle.std.proofs.lemmas.List.Sorted.{length_permutation}
 use Rattle.session_model.specs.Benches.{node_at}
 use Rattle.session_model.specs.State.{OpenClient}
+use Rattle.session_model.specs.Kinds.{Sound}
+use Rattle.client_kinds.specs.Scores.{Score}
 use Rattle.client_benches.specs.Seen.{Remembered as Kept, Seen}
 use Rattle.bench_rack.specs.Racks.{Racked, bench_at}
 use Rattle.client_seats.specs.Owners.{Owned, owner_at}
@@ -18,34 +20,34 @@ use Rattle.client_seats.specs.Seatings.{AreApart, HasBench, HasNoPast, IsSeating
 use Rattle.client_seats.proofs.PlaceLemmas.{owner_within}
 use Rattle.client_seats.specs.Moves.{Brings, HadBench, HasNewBench, LostGuest, Moves, kinds_of}
 
-pub same-bench : (nodes : List OpenClient) (rack : Racked) (owned : Owned) (after : Racked) (owned_after : Owned) → IsSeating rack owned → Moves nodes rack owned after owned_after
+pub same-bench : (sound : Score → Sound) → (nodes : List OpenClient) (rack : Racked) (owned : Owned) (after : Racked) (owned_after : Owned) → IsSeating rack owned → (Moves sound) nodes rack owned after owned_after
     → (p q birth : ℕ) → owner_at owned p ≡ Some birth → owner_at owned_after q ≡ Some birth → (bench_at after q).kept ≡ (bench_at rack p).kept
-same-bench nodes rack owned after owned_after s m p q birth h k = go (m.from q birth k)
+same-bench sound nodes rack owned after owned_after s m p q birth h k = go (m.from q birth k)
   where
-    go : HadBench rack owned after birth q ⊎ HasNewBench nodes owned after birth q → (bench_at after q).kept ≡ (bench_at rack p).kept
+    go : HadBench rack owned after birth q ⊎ (HasNewBench sound) nodes owned after birth q → (bench_at after q).kept ≡ (bench_at rack p).kept
     go (inl v) = v.same ∙ ap (λ r. (bench_at rack r).kept) (s.apart v.before p birth v.owner h)
     go (inr v) = absurd (v.none p h)
 
-pub owner-cases : (nodes : List OpenClient) (rack : Racked) (owned : Owned) (after : Racked) (owned_after : Owned) → Moves nodes rack owned after owned_after
+pub owner-cases : (sound : Score → Sound) → (nodes : List OpenClient) (rack : Racked) (owned : Owned) (after : Racked) (owned_after : Owned) → (Moves sound) nodes rack owned after owned_after
     → (p birth : ℕ) → owner_at owned_after p ≡ Some birth
     → ((q : ℕ) × (owner_at owned q ≡ Some birth) × (kind_at after p ≡ kind_at rack q)) ⊎ ((n : ℕ) × (n < length nodes) × ((node_at nodes n).birth ≡ birth) × (kind_at after p ≡ (node_at nodes n).kind))
-owner-cases nodes rack owned after owned_after m p birth h = go (m.from p birth h)
+owner-cases sound nodes rack owned after owned_after m p birth h = go (m.from p birth h)
   where
-    go : HadBench rack owned after birth p ⊎ HasNewBench nodes owned after birth p
+    go : HadBench rack owned after birth p ⊎ (HasNewBench sound) nodes owned after birth p
         → ((q : ℕ) × (owner_at owned q ≡ Some birth) × (kind_at after p ≡ kind_at rack q)) ⊎ ((n : ℕ) × (n < length nodes) × ((node_at nodes n).birth ≡ birth) × (kind_at after p ≡ (node_at nodes n).kind))
     go (inl v) = inl (v.before, v.owner, ap (λ (k : Kept). k.standing.kind) v.same)
     go (inr v) = inr (v.n, v.node, v.client, v.kind)
 
-pub HasNoPast-after : (nodes : List OpenClient) (rack : Racked) (owned : Owned) (after : Racked) (owned_after : Owned) → Moves nodes rack owned after owned_after
+pub HasNoPast-after : (sound : Score → Sound) → (nodes : List OpenClient) (rack : Racked) (owned : Owned) (after : Racked) (owned_after : Owned) → (Moves sound) nodes rack owned after owned_after
     → HasNoPast nodes owned → HasNoPast nodes owned_after
-HasNoPast-after nodes rack owned after owned_after m past n kept node c e = go (m.past kept c)
+HasNoPast-after sound nodes rack owned after owned_after m past n kept node c e = go (m.past kept c)
   where
     go : Contains owned.past kept ⊎ LostGuest nodes rack owned kept.birth → ⊥
     go (inl d) = past n kept node d e
     go (inr l) = l.none n node e
 
-pub count-same : (nodes : List OpenClient) (rack : Racked) (owned : Owned) (after : Racked) (owned_after : Owned) → Moves nodes rack owned after owned_after → length after.benches ≡ length rack.benches
-count-same nodes rack owned after owned_after m =
+pub count-same : (sound : Score → Sound) → (nodes : List OpenClient) (rack : Racked) (owned : Owned) (after : Racked) (owned_after : Owned) → (Moves sound) nodes rack owned after owned_after → length after.benches ≡ length rack.benches
+count-same sound nodes rack owned after owned_after m =
     sym (length-map after.benches (λ (x : Seen). x.kept.standing.kind)) ∙ length_permutation (kinds_of rack) (kinds_of after) m.kinds ∙ length-map rack.benches (λ (x : Seen). x.kept.standing.kind)
 
 pub bench-within : (nodes : List OpenClient) (rack : Racked) (owned : Owned) (n p : ℕ) → IsSeating rack owned → HasBench nodes rack owned n p → p < length rack.benches
@@ -63,10 +65,10 @@ bench-behind nodes rack owned n p node apart lower h = go (cases_lt p n)
         let same : p ≡ n = apart p n (omega (arith, lt, node)) node e in
         omega (arith, same)
 
-pub seated-more : (nodes : List OpenClient) (rack : Racked) (owned : Owned) (after : Racked) (owned_after : Owned) (n p : ℕ) → n ≤ p
-    → Brings rack owned after owned_after p n → ((m : ℕ) → m < n → HasBench nodes rack owned m m) → HasBench nodes rack owned n p
+pub seated-more : (sound : Score → Sound) → (nodes : List OpenClient) (rack : Racked) (owned : Owned) (after : Racked) (owned_after : Owned) (n p : ℕ) → n ≤ p
+    → (Brings sound) rack owned after owned_after p n → ((m : ℕ) → m < n → HasBench nodes rack owned m m) → HasBench nodes rack owned n p
     → (m : ℕ) → m < n + 1 → HasBench nodes after owned_after m m
-seated-more nodes rack owned after owned_after n p behind b lower h m lt = go (cases_eq m n)
+seated-more sound nodes rack owned after owned_after n p behind b lower h m lt = go (cases_eq m n)
   where
     go : (m ≡ n) ⊎ (m ≢ n) → HasBench nodes after owned_after m m
     go (inl e) = subst (λ k. HasBench nodes after owned_after k k) (sym e) (b.there nodes n h)

@@ -7,6 +7,8 @@ use Rattle.std.specs.List.Sorted.{IsPermutation}
 use Rattle.std.proofs.lemmas.List.{length-set}
 use Rattle.jack_types.specs.declared.kinds.Kind.TheVariants.{Pass}
 use Rattle.session_model.specs.State.{OpenClient}
+use Rattle.session_model.specs.Kinds.{Sound}
+use Rattle.client_kinds.specs.Scores.{Score}
 use Rattle.client_kinds.specs.Standings.{HasGuest}
 use Rattle.client_benches.specs.Seen.{Seen, cleared, new_bench, new_standing}
 use Rattle.bench_rack.specs.Racks.{Racked, bench_at}
@@ -15,7 +17,7 @@ use Rattle.client_seats.specs.Seatings.{HasBench, IsBare, IsLent, IsScored, IsSe
 use Rattle.client_seats.specs.Moves.{Brings, Moves, kinds_of}
 use Rattle.client_seats.proofs.TurnLemmas.{IsPermutation-turned, turned, turned_at, turned_back, turned_other, turned_second, turned_within}
 
-module _ (rack : Racked) (owned : Owned) (births : List (Option ℕ)) (benches : List Seen) (turn : ℕ → ℕ)
+module _ (sound : Score → Sound) (rack : Racked) (owned : Owned) (births : List (Option ℕ)) (benches : List Seen) (turn : ℕ → ℕ)
     (back : (q : ℕ) → turn (turn q) ≡ q)
     (owner : (q : ℕ) → get_or births q None ≡ owner_at owned (turn q))
     (bench : (q : ℕ) → get_or benches q (new_bench Pass 0) ≡ bench_at rack (turn q)) where
@@ -48,7 +50,7 @@ module _ (rack : Racked) (owned : Owned) (births : List (Option ℕ)) (benches :
 
   pub Moves-mirrored : (nodes : List OpenClient) → length benches ≡ length rack.benches → ((q : ℕ) → q < length rack.benches → turn q < length rack.benches)
       → IsPermutation (kinds_of rack) (kinds_of (record rack { benches = benches }))
-      → Moves nodes rack owned (record rack { benches = benches }) (record owned { births = births })
+      → (Moves sound) nodes rack owned (record rack { benches = benches }) (record owned { births = births })
   Moves-mirrored nodes as_many within kinds = record {
     from = λ place birth h. inl (record { before = turn place; owner = sym (owner place) ∙ h; same = ap (λ (x : Seen). x.kept) (bench place) });
     onward = λ place birth h. inl (record {
@@ -72,13 +74,13 @@ module _ (rack : Racked) (owned : Owned) (births : List (Option ℕ)) (benches :
     guest = subst (λ (x : Seen). HasGuest x.kept.standing.kind x.kept.standing.score) (sym (bench q ∙ ap (bench_at rack) e)) h.guest;
   }
 
-pub brought : (rack : Racked) (owned : Owned) (after : Racked) (owned_after : Owned) (p n : ℕ) → IsSeating rack owned → p < length rack.benches → n < length rack.benches
+pub brought : (sound : Score → Sound) → (rack : Racked) (owned : Owned) (after : Racked) (owned_after : Owned) (p n : ℕ) → IsSeating rack owned → p < length rack.benches → n < length rack.benches
     → after ≡ record rack { benches = set (set rack.benches p (bench_at rack n)) n (bench_at rack p) }
     → owned_after ≡ record owned { births = set (set owned.births p (owner_at owned n)) n (owner_at owned p) }
-    → Brings rack owned after owned_after p n
-brought rack owned after owned_after p n s wp wn rack_is owned_is =
-    subst (λ (o : Owned). Brings rack owned after o p n) (sym owned_is)
-    (subst (λ (r : Racked). Brings rack owned r (record owned { births = births }) p n) (sym rack_is) built)
+    → (Brings sound) rack owned after owned_after p n
+brought sound rack owned after owned_after p n s wp wn rack_is owned_is =
+    subst (λ (o : Owned). (Brings sound) rack owned after o p n) (sym owned_is)
+    (subst (λ (r : Racked). (Brings sound) rack owned r (record owned { births = births }) p n) (sym rack_is) built)
   where
     births : List (Option ℕ)
     births = set (set owned.births p (owner_at owned n)) n (owner_at owned p)
@@ -104,11 +106,11 @@ brought rack owned after owned_after p n s wp wn rack_is owned_is =
     benches_many : length benches ≡ length rack.benches
     benches_many = length-set (set rack.benches p (bench_at rack n)) n (bench_at rack p) ∙ length-set rack.benches p (bench_at rack n)
 
-    built : Brings rack owned (record rack { benches = benches }) (record owned { births = births }) p n
+    built : (Brings sound) rack owned (record rack { benches = benches }) (record owned { births = births }) p n
     built = record {
-      seating = IsSeating-mirrored rack owned births benches (turned p n) (turned_back p n) owner bench births_many benches_many s;
-      moves = λ nodes. Moves-mirrored rack owned births benches (turned p n) (turned_back p n) owner bench nodes benches_many (λ q h. turned_within p n q (length rack.benches) wp wn h)
+      seating = (IsSeating-mirrored sound) rack owned births benches (turned p n) (turned_back p n) owner bench births_many benches_many s;
+      moves = λ nodes. (Moves-mirrored sound) rack owned births benches (turned p n) (turned_back p n) owner bench nodes benches_many (λ q h. turned_within p n q (length rack.benches) wp wn h)
           (IsPermutation-turned (λ (x : Seen). x.kept.standing.kind) rack.benches (new_bench Pass 0) p n wp wn);
-      there = λ nodes m h. HasBench-mirrored rack owned births benches (turned p n) (turned_back p n) owner bench nodes m n p (turned_second p n) h;
-      others = λ nodes m q d e h. HasBench-mirrored rack owned births benches (turned p n) (turned_back p n) owner bench nodes m q q (turned_other p n q d e) h;
+      there = λ nodes m h. (HasBench-mirrored sound) rack owned births benches (turned p n) (turned_back p n) owner bench nodes m n p (turned_second p n) h;
+      others = λ nodes m q d e h. (HasBench-mirrored sound) rack owned births benches (turned p n) (turned_back p n) owner bench nodes m q q (turned_other p n q d e) h;
     }

@@ -7,10 +7,11 @@ use Rattle.std.proofs.lemmas.List.{length-set}
 use Rattle.std.proofs.lemmas.List.Elements.{Contains-append_cases, Contains-append_left, Contains-append_right}
 use Rattle.jack_types.specs.declared.kinds.Kind.{Kind}
 use Rattle.jack_types.specs.declared.kinds.Kind.TheVariants.{Guest}
-use Rattle.jack_types.specs.declared.kinds.Score.{Score}
 use Rattle.session_model.specs.Benches.{node_at}
 use Rattle.session_model.specs.State.{OpenClient}
+use Rattle.session_model.specs.Kinds.{Sound}
 use Rattle.session_laws.proofs.LoopLemmas.{Contains-cases, Contains-first}
+use Rattle.client_kinds.specs.Scores.{Score}
 use Rattle.client_kinds.specs.Standings.{HasGuest, HasScore, Standing}
 use Rattle.client_benches.specs.Seen.{Seen, new_standing}
 use Rattle.bench_rack.specs.Racks.{Racked, bench_at}
@@ -26,7 +27,7 @@ score-of : (kind : Kind) (standing : Standing) (scores : List Score) (guest : �
 score-of kind standing scores guest is same has =
     subst (λ (k : Kind). HasScore (record standing { kind = k }) scores → slice_get scores guest ≡ standing.score) (sym (is ∙ same)) (λ h. h) has
 
-module _ (rack : Racked) (owned : Owned) (p birth guest : ℕ) (score : Score)
+module _ (sound : Score → Sound) (rack : Racked) (owned : Owned) (p birth guest : ℕ) (score : Score)
     (s : IsSeating rack owned) (owner : owner_at owned p ≡ Some birth) (kind : kind_at rack p ≡ Guest guest)
     (number : guest < length owned.pool) (lent : (standing_at rack p).score ≡ Some score) where
   abbrev standing : Standing
@@ -144,7 +145,7 @@ module _ (rack : Racked) (owned : Owned) (p birth guest : ℕ) (score : Score)
       past_peaks_of kept (inr e) = ap (λ (x : Remembered). x.memory.peak) (sym e) ∙ bare-peak (kind_at rack p) (standing_at rack p).memory guest kind (s.bare p)
 
   pub Moves-taken : (nodes : List OpenClient) (n : ℕ) → n < length nodes → (node_at nodes n).kind ≡ Guest guest
-      → ((m : ℕ) → m < length nodes → (node_at nodes m).birth ≡ birth → ⊥) → Moves nodes rack owned after taken
+      → ((m : ℕ) → m < length nodes → (node_at nodes m).birth ≡ birth → ⊥) → (Moves sound) nodes rack owned after taken
   Moves-taken nodes n node same none = record {
     from = λ q b h. inl (record { before = q; owner = (owned_before q b h).1; same = ap (λ (x : Seen). x.kept) (bench-other rack p q standing (owned_before q b h).0) });
     onward = λ q b h. onward_of q b h (cases_eq q p);
@@ -191,28 +192,28 @@ module _ (rack : Racked) (owned : Owned) (p birth guest : ℕ) (score : Score)
 has-some : (kind : Kind) (score : Option Score) (guest : ℕ) → kind ≡ Guest guest → HasGuest kind score → IsSome score
 has-some kind score guest same has = subst (λ (k : Kind). HasGuest k score → IsSome score) (sym same) (λ h. h) has
 
-pub taken-back : (nodes : List OpenClient) (n : ℕ) (rack : Racked) (owned : Owned) (after : Racked) (owned_after : Owned) (p birth guest : ℕ)
+pub taken-back : (sound : Score → Sound) → (nodes : List OpenClient) (n : ℕ) (rack : Racked) (owned : Owned) (after : Racked) (owned_after : Owned) (p birth guest : ℕ)
     → IsSeating rack owned → owner_at owned p ≡ Some birth → kind_at rack p ≡ Guest guest → guest < length owned.scores → n < length nodes → (node_at nodes n).kind ≡ Guest guest
     → ((m : ℕ) → m < length nodes → (node_at nodes m).birth ≡ birth → ⊥)
     → after ≡ with_standing rack p (emptied (standing_at rack p))
     → IfSome (standing_at rack p).score (λ score. owned_after ≡ lost owned p birth (standing_at rack p).memory guest score)
-    → TakesBack nodes rack owned after owned_after guest
-taken-back nodes n rack owned after owned_after p birth guest s owner kind here node asks none rack_is owned_is =
+    → (TakesBack sound) nodes rack owned after owned_after guest
+taken-back sound nodes n rack owned after owned_after p birth guest s owner kind here node asks none rack_is owned_is =
     go (standing_at rack p).score refl (has-some (kind_at rack p) (standing_at rack p).score guest kind (s.lent p birth owner)) owned_is
   where
     number : guest < length owned.pool
     number = subst (λ k. guest < k) (sym s.as_many_guests) here
 
     go : (o : Option Score) → (standing_at rack p).score ≡ o → IsSome o → IfSome o (λ score. owned_after ≡ lost owned p birth (standing_at rack p).memory guest score)
-        → TakesBack nodes rack owned after owned_after guest
+        → (TakesBack sound) nodes rack owned after owned_after guest
     go None e h is = absurd (true≢false (sym h))
     go (Some score) e h is =
-        subst (λ (o : Owned). TakesBack nodes rack owned after o guest) (sym is)
-        (subst (λ (r : Racked). TakesBack nodes rack owned r (lost owned p birth (standing_at rack p).memory guest score) guest) (sym rack_is)
+        subst (λ (o : Owned). (TakesBack sound) nodes rack owned after o guest) (sym is)
+        (subst (λ (r : Racked). (TakesBack sound) nodes rack owned r (lost owned p birth (standing_at rack p).memory guest score) guest) (sym rack_is)
         (record {
-          seating = IsSeating-taken rack owned p birth guest score s owner kind number e;
-          moves = Moves-taken rack owned p birth guest score s owner kind number e nodes n node asks none;
-          pool = subst IsSome (sym (pooled-taken rack owned p birth guest score s owner kind number e)) refl;
-          nobody = IsNobodys-taken rack owned p birth guest score s owner kind number e;
-          seated = HasBench-taken rack owned p birth guest score s owner kind number e nodes none;
+          seating = (IsSeating-taken sound) rack owned p birth guest score s owner kind number e;
+          moves = (Moves-taken sound) rack owned p birth guest score s owner kind number e nodes n node asks none;
+          pool = subst IsSome (sym ((pooled-taken sound) rack owned p birth guest score s owner kind number e)) refl;
+          nobody = (IsNobodys-taken sound) rack owned p birth guest score s owner kind number e;
+          seated = (HasBench-taken sound) rack owned p birth guest score s owner kind number e nodes none;
         }))

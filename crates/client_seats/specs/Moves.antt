@@ -12,10 +12,11 @@ use Rattle.std.specs.List.{Contains}
 use Rattle.std.specs.List.Sorted.{IsPermutation}
 use Rattle.jack_types.specs.declared.kinds.Kind.{Kind}
 use Rattle.jack_types.specs.declared.kinds.Kind.TheVariants.{Guest}
-use Rattle.jack_types.specs.declared.kinds.Score.{Score}
 use Rattle.session_model.specs.Benches.{node_at}
 use Rattle.session_model.specs.Kinds.{Memory, first}
 use Rattle.session_model.specs.State.{OpenClient}
+use Rattle.session_model.specs.Kinds.{Sound}
+use Rattle.client_kinds.specs.Scores.{Score}
 use Rattle.client_kinds.specs.Standings.{HasGuest, Standing}
 use Rattle.client_benches.specs.Seen.{Seen}
 use Rattle.bench_rack.specs.Racks.{Racked, bench_at, with_bench}
@@ -46,12 +47,12 @@ pub record HadBench (rack : Racked) (owned : Owned) (after : Racked) (birth plac
   pub same : (bench_at after place).kept ≡ (bench_at rack before).kept
 
 -- a client of these nodes had no bench, and the bench at this place is of its kind and in its first memory
-pub record HasNewBench (nodes : List OpenClient) (owned : Owned) (after : Racked) (birth place : ℕ) : Type 0 where
+pub record HasNewBench (sound : Score → Sound) (nodes : List OpenClient) (owned : Owned) (after : Racked) (birth place : ℕ) : Type 0 where
   pub n : ℕ
   pub node : n < length nodes
   pub client : (node_at nodes n).birth ≡ birth
   pub kind : kind_at after place ≡ (node_at nodes n).kind
-  pub memory : (standing_at after place).memory ≡ first owned.scores (node_at nodes n).kind
+  pub memory : (standing_at after place).memory ≡ first (map sound owned.scores) (node_at nodes n).kind
   pub none : IsNobodys owned birth
 
 -- a client still has its bench
@@ -73,8 +74,8 @@ pub record LostGuest (nodes : List OpenClient) (rack : Racked) (owned : Owned) (
 
 -- each owner had this bench, or is new; who had a bench has it, or is of the past with its memory as it was; the past only grows, by those
 -- that lost their guests; the benches are of the same kinds and periods, and idle if they were
-pub record Moves (nodes : List OpenClient) (rack : Racked) (owned : Owned) (after : Racked) (owned_after : Owned) : Type 0 where
-  pub from : (place birth : ℕ) → owner_at owned_after place ≡ Some birth → HadBench rack owned after birth place ⊎ HasNewBench nodes owned after birth place
+pub record Moves (sound : Score → Sound) (nodes : List OpenClient) (rack : Racked) (owned : Owned) (after : Racked) (owned_after : Owned) : Type 0 where
+  pub from : (place birth : ℕ) → owner_at owned_after place ≡ Some birth → HadBench rack owned after birth place ⊎ (HasNewBench sound) nodes owned after birth place
   pub onward : (place birth : ℕ) → owner_at owned place ≡ Some birth
       → HasBenchYet rack after owned_after birth place ⊎ Contains owned_after.past (record { birth = birth; memory = (standing_at rack place).memory })
   pub past : (kept : Remembered) → Contains owned_after.past kept → Contains owned.past kept ⊎ LostGuest nodes rack owned kept.birth
@@ -86,37 +87,37 @@ pub record Moves (nodes : List OpenClient) (rack : Racked) (owned : Owned) (afte
   pub links : after.links ≡ rack.links
 
 -- a bench of nobody is ready for a client of its kind: in its first memory, with its guest out of the pool if it asks one
-pub record IsEquipped (rack : Racked) (owned : Owned) (after : Racked) (owned_after : Owned) (place : ℕ) : Type 0 where
+pub record IsEquipped (sound : Score → Sound) (rack : Racked) (owned : Owned) (after : Racked) (owned_after : Owned) (place : ℕ) : Type 0 where
   pub rack_is : after ≡ with_standing rack place (standing_at after place)
   pub owned_is : owned_after ≡ record owned { pool = owned_after.pool }
   pub kind : kind_at after place ≡ kind_at rack place
   pub period : (standing_at after place).period ≡ (standing_at rack place).period
   pub guest : HasGuest (kind_at after place) (standing_at after place).score
   pub scored : IsScored (standing_at after place) owned.scores
-  pub memory : (standing_at after place).memory ≡ first owned.scores (kind_at after place)
+  pub memory : (standing_at after place).memory ≡ first (map sound owned.scores) (kind_at after place)
   pub bare : IsBare (kind_at after place) (standing_at after place).memory
   pub as_many : length owned_after.pool ≡ length owned.pool
   pub pool : (guest : ℕ) (score : Score) → pooled owned_after guest ≡ Some score → pooled owned guest ≡ Some score
   pub still : (guest : ℕ) → IsSome (pooled owned guest) → IsSome (pooled owned_after guest) ⊎ (kind_at rack place ≡ Guest guest)
 
 -- a bench of nobody went to the client of node n; those that have benches have them yet
-pub record Gives (nodes : List OpenClient) (rack : Racked) (owned : Owned) (after : Racked) (owned_after : Owned) (n place : ℕ) : Type 0 where
+pub record Gives (sound : Score → Sound) (nodes : List OpenClient) (rack : Racked) (owned : Owned) (after : Racked) (owned_after : Owned) (n place : ℕ) : Type 0 where
   pub seating : IsSeating after owned_after
-  pub moves : Moves nodes rack owned after owned_after
+  pub moves : (Moves sound) nodes rack owned after owned_after
   pub has : HasBench nodes after owned_after n place
   pub seated : (m q : ℕ) → HasBench nodes rack owned m q → HasBench nodes after owned_after m q
 
 -- two places are exchanged: what stood at the first stands at the second, and what stood at no one of the two stands there yet
-pub record Brings (rack : Racked) (owned : Owned) (after : Racked) (owned_after : Owned) (from to : ℕ) : Type 0 where
+pub record Brings (sound : Score → Sound) (rack : Racked) (owned : Owned) (after : Racked) (owned_after : Owned) (from to : ℕ) : Type 0 where
   pub seating : IsSeating after owned_after
-  pub moves : (nodes : List OpenClient) → Moves nodes rack owned after owned_after
+  pub moves : (nodes : List OpenClient) → (Moves sound) nodes rack owned after owned_after
   pub there : (nodes : List OpenClient) (m : ℕ) → HasBench nodes rack owned m from → HasBench nodes after owned_after m to
   pub others : (nodes : List OpenClient) (m q : ℕ) → q ≢ from → q ≢ to → HasBench nodes rack owned m q → HasBench nodes after owned_after m q
 
 -- a guest is in the pool, and was lent to a client that is none of these nodes'
-pub record TakesBack (nodes : List OpenClient) (rack : Racked) (owned : Owned) (after : Racked) (owned_after : Owned) (guest : ℕ) : Type 0 where
+pub record TakesBack (sound : Score → Sound) (nodes : List OpenClient) (rack : Racked) (owned : Owned) (after : Racked) (owned_after : Owned) (guest : ℕ) : Type 0 where
   pub seating : IsSeating after owned_after
-  pub moves : Moves nodes rack owned after owned_after
+  pub moves : (Moves sound) nodes rack owned after owned_after
   pub pool : IsSome (pooled owned_after guest)
   pub nobody : (birth : ℕ) → IsNobodys owned birth → IsNobodys owned_after birth
   pub seated : (m q : ℕ) → m < length nodes → HasBench nodes rack owned m q → HasBench nodes after owned_after m q

@@ -11,10 +11,10 @@ use Rattle.std.specs.Prelude.{◌≡◌, ℕ, ◌==◌, ◌<◌, ◌≤◌, ◌�
 use Rattle.std.specs.List.{Contains}
 use Rattle.jack_types.specs.declared.kinds.Kind.{Kind}
 use Rattle.jack_types.specs.declared.kinds.Kind.TheVariants.{Guest}
-use Rattle.jack_types.specs.declared.kinds.Score.{Score}
 use Rattle.session_model.specs.Benches.{node_at}
 use Rattle.session_model.specs.Kinds.{Memory, no_memory}
 use Rattle.session_model.specs.State.{OpenClient}
+use Rattle.client_kinds.specs.Scores.{Score}
 use Rattle.client_kinds.specs.Standings.{Standing, HasGuest, HasScore}
 use Rattle.client_benches.specs.Seen.{Seen, cleared, new_standing}
 use Rattle.bench_rack.specs.Racks.{Racked, bench_at}

@@ -1,11 +1,11 @@
 //! How benches change hands.
 
-ghost use Rattle.std.specs.Prelude.{◌≡◌, ◌<◌, ℕ, List, IfSome, IsSome, IsTrue, IsFalse, length, slice_set, Some, None};
+ghost use Rattle.std.specs.Prelude.{◌≡◌, ◌<◌, ℕ, List, IfSome, IsSome, IsTrue, IsFalse, length, slice_set, Some, None, map};
 ghost use Rattle.port_registry.specs.Registered.{open_clients};
 ghost use Rattle.session_model.specs.Benches.{node_at};
 ghost use Rattle.session_model.specs.Kinds.{first};
 ghost use Rattle.jack_types.specs.declared.kinds.Kind.TheVariants.{Guest as GuestKind};
-ghost use Rattle.jack_types.specs.declared.kinds.Score.{Score};
+ghost use Rattle.client_kinds.specs.Scores.{Score};
 ghost use Rattle.client_kinds.specs.Standings.{HasScore};
 ghost use Rattle.bench_rack.specs.Racks.{bench_at};
 ghost use Rattle.client_seats.specs.Owners.{owner_at, pooled};
@@ -61,7 +61,7 @@ fn take_back<G: Guest>(
     requires kind { kind_at rack.old place ≡ GuestKind guest }
     requires number { guest < length owners.old.scores }
     requires other { (m : ℕ) → m < length nodes.now → (node_at (open_clients nodes.now) m).birth ≡ birth → ⊥ }
-    ensures { TakesBack (open_clients nodes.now) rack.old owners.old rack.new owners.new guest }
+    ensures { (TakesBack G.sound) (open_clients nodes.now) rack.old owners.old rack.new owners.new guest }
 {
     give_up(rack, owners, place, birth, guest);
 }
@@ -81,7 +81,7 @@ fn reclaim<G: Guest>(
     requires asks { (node_at (open_clients nodes.now) n).kind ≡ GuestKind guest }
     requires none { IsNobodys owners.old (node_at (open_clients nodes.now) n).birth }
     ensures seating { IsSeating rack.new owners.new }
-    ensures moves { Moves (open_clients nodes.now) rack.old owners.old rack.new owners.new }
+    ensures moves { (Moves G.sound) (open_clients nodes.now) rack.old owners.old rack.new owners.new }
     ensures none { IsNobodys owners.new (node_at (open_clients nodes.now) n).birth }
     ensures seated { (m q : ℕ) → m < length nodes.now → HasBench (open_clients nodes.now) rack.old owners.old m q → HasBench (open_clients nodes.now) rack.new owners.new m q }
     ensures pool { IsTrue result → IsSome (pooled owners.new guest) }
@@ -117,7 +117,7 @@ pub(crate) fn fetch<G: Guest>(
     requires node { n < length nodes.now }
     requires none { IsNobodys owners.old (node_at (open_clients nodes.now) n).birth }
     ensures seating { IsSeating rack.new owners.new }
-    ensures moves { Moves (open_clients nodes.now) rack.old owners.old rack.new owners.new }
+    ensures moves { (Moves G.sound) (open_clients nodes.now) rack.old owners.old rack.new owners.new }
     ensures none { IsNobodys owners.new (node_at (open_clients nodes.now) n).birth }
     ensures seated { (m q : ℕ) → m < length nodes.now → HasBench (open_clients nodes.now) rack.old owners.old m q → HasBench (open_clients nodes.now) rack.new owners.new m q }
     ensures pool { IsTrue result → (guest : ℕ) → (node_at (open_clients nodes.now) n).kind ≡ GuestKind guest → IsSome (pooled owners.new guest) }
@@ -140,7 +140,7 @@ fn lend<G: Guest>(rack: &mut Rack<G>, owners: &mut Owners<G>, place: usize, gues
     ensures kind { kind_at rack.new place ≡ kind_at rack.old place }
     ensures period { (standing_at rack.new place).period ≡ (standing_at rack.old place).period }
     ensures score { (standing_at rack.new place).score ≡ pooled owners.old guest }
-    ensures memory { (scores : List Score) → HasScore (standing_at rack.new place) scores → (standing_at rack.new place).memory ≡ first scores (kind_at rack.new place) }
+    ensures memory { (scores : List Score) → HasScore (standing_at rack.new place) scores → (standing_at rack.new place).memory ≡ first (map G.sound scores) (kind_at rack.new place) }
     ensures owners { owners.new ≡ record owners.old { pool = slice_set owners.old.pool guest None } }
 {
     if let Some(lent) = owners.take(usize::from(guest)) {
@@ -154,7 +154,7 @@ fn equip<G: Guest>(rack: &mut Rack<G>, owners: &mut Owners<G>, place: usize)
     requires place { place < length rack.old.benches }
     requires nobody { owner_at owners.old place ≡ None }
     requires pool { (guest : ℕ) → kind_at rack.old place ≡ GuestKind guest → IsSome (pooled owners.old guest) }
-    ensures { IsEquipped rack.old owners.old rack.new owners.new place }
+    ensures { (IsEquipped G.sound) rack.old owners.old rack.new owners.new place }
 {
     match rack.kind(place) {
         Kind::Guest { guest } => lend(rack, owners, place, guest),
@@ -178,7 +178,7 @@ pub(crate) fn give<G: Guest>(
     requires none { IsNobodys owners.old (node_at (open_clients nodes.now) n).birth }
     requires past { HasNoPast (open_clients nodes.now) owners.old }
     requires pool { (guest : ℕ) → (node_at (open_clients nodes.now) n).kind ≡ GuestKind guest → IsSome (pooled owners.old guest) }
-    ensures { Gives (open_clients nodes.now) rack.old owners.old rack.new owners.new n place }
+    ensures { (Gives G.sound) (open_clients nodes.now) rack.old owners.old rack.new owners.new n place }
 {
     equip(rack, owners, place);
     owners.set_owner(place, Some(birth_of(nodes, n)));

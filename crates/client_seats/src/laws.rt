@@ -2,6 +2,8 @@
 
 ghost use Rattle.std.specs.Prelude.{◌≡◌, ℕ, List, None, length};
 ghost use Rattle.session_model.specs.Benches.{Signal};
+ghost use Rattle.session_model.specs.Kinds.{Sound};
+ghost use Rattle.client_kinds.specs.Scores.{Score};
 ghost use Rattle.client_benches.specs.Seen.{Remembered, kept_after};
 ghost use Rattle.bench_rack.specs.Racks.{Racked};
 ghost use Rattle.client_seats.specs.Owners.{Owned, owner_at};
@@ -10,7 +12,7 @@ ghost use Rattle.client_seats.specs.Seatings.{IsSameBench, IsSeating, standing_a
 /// A play changes no kind, no period and no guest of a bench, and of a guest's memory its own parts
 /// alone.
 pub fn a_play_keeps_the_guest()
-    ensures { (kept : Remembered) (given : List (List Signal)) → IsSameBench kept.standing (kept_after kept given).standing }
+    ensures { (sound : Score → Sound) (kept : Remembered) (given : List (List Signal)) → IsSameBench kept.standing ((kept_after sound) kept given).standing }
 {}
 
 /// So benches that are played are a seating yet, if those of nobody stay as they are.

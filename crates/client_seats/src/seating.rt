@@ -1,6 +1,6 @@
 //! Clients and their benches.
 
-ghost use Rattle.std.specs.Prelude.{◌≡◌, ◌<◌, ◌+◌, ◌⊎◌, ℕ, IfNone, IfSome, IsTrue, IsFalse, length, Some, None};
+ghost use Rattle.std.specs.Prelude.{◌≡◌, ◌<◌, ◌+◌, ◌⊎◌, ℕ, IfNone, IfSome, IsTrue, IsFalse, length, Some, None, map};
 ghost use Rattle.std.specs.Option.{option_map_or};
 ghost use Rattle.std.specs.List.{Contains};
 ghost use Rattle.std.specs.List.Sorted.{IsPermutation};
@@ -33,7 +33,7 @@ fn ready<G: Guest>(
     requires none { IsNobodys owners.old (node_at (open_clients nodes.now) n).birth }
     requires past { HasNoPast (open_clients nodes.now) owners.old }
     ensures seating { IsSeating rack.new owners.new }
-    ensures moves { Moves (open_clients nodes.now) rack.old owners.old rack.new owners.new }
+    ensures moves { (Moves G.sound) (open_clients nodes.now) rack.old owners.old rack.new owners.new }
     ensures seated { (m q : ℕ) → m < length nodes.now → HasBench (open_clients nodes.now) rack.old owners.old m q → HasBench (open_clients nodes.now) rack.new owners.new m q }
     ensures there { IfSome result (λ place. HasBench (open_clients nodes.now) rack.new owners.new n place) }
     ensures refused { IfNone result (IsRefused (open_clients nodes.now) rack.new owners.new) }
@@ -62,7 +62,7 @@ fn find_bench<G: Guest>(
     requires node { n < length nodes.now }
     requires past { HasNoPast (open_clients nodes.now) owners.old }
     ensures seating { IsSeating rack.new owners.new }
-    ensures moves { Moves (open_clients nodes.now) rack.old owners.old rack.new owners.new }
+    ensures moves { (Moves G.sound) (open_clients nodes.now) rack.old owners.old rack.new owners.new }
     ensures seated { (m q : ℕ) → m < length nodes.now → HasBench (open_clients nodes.now) rack.old owners.old m q → HasBench (open_clients nodes.now) rack.new owners.new m q }
     ensures there { IfSome result (λ place. HasBench (open_clients nodes.now) rack.new owners.new n place) }
     ensures refused { IfNone result (IsRefused (open_clients nodes.now) rack.new owners.new) }
@@ -84,7 +84,7 @@ fn bring<G: Guest>(rack: &mut Rack<G>, owners: &mut Owners<G>, from: usize, to: 
     requires seating { IsSeating rack.old owners.old }
     requires from { from < length rack.old.benches }
     requires to { to < length rack.old.benches }
-    ensures { Brings rack.old owners.old rack.new owners.new from to }
+    ensures { (Brings G.sound) rack.old owners.old rack.new owners.new from to }
 {
     rack.swap(from, to);
     owners.swap(from, to);
@@ -105,7 +105,7 @@ fn seat_one<G: Guest>(
     requires apart { AreApart (open_clients nodes.now) }
     requires lower { (m : ℕ) → m < n → HasBench (open_clients nodes.now) rack.old owners.old m m }
     ensures seating { IsSeating rack.new owners.new }
-    ensures moves { Moves (open_clients nodes.now) rack.old owners.old rack.new owners.new }
+    ensures moves { (Moves G.sound) (open_clients nodes.now) rack.old owners.old rack.new owners.new }
     ensures seated { IsTrue result → (m : ℕ) → m < n + 1 → HasBench (open_clients nodes.now) rack.new owners.new m m }
     ensures refused { IsFalse result → IsRefused (open_clients nodes.now) rack.new owners.new }
 {
@@ -125,7 +125,7 @@ fn seat_all<G: Guest>(rack: &mut Rack<G>, owners: &mut Owners<G>, nodes: &[Clien
     requires past { HasNoPast (open_clients nodes.now) owners.old }
     requires apart { AreApart (open_clients nodes.now) }
     ensures seating { IsSeating rack.new owners.new }
-    ensures moves { Moves (open_clients nodes.now) rack.old owners.old rack.new owners.new }
+    ensures moves { (Moves G.sound) (open_clients nodes.now) rack.old owners.old rack.new owners.new }
     ensures seated { IsTrue result → (m : ℕ) → m < length nodes.now → HasBench (open_clients nodes.now) rack.new owners.new m m }
     ensures refused { IsFalse result → IsRefused (open_clients nodes.now) rack.new owners.new }
 {
@@ -158,7 +158,7 @@ pub fn seat<G: Guest>(rack: &mut Rack<G>, owners: &mut Owners<G>, nodes: &[Clien
     ensures seated { IsTrue result → (n : ℕ) → n < length nodes.now → HasBench (open_clients nodes.now) rack.new owners.new n n }
     ensures kept { (birth : ℕ) (memory : MemoryValue) → memory_of rack.old owners.old birth ≡ Some memory → memory_of rack.new owners.new birth ≡ Some memory }
     ensures fresh { (birth : ℕ) (memory : MemoryValue) → memory_of rack.old owners.old birth ≡ None → memory_of rack.new owners.new birth ≡ Some memory
-        → (n : ℕ) × (n < length (open_clients nodes.now)) × ((node_at (open_clients nodes.now) n).birth ≡ birth) × (memory ≡ first owners.old.scores (node_at (open_clients nodes.now) n).kind) }
+        → (n : ℕ) × (n < length (open_clients nodes.now)) × ((node_at (open_clients nodes.now) n).birth ≡ birth) × (memory ≡ first (map G.sound owners.old.scores) (node_at (open_clients nodes.now) n).kind) }
     ensures same_bench { (p q birth : ℕ) → owner_at owners.old p ≡ Some birth → owner_at owners.new q ≡ Some birth → (bench_at rack.new q).kept ≡ (bench_at rack.old p).kept }
     ensures owners { (p birth : ℕ) → owner_at owners.new p ≡ Some birth
         → ((q : ℕ) × (owner_at owners.old q ≡ Some birth) × (kind_at rack.new p ≡ kind_at rack.old q)) ⊎ ((n : ℕ) × (n < length (open_clients nodes.now)) × ((node_at (open_clients nodes.now) n).birth ≡ birth) × (kind_at rack.new p ≡ (node_at (open_clients nodes.now) n).kind)) }

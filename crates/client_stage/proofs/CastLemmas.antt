@@ -5,7 +5,7 @@
 --     fed-seated      nothing is fed behind the clients' seating
 --     fresh-seated, others-seated      who had no bench begins anew; who has none now keeps its memory
 --     kinds-same, seats-cast, kinds-cast, periods-cast, memories-cast, unfed-cast      what a cast leaves, whether all have a bench or not
-use Rattle.std.proofs.Common.{◌≡◌, ℕ, zero, suc, ◌<◌, ◌≤◌, ◌==◌, ◌⊎◌, inl, inr, List, [], length, Option, Some, None, option_map, refl, sym, ◌∙◌, ap, subst, arith}
+use Rattle.std.proofs.Common.{◌≡◌, ℕ, zero, suc, ◌<◌, ◌≤◌, ◌==◌, ◌⊎◌, inl, inr, List, [], length, Option, Some, None, option_map, refl, sym, ◌∙◌, ap, subst, arith, map}
 use Rattle.std.specs.List.{Contains}
 use Rattle.std.specs.List.Sorted.{IsPermutation}
 use Rattle.std.proofs.lemmas.Bool.{cases_lt, eqb-true}
@@ -13,12 +13,12 @@ use Rattle.std.proofs.lemmas.List.{ext_get_or, length-map}
 use Rattle.std.proofs.Math.ListN.{get_or-map}
 use Rattle.jack_types.specs.declared.kinds.Kind.{Kind}
 use Rattle.jack_types.specs.declared.kinds.Kind.TheVariants.{Pass, Gain, Mix, Delay, Tone, Click, Meter, Tape, Guest, Midiplay, Midithru, Midilog, Disk}
-use Rattle.jack_types.specs.declared.kinds.Score.{Score}
 use Rattle.jack_types.specs.declared.ports.Client.{Client}
 use Rattle.session_model.specs.Benches.{node_at, place_in}
 use Rattle.session_model.specs.Cycles.{player_born}
-use Rattle.session_model.specs.Kinds.{Memory, first}
+use Rattle.session_model.specs.Kinds.{Memory, Sound, first}
 use Rattle.session_model.specs.State.{OpenClient}
+use Rattle.client_kinds.specs.Scores.{Score}
 use Rattle.port_registry.specs.Registered.{open_clients}
 use Rattle.port_registry.proofs.PlaceLemmas.{find-none}
 use Rattle.cycle_plan.specs.Plans.{IsPlanned, Planned, state_of_plan}
@@ -63,7 +63,7 @@ cleared-same rack clear count is_cleared others p = go (cases_lt p count)
     go (inl h) = (ap (λ (b : Seen). b.kept.standing) (is_cleared p h), ap (λ (b : Seen). b.kept.audio) (is_cleared p h))
     go (inr h) = (ap (λ (b : Seen). b.kept.standing) (others p h), ap (λ (b : Seen). b.kept.audio) (others p h))
 
-pub first-unfed : (scores : List Score) (kind : Kind) → (first scores kind).fed ≡ []
+pub first-unfed : (scores : List Sound) (kind : Kind) → (first scores kind).fed ≡ []
 first-unfed scores Pass = refl
 first-unfed scores (Gain factor shift) = refl
 first-unfed scores Mix = refl
@@ -85,22 +85,22 @@ nothing-of nodes rack owned n low no_past none =
     ∙ find-none (λ (kept : Remembered). kept.birth == (node_at nodes n).birth) owned.past (λ kept c t. no_past n kept low c (sym (eqb-true kept.birth (node_at nodes n).birth t))))
 
 -- what `seat` says, over the benches before and behind it
-module _ (nodes : List OpenClient) (rack after : Racked) (owned owned_after : Owned) (before_seating : IsSeating rack owned) (after_seating : IsSeating after owned_after) (no_past : HasNoPast nodes owned)
+module _ (sounding : Score → Sound) (nodes : List OpenClient) (rack after : Racked) (owned owned_after : Owned) (before_seating : IsSeating rack owned) (after_seating : IsSeating after owned_after) (no_past : HasNoPast nodes owned)
     (kept : (birth : ℕ) (memory : Memory) → memory_of rack owned birth ≡ Some memory → memory_of after owned_after birth ≡ Some memory)
     (fresh : (birth : ℕ) (memory : Memory) → memory_of rack owned birth ≡ None → memory_of after owned_after birth ≡ Some memory
-    → (n : ℕ) × (n < length nodes) × ((node_at nodes n).birth ≡ birth) × (memory ≡ first owned.scores (node_at nodes n).kind))
+    → (n : ℕ) × (n < length nodes) × ((node_at nodes n).birth ≡ birth) × (memory ≡ first (map sounding owned.scores) (node_at nodes n).kind))
     (same_bench : (p q birth : ℕ) → owner_at owned p ≡ Some birth → owner_at owned_after q ≡ Some birth → (bench_at after q).kept ≡ (bench_at rack p).kept)
     (owners : (p birth : ℕ) → owner_at owned_after p ≡ Some birth
     → ((q : ℕ) × (owner_at owned q ≡ Some birth) × (kind_at after p ≡ kind_at rack q)) ⊎ ((n : ℕ) × (n < length nodes) × ((node_at nodes n).birth ≡ birth) × (kind_at after p ≡ (node_at nodes n).kind))) where
-  pub fresh-seated : AreApart nodes → (n q : ℕ) → n < length nodes → owner_at owned_after q ≡ Some (node_at nodes n).birth → IsNobodys owned (node_at nodes n).birth → (standing_at after q).memory ≡ first owned.scores (node_at nodes n).kind
+  pub fresh-seated : AreApart nodes → (n q : ℕ) → n < length nodes → owner_at owned_after q ≡ Some (node_at nodes n).birth → IsNobodys owned (node_at nodes n).birth → (standing_at after q).memory ≡ first (map sounding owned.scores) (node_at nodes n).kind
   fresh-seated apart n q low owner none =
       let new = fresh (node_at nodes n).birth (standing_at after q).memory (nothing-of nodes rack owned n low no_past none) (memory-owned after owned_after after_seating q (node_at nodes n).birth owner) in
-      new.3 ∙ ap (λ k. first owned.scores (node_at nodes k).kind) (apart new.0 n new.1 low new.2)
+      new.3 ∙ ap (λ k. first (map sounding owned.scores) (node_at nodes k).kind) (apart new.0 n new.1 low new.2)
 
   fed-new : (q n : ℕ) → n < length nodes → owner_at owned_after q ≡ Some (node_at nodes n).birth → IsNobodys owned (node_at nodes n).birth → (standing_at after q).memory.fed ≡ []
   fed-new q n low owner none =
       let new = fresh (node_at nodes n).birth (standing_at after q).memory (nothing-of nodes rack owned n low no_past none) (memory-owned after owned_after after_seating q (node_at nodes n).birth owner) in
-      ap (λ (m : Memory). m.fed) new.3 ∙ first-unfed owned.scores (node_at nodes new.0).kind
+      ap (λ (m : Memory). m.fed) new.3 ∙ first-unfed (map sounding owned.scores) (node_at nodes new.0).kind
 
   pub fed-seated : ((p : ℕ) → (standing_at rack p).memory.fed ≡ []) → (p : ℕ) → (standing_at after p).memory.fed ≡ []
   fed-seated unfed p = by_owner (owner_at owned_after p) refl
@@ -207,13 +207,13 @@ module _ (rack clear seated after : Racked) (owned owned_after : Owned) (nodes :
       memory-same seated after owned_after seated_seating (seating-same seated after owned_after seated_seating after_lengths after_same) after_same birth
       ∙ kept birth memory (memory-same rack clear owned seating (seating-same rack clear owned seating clear_lengths clear_same) clear_same birth ∙ e)
 
-pub unfed-cast : (plan : Planned) (ns : List Client) → ns ≡ plan.nodes → (rack clear seated : Racked) (owned owned_after : Owned) → IsSeating rack owned → IsSeating seated owned_after → length clear.benches ≡ length rack.benches
+pub unfed-cast : (sounding : Score → Sound) (plan : Planned) (ns : List Client) → ns ≡ plan.nodes → (rack clear seated : Racked) (owned owned_after : Owned) → IsSeating rack owned → IsSeating seated owned_after → length clear.benches ≡ length rack.benches
     → ((p : ℕ) → standing_at clear p ≡ standing_at rack p) → HasNoPast (open_clients plan.nodes) owned
     → ((birth : ℕ) (memory : Memory) → memory_of clear owned birth ≡ Some memory → memory_of seated owned_after birth ≡ Some memory)
     → ((birth : ℕ) (memory : Memory) → memory_of clear owned birth ≡ None → memory_of seated owned_after birth ≡ Some memory
-    → (n : ℕ) × (n < length (open_clients ns)) × ((node_at (open_clients ns) n).birth ≡ birth) × (memory ≡ first owned.scores (node_at (open_clients ns) n).kind))
+    → (n : ℕ) × (n < length (open_clients ns)) × ((node_at (open_clients ns) n).birth ≡ birth) × (memory ≡ first (map sounding owned.scores) (node_at (open_clients ns) n).kind))
     → ((p q birth : ℕ) → owner_at owned p ≡ Some birth → owner_at owned_after q ≡ Some birth → (bench_at seated q).kept ≡ (bench_at clear p).kept)
     → OwnersFrom (open_clients ns) clear owned seated owned_after → ((p : ℕ) → (standing_at rack p).memory.fed ≡ []) → (p : ℕ) → (standing_at seated p).memory.fed ≡ []
-unfed-cast plan ns are rack clear seated owned owned_after seating seated_seating lengths same no_past kept fresh same_bench owners unfed p =
-    fed-seated (open_clients ns) clear seated owned owned_after (seating-same rack clear owned seating lengths same) seated_seating (subst (λ (xs : List Client). HasNoPast (open_clients xs) owned) (sym are) no_past)
+unfed-cast sounding plan ns are rack clear seated owned owned_after seating seated_seating lengths same no_past kept fresh same_bench owners unfed p =
+    fed-seated sounding (open_clients ns) clear seated owned owned_after (seating-same rack clear owned seating lengths same) seated_seating (subst (λ (xs : List Client). HasNoPast (open_clients xs) owned) (sym are) no_past)
     kept fresh same_bench owners (λ q. ap (λ (s : Standing). s.memory.fed) (same q) ∙ unfed q) p

@@ -7,6 +7,8 @@ use Rattle.std.proofs.Common.{◌≡◌, ◌≢◌, ℕ, ◌<◌, ◌≤◌, ◌
 use Rattle.std.specs.Prelude.{ℤ, slice_index_or}
 use Rattle.jack_types.specs.declared.moments.Moment.{Moment}
 use Rattle.session_model.specs.Samples.{below}
+use Rattle.session_model.specs.Kinds.{Sound}
+use Rattle.client_kinds.specs.Scores.{Score}
 use Rattle.session_laws.proofs.ListLemmas.{Each-below, filter-none}
 use Rattle.port_registry.specs.Registered.{open_clients}
 use Rattle.cycle_plan.specs.Plans.{Planned}
@@ -75,8 +77,8 @@ places-of old cast period places before is same other = record {
   other = λ e i. other (λ f. e (is ∙ f)) i;
 }
 
-module _ (old : Staged) (last plan : Planned) (moment : Moment) (period : ℕ) (channels : List (List ℤ)) (cast : Staged) (casts : Casts old last plan moment period cast) (by : StandsBy cast plan)
-    (places : List (Option ℕ)) (filled : Racked) (fills : Fills cast plan moment period channels places filled) (played : Racked) (performs : Performs filled plan cast.crew played)
+module _ (sounding : Score → Sound) (old : Staged) (last plan : Planned) (moment : Moment) (period : ℕ) (channels : List (List ℤ)) (cast : Staged) (casts : Casts sounding old last plan moment period cast) (by : StandsBy cast plan)
+    (places : List (Option ℕ)) (filled : Racked) (fills : Fills cast plan moment period channels places filled) (played : Racked) (performs : Performs sounding filled plan cast.crew played)
     (rooms : HasRooms plan.links played) (links : played.links ≡ cast.racked.links) (others : (p : ℕ) → cast.crew ≤ p → (bench_at cast.racked p).kept.wires ≡ [] → bench_at played p ≡ bench_at cast.racked p)
     (known : AreKnown plan played cast.owned) where
   idle-there : (p : ℕ) → cast.crew ≤ p → cleared (bench_at played p) ≡ bench_at played p
@@ -93,16 +95,16 @@ module _ (old : Staged) (last plan : Planned) (moment : Moment) (period : ℕ) (
       planned = by.planned;
       wiring = wiring ∙ casts.wiring;
       nodes = nodes;
-      seating = subst (λ r. IsSeating r new.owned) (sym rack) (subst (IsSeating played) (sym owned) (seating-played old last plan moment period channels cast casts places filled fills cast.crew played performs));
+      seating = subst (λ r. IsSeating r new.owned) (sym rack) (subst (IsSeating played) (sym owned) (seating-played sounding old last plan moment period channels cast casts places filled fills cast.crew played performs));
       known = subst (λ r. AreKnown plan r new.owned) (sym rack) (subst (AreKnown plan played) (sym owned) known);
-      periods = subst (HavePeriod new.racked) (sym room) (subst (λ r. HavePeriod r cast.room) (sym rack) (periods-played old last plan moment period channels cast casts places filled fills cast.crew played performs));
-      unfed = λ p. ap (λ (r : Racked). (standing_at r p).memory.fed) rack ∙ unfed-played old last plan moment period channels cast casts places filled fills cast.crew played performs p;
-      unused = λ p h. ap (λ (r : Racked). (bench_at r p).kept.turn) rack ∙ idle-played old last plan moment period channels cast casts places filled fills cast.crew played performs p h;
+      periods = subst (HavePeriod new.racked) (sym room) (subst (λ r. HavePeriod r cast.room) (sym rack) (periods-played sounding old last plan moment period channels cast casts places filled fills cast.crew played performs));
+      unfed = λ p. ap (λ (r : Racked). (standing_at r p).memory.fed) rack ∙ unfed-played sounding old last plan moment period channels cast casts places filled fills cast.crew played performs p;
+      unused = λ p h. ap (λ (r : Racked). (bench_at r p).kept.turn) rack ∙ idle-played sounding old last plan moment period channels cast casts places filled fills cast.crew played performs p h;
       idle = λ p h. subst (λ (r : Racked). cleared (bench_at r p) ≡ bench_at r p) (sym rack) (idle-there p (omega (arith, h, crew)));
       crew = crew ∙ by.crew ∙ ap (λ n. min n 64) (sym (ap (λ (r : Racked). length r.benches) rack ∙ lengths-there));
       links = subst (λ n. EnoughLinks n new.racked.links) (sym crew) (subst (EnoughLinks cast.crew) (sym (ap (λ (r : Racked). r.links) rack ∙ links)) by.links);
       room = subst (λ n. n ≤ 4096) (sym room) by.room;
       refused = λ e. absurd (true≢false (sym is_staffed ∙ e));
     };
-    staffed = λ e. staffed-played old last plan moment period channels cast casts places filled fills cast.crew played performs rooms new rack owned (wiring ∙ casts.wiring) same_period (ap open_clients nodes);
+    staffed = λ e. staffed-played sounding old last plan moment period channels cast casts places filled fills cast.crew played performs rooms new rack owned (wiring ∙ casts.wiring) same_period (ap open_clients nodes);
   }

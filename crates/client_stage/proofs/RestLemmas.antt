@@ -2,11 +2,12 @@
 --     fresh-cast      who is new behind a cast
 --     stands-rested      the stage stands yet where its benches rest
 --     recalls-rested      and each client remembers what it did
-use Rattle.std.proofs.Common.{◌≡◌, ℕ, ◌<◌, List, length, min, Some, None, refl, sym, ◌∙◌, ap, subst, arith}
+use Rattle.std.proofs.Common.{◌≡◌, ℕ, ◌<◌, List, length, min, Some, None, refl, sym, ◌∙◌, ap, subst, arith, map}
 use Rattle.jack_types.specs.declared.ports.Client.{Client}
 use Rattle.session_model.specs.Benches.{node_at}
-use Rattle.session_model.specs.Kinds.{Memory, first}
+use Rattle.session_model.specs.Kinds.{Memory, Sound, first}
 use Rattle.session_model.specs.State.{OpenClient}
+use Rattle.client_kinds.specs.Scores.{Score}
 use Rattle.port_registry.specs.Registered.{open_clients}
 use Rattle.cycle_plan.specs.Plans.{Planned}
 use Rattle.client_kinds.specs.Standings.{Standing}
@@ -23,18 +24,18 @@ use Rattle.client_stage.specs.Resting.{AreAtRest, IsNew, Recalls}
 use Rattle.client_stage.proofs.CastLemmas.{seating-same}
 
 -- what `seat` says of who is new, as a cast says it
-pub fresh-cast : (plan : Planned) (ns : List Client) → ns ≡ plan.nodes → (rack clear seated : Racked) (owned owned_after : Owned) → IsSeating rack owned → length clear.benches ≡ length rack.benches
+pub fresh-cast : (sounding : Score → Sound) (plan : Planned) (ns : List Client) → ns ≡ plan.nodes → (rack clear seated : Racked) (owned owned_after : Owned) → IsSeating rack owned → length clear.benches ≡ length rack.benches
     → ((p : ℕ) → standing_at clear p ≡ standing_at rack p)
     → ((birth : ℕ) (memory : Memory) → memory_of clear owned birth ≡ None → memory_of seated owned_after birth ≡ Some memory
-    → (n : ℕ) × (n < length (open_clients ns)) × ((node_at (open_clients ns) n).birth ≡ birth) × (memory ≡ first owned.scores (node_at (open_clients ns) n).kind))
-    → (birth : ℕ) (memory : Memory) → memory_of rack owned birth ≡ None → memory_of seated owned_after birth ≡ Some memory → IsNew plan owned.scores birth memory
-fresh-cast plan ns are rack clear seated owned owned_after seating lengths same fresh birth memory none some =
+    → (n : ℕ) × (n < length (open_clients ns)) × ((node_at (open_clients ns) n).birth ≡ birth) × (memory ≡ first (map sounding owned.scores) (node_at (open_clients ns) n).kind))
+    → (birth : ℕ) (memory : Memory) → memory_of rack owned birth ≡ None → memory_of seated owned_after birth ≡ Some memory → IsNew plan (map sounding owned.scores) birth memory
+fresh-cast sounding plan ns are rack clear seated owned owned_after seating lengths same fresh birth memory none some =
     let new = fresh birth memory (memory-same rack clear owned seating (seating-same rack clear owned seating lengths same) same birth ∙ none) some in
     record {
       n = new.0;
       node = subst (λ (xs : List Client). new.0 < length xs) are (within_open ns new.0 new.1);
       client = subst (λ (xs : List Client). (node_at (open_clients xs) new.0).birth ≡ birth) are new.2;
-      first_is = subst (λ (xs : List Client). memory ≡ first owned.scores (node_at (open_clients xs) new.0).kind) are new.3;
+      first_is = subst (λ (xs : List Client). memory ≡ first (map sounding owned.scores) (node_at (open_clients xs) new.0).kind) are new.3;
     }
 
 -- benches of the same kinds, as many
@@ -51,8 +52,8 @@ module _ (rack after : Racked) (rests : (p : ℕ) → bench_at after p ≡ reste
   pub all-rested : AreAtRest after
   all-rested p = subst (λ (b : Seen). rested b ≡ b) (sym (rests p)) refl
 
-  pub recalls-rested : (plan : Planned) (before : Racked) (owned owned_after : Owned) → IsSeating rack owned_after → Recalls plan before owned rack owned_after → Recalls plan before owned after owned_after
-  recalls-rested plan before owned owned_after seating recalls = record {
+  pub recalls-rested : (sounding : Score → Sound) (plan : Planned) (before : Racked) (owned owned_after : Owned) → IsSeating rack owned_after → Recalls sounding plan before owned rack owned_after → Recalls sounding plan before owned after owned_after
+  recalls-rested sounding plan before owned owned_after seating recalls = record {
     kept = λ birth memory e. same birth ∙ recalls.kept birth memory e;
     fresh = λ birth memory none e. recalls.fresh birth memory none (sym (same birth) ∙ e);
   }

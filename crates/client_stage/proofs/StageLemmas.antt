@@ -6,6 +6,8 @@ use Rattle.std.proofs.Common.{◌≡◌, ◌≢◌, ℕ, ◌≤◌, true, false,
 use Rattle.std.specs.Prelude.{ℤ, slice_index_or}
 use Rattle.std.specs.List.Sorted.{IsPermutation}
 use Rattle.jack_types.specs.declared.moments.Moment.{Moment}
+use Rattle.session_model.specs.Kinds.{Sound}
+use Rattle.client_kinds.specs.Scores.{Score}
 use Rattle.cycle_plan.specs.Plans.{Planned}
 use Rattle.client_wiring.specs.Wirings.{Wired, wired_of}
 use Rattle.bench_rack.specs.Racks.{Racked, bench_at}
@@ -20,7 +22,7 @@ use Rattle.client_stage.specs.declared.parts.Parts.{Parts}
 use Rattle.client_stage.proofs.PlayLemmas.{places-of, stands-moved, stands-played, stands-refused}
 use Rattle.client_stage.proofs.TurnLemmas.{few-seated}
 
-module _ {G : Type 0} (parts turned moved : Parts G) (crew period : ℕ) (last plan : Planned) (moment : Moment)
+module _ (sounding : Score → Sound) {G : Type 0} (parts turned moved : Parts G) (crew period : ℕ) (last plan : Planned) (moment : Moment)
     (by : StandsBy (staged_by turned crew plan.nodes) plan)
     (rest : moved ≡ record turned { last = moved.last; period = period }) where
   abbrev cast : Staged
@@ -47,8 +49,8 @@ module _ {G : Type 0} (parts turned moved : Parts G) (crew period : ℕ) (last p
   pub refused-moved_on : moved.is_staffed ≡ false → StandsOn (staged_by moved crew plan.nodes) plan
   refused-moved_on e = stands-refused (staged_by moved crew plan.nodes) plan stands-moved_on e
 
-  module _ (casts : turned.is_staffed ≡ true → Casts (staged_by parts crew last.nodes) last plan moment period cast) (is_staffed : moved.is_staffed ≡ true) where
-    pub the-cast : Casts (staged_by parts crew last.nodes) last plan moment period cast
+  module _ (casts : turned.is_staffed ≡ true → Casts sounding (staged_by parts crew last.nodes) last plan moment period cast) (is_staffed : moved.is_staffed ≡ true) where
+    pub the-cast : Casts sounding (staged_by parts crew last.nodes) last plan moment period cast
     the-cast = casts (sym staffed-same ∙ is_staffed)
 
     pub few-there : length plan.nodes ≤ crew
@@ -65,13 +67,13 @@ module _ {G : Type 0} (parts turned moved : Parts G) (crew period : ℕ) (last p
         → ArePlaces (staged_by parts crew last.nodes) cast period moved.last.items
     places-there kept same other = places-of (staged_by parts crew last.nodes) cast period moved.last.items turned.period (sym kept) (λ e. ap (λ v. v.items) (same e)) other
 
-    module _ (channels : List (List ℤ)) (filled played : Racked) (fills : Fills cast plan moment period channels moved.last.items filled) (performs : Performs filled plan crew played) where
+    module _ (channels : List (List ℤ)) (filled played : Racked) (fills : Fills cast plan moment period channels moved.last.items filled) (performs : Performs sounding filled plan crew played) where
       pub kinds-behind : kinds_of played ≡ kinds_of turned.rack → IsPermutation (kinds_of parts.rack) (kinds_of turned.rack) → IsPermutation (kinds_of parts.rack) (kinds_of played)
       kinds-behind kinds moved_kinds = subst (IsPermutation (kinds_of parts.rack)) (sym kinds) moved_kinds
 
       pub stands-behind : AreKnown plan played turned.owners → HasRooms plan.links played → played.links ≡ moved.rack.links
           → ((p : ℕ) → crew ≤ p → (bench_at moved.rack p).kept.wires ≡ [] → bench_at played p ≡ bench_at moved.rack p) → StandsOn (staged_by (record moved { rack = played }) crew plan.nodes) plan
       stands-behind known rooms links others =
-          stands-played (staged_by parts crew last.nodes) last plan moment period channels cast the-cast by moved.last.items filled fills played performs rooms (links ∙ ap (λ (r : Racked). r.links) rack-same)
+          stands-played sounding (staged_by parts crew last.nodes) last plan moment period channels cast the-cast by moved.last.items filled fills played performs rooms (links ∙ ap (λ (r : Racked). r.links) rack-same)
           (λ p h none. others p h (ap (λ (r : Racked). (bench_at r p).kept.wires) rack-same ∙ none) ∙ ap (λ (r : Racked). bench_at r p) rack-same) known
           (staged_by (record moved { rack = played }) crew plan.nodes) refl owners-same refl room-same wiring-same refl (ap (λ p. p.period) rest) is_staffed

@@ -6,12 +6,14 @@
 --     stands-still      where nobody plays
 --     links-fit, nodes-staffed, may-go-on      what the steps of a turn ask for
 --     moved-standings      who goes on stays who it is
-use Rattle.std.proofs.Common.{◌≡◌, ℕ, ◌+◌, ◌*◌, ◌^◌, ◌<◌, ◌≤◌, ◌⊎◌, inl, inr, Bool, true, false, List, [], length, min, take, ℤ, Some, None, refl, sym, ◌∙◌, ap, subst, arith, true≢false}
+use Rattle.std.proofs.Common.{◌≡◌, ℕ, ◌+◌, ◌*◌, ◌^◌, ◌<◌, ◌≤◌, ◌⊎◌, inl, inr, Bool, true, false, [], length, min, take, Some, None, refl, sym, ◌∙◌, ap, subst, arith, true≢false}
 use Rattle.std.proofs.Math.Nat.{le-min}
 use Rattle.std.proofs.Math.Seq.{take-length}
 use Rattle.std.proofs.lemmas.Bool.{cases_lt}
 use Rattle.std.proofs.lemmas.List.{length-map}
 use Rattle.jack_types.specs.declared.moments.Moment.{Moment}
+use Rattle.session_model.specs.Kinds.{Sound}
+use Rattle.client_kinds.specs.Scores.{Score}
 use Rattle.graph_word.specs.Publications.{IsFront}
 use Rattle.port_registry.specs.Registered.{open_client, open_clients}
 use Rattle.cycle_plan.specs.Plans.{IsPlanned, Planned}
@@ -38,7 +40,7 @@ few-seated plan rack owned seating has few = le-min (nodes-within plan rack owne
 pub same-changes : (last plan : Planned) → IsFront last.changes plan.changes → length plan.changes ≡ length last.changes → plan.changes ≡ last.changes
 same-changes last plan front many = sym (take-length plan.changes) ∙ ap (λ n. take n plan.changes) many ∙ sym front
 
-module _ (old new : Staged) (last plan : Planned) (on : StandsOn old last) (goes : GoesOn last plan) (known : AreKnown plan new.racked new.owned)
+module _ (sounding : Score → Sound) (old new : Staged) (last plan : Planned) (on : StandsOn old last) (goes : GoesOn last plan) (known : AreKnown plan new.racked new.owned)
     (crew : new.crew ≡ old.crew) (room : new.room ≡ old.room) (nodes : new.nodes ≡ plan.nodes) (lengths : length new.racked.benches ≡ length old.racked.benches) (links : new.racked.links ≡ old.racked.links) where
   crew-new : new.crew ≡ min (length new.racked.benches) 64
   crew-new = crew ∙ on.stands.crew ∙ ap (λ n. min n 64) (sym lengths)
@@ -50,7 +52,7 @@ module _ (old new : Staged) (last plan : Planned) (on : StandsOn old last) (goes
   room-new = subst (λ n. n ≤ 4096) (sym room) on.stands.room
 
   module _ (moment : Moment) (period : ℕ) (refused : new.is_staffed ≡ false → IsIdle new.racked × IsRefused (open_clients plan.nodes) new.racked new.owned)
-      (cast : new.is_staffed ≡ true → HasCast old.racked old.owned new.racked new.owned plan moment period) (seating : IsSeating new.racked new.owned)
+      (cast : new.is_staffed ≡ true → HasCast sounding old.racked old.owned new.racked new.owned plan moment period) (seating : IsSeating new.racked new.owned)
       (periods : HavePeriod new.racked old.room) (unfed : (p : ℕ) → (standing_at new.racked p).memory.fed ≡ []) (wiring : new.wiring ≡ wired_of plan) where
     unused-anew : (p : ℕ) → length plan.nodes ≤ p → (bench_at new.racked p).kept.turn ≡ None
     unused-anew p h = go new.is_staffed refl
@@ -86,7 +88,7 @@ module _ (old new : Staged) (last plan : Planned) (on : StandsOn old last) (goes
       refused = λ e. (refused e).1;
     }
 
-  module _ (moment : Moment) (period : ℕ) (is_staffed : new.is_staffed ≡ true) (casts : Casts old last plan moment period new) (going : GoesOnIn old last moment period new) (many : length plan.nodes ≡ length last.nodes) where
+  module _ (moment : Moment) (period : ℕ) (is_staffed : new.is_staffed ≡ true) (casts : Casts sounding old last plan moment period new) (going : GoesOnIn old last moment period new) (many : length plan.nodes ≡ length last.nodes) where
     few-on : length plan.nodes ≤ new.crew
     few-on = subst (λ k. length plan.nodes ≤ k) (sym crew-new) (few-seated plan new.racked new.owned casts.seating casts.has casts.joints.few_nodes)
 
@@ -116,7 +118,7 @@ module _ (old new : Staged) (last plan : Planned) (on : StandsOn old last) (goes
   -- the same plan again, of which not each client has a bench
   module _ (changes : plan.changes ≡ last.changes) (rack : new.racked ≡ old.racked) (owned : new.owned ≡ old.owned) (wiring : new.wiring ≡ old.wiring) (staffed : new.is_staffed ≡ old.is_staffed) where
     nodes-still : open_clients plan.nodes ≡ open_clients last.nodes
-    nodes-still = same-nodes last plan goes.planned_last goes.planned goes.base changes
+    nodes-still = same-nodes sounding last plan goes.planned_last goes.planned goes.base changes
 
     many-still : length plan.nodes ≡ length last.nodes
     many-still = sym (length-map plan.nodes open_client) ∙ ap length nodes-still ∙ length-map last.nodes open_client
@@ -124,7 +126,7 @@ module _ (old new : Staged) (last plan : Planned) (on : StandsOn old last) (goes
     pub stands-still : StandsBy new plan
     stands-still = record {
       planned = goes.planned;
-      wiring = wiring ∙ on.stands.wiring ∙ sym (same-wiring last plan goes.planned_last goes.planned goes.base changes);
+      wiring = wiring ∙ on.stands.wiring ∙ sym (same-wiring sounding last plan goes.planned_last goes.planned goes.base changes);
       nodes = nodes;
       seating = subst (λ r. IsSeating r new.owned) (sym rack) (subst (IsSeating old.racked) (sym owned) on.stands.seating);
       known = known;
@@ -151,9 +153,9 @@ pub nodes-staffed : (staged : Staged) (plan : Planned) → StandsOn staged plan 
 nodes-staffed staged plan on is_staffed = nodes-within plan staged.racked staged.owned on.stands.seating (on.staffed is_staffed).has
 
 -- a client that played may go on
-pub may-go-on : (staged : Staged) (last plan : Planned) → GoesOn last plan → plan.changes ≡ last.changes → length plan.network.set.edges ≤ 512 → (on : StandsOn staged last) → staged.is_staffed ≡ true → (moment : Moment) (period : ℕ) → 8000 ≤ moment.rate
+pub may-go-on : (sounding : Score → Sound) (staged : Staged) (last plan : Planned) → GoesOn last plan → plan.changes ≡ last.changes → length plan.network.set.edges ≤ 512 → (on : StandsOn staged last) → staged.is_staffed ≡ true → (moment : Moment) (period : ℕ) → 8000 ≤ moment.rate
     → moment.frame + period < 2 ^ 32 → period ≤ staged.room → (n : ℕ) → n < length last.nodes → (turn : Stint) → (bench_at staged.racked n).kept.turn ≡ Some turn → MayPlay (standing_at staged.racked n) (moved_to moment period turn)
-may-go-on staged last plan goes changes few_edges on is_staffed moment period rate frames within n low turn e = record {
+may-go-on sounding staged last plan goes changes few_edges on is_staffed moment period rate frames within n low turn e = record {
   guest = ((on.staffed is_staffed).has n low).guest;
   rate = rate;
   frames = frames;
@@ -169,10 +171,10 @@ may-go-on staged last plan goes changes few_edges on is_staffed moment period ra
     turn_is = some_is (sym ((on.staffed is_staffed).set n low).turn ∙ e)
 
     wired_is : wired_of plan ≡ staged.wiring
-    wired_is = same-wiring last plan goes.planned_last goes.planned goes.base changes ∙ sym on.stands.wiring
+    wired_is = same-wiring sounding last plan goes.planned_last goes.planned goes.base changes ∙ sym on.stands.wiring
 
     low_now : n < length plan.nodes
-    low_now = let many = ap length (same-nodes last plan goes.planned_last goes.planned goes.base changes) in omega (arith, low, many, length-map plan.nodes open_client, length-map last.nodes open_client)
+    low_now = let many = ap length (same-nodes sounding last plan goes.planned_last goes.planned goes.base changes) in omega (arith, low, many, length-map plan.nodes open_client, length-map last.nodes open_client)
 
 pub moved-standings : (rack after : Racked) (count : ℕ) (moment : Moment) (period : ℕ) → ((n : ℕ) → n < count → bench_at after n ≡ moved moment period (bench_at rack n)) → ((n : ℕ) → count ≤ n → bench_at after n ≡ bench_at rack n)
     → (p : ℕ) → standing_at after p ≡ standing_at rack p

@@ -44,14 +44,14 @@ pub fn cast<G: Guest>(
     requires rate { 8000 ≤ moment.now.rate }
     requires frames { moment.now.frame + period < 2 ^ 32 }
     ensures refused { IsFalse result → IsIdle rack.new × IsRefused (open_clients plan.now.nodes) rack.new owners.new }
-    ensures cast { IsTrue result → HasCast rack.old owners.old rack.new owners.new plan.now moment.now period }
+    ensures cast { IsTrue result → HasCast G.sound rack.old owners.old rack.new owners.new plan.now moment.now period }
     ensures seating { IsSeating rack.new owners.new }
     ensures seats { SeatsPlan plan.now rack.old owners.old rack.new owners.new }
     ensures kinds { IsPermutation (kinds_of rack.old) (kinds_of rack.new) }
     ensures periods { (room : ℕ) → HavePeriod rack.old room → HavePeriod rack.new room }
     ensures unfed { (p : ℕ) → (standing_at rack.new p).memory.fed ≡ [] }
     ensures kept { (birth : ℕ) (memory : MemoryValue) → memory_of rack.old owners.old birth ≡ Some memory → memory_of rack.new owners.new birth ≡ Some memory }
-    ensures recalls { IsFalse result → Recalls plan.now rack.old owners.old rack.new owners.new }
+    ensures recalls { IsFalse result → Recalls G.sound plan.now rack.old owners.old rack.new owners.new }
     ensures scores { owners.new.scores ≡ owners.old.scores }
     ensures lengths { length rack.new.benches ≡ length rack.old.benches }
     ensures links { rack.new.links ≡ rack.old.links }

@@ -20,7 +20,7 @@ use device_periods::Capture;
 use jack_host::{Gate, Source};
 use std::thread::Threads;
 
-/// What a cycle of so many frames has to play.
+/// What a cycle of so many frames has to play. What its guests have beyond other clients, the crew adds.
 fn load_of(plan: &Plan, frames: usize) -> Load
     requires frames { frames ≤ 4096 }
     ensures clients { result.clients ≡ length plan.now.nodes }
@@ -61,7 +61,7 @@ pub fn perform<G: Guest + Send, S: Source, T: Threads + Sync, K: Gate>(
     ensures crew { ensemble.new ≡ ensemble.old }
     ensures performed { (cast : Staged) (moment : MomentValue) (period : ℕ) (sources : ℕ → List ℤ) → cast.racked ≡ rack.old → silence.now ≡ silent period
         → AreSet (wired_of plan.now) plan.now.links moment period sources (length plan.now.nodes) rack.old → ((p : ℕ) → length plan.now.nodes ≤ p → (bench_at rack.old p).kept.turn ≡ None)
-        → (filled : Racked) × Fills cast plan.now moment period capture.now.channels places.now filled × Performs filled plan.now ensemble.old.nodes rack.new }
+        → (filled : Racked) × Fills cast plan.now moment period capture.now.channels places.now filled × Performs G.sound filled plan.now ensemble.old.nodes rack.new }
     ensures others { (p : ℕ) → ensemble.old.nodes ≤ p → (bench_at rack.old p).kept.wires ≡ [] → bench_at rack.new p ≡ bench_at rack.old p }
     ensures rooms { HasRooms plan.now.links rack.new }
     ensures links { rack.new.links ≡ rack.old.links }

@@ -13,7 +13,7 @@ use stage_laws::stages::{a_stage_plays_its_plan, a_stage_stands_behind_its_cycle
 use std::thread::Threads;
 
 impl<G: Guest + Send> Stage<G> {
-    ghost use Rattle.std.specs.Prelude.{◌≡◌, ◌<◌, ◌≤◌, ◌+◌, ◌^◌, ℕ, [], List, false, length, true};
+    ghost use Rattle.std.specs.Prelude.{◌≡◌, ◌<◌, ◌≤◌, ◌+◌, ◌^◌, ℕ, [], List, false, length, true, map};
     ghost use Rattle.std.specs.List.Sorted.{IsPermutation};
     ghost use Rattle.graph_word.specs.Publications.{IsFront};
     ghost use Rattle.session_model.specs.Benches.{node_at};
@@ -51,10 +51,10 @@ impl<G: Guest + Send> Stage<G> {
         ensures plan { self.new.plan ≡ plan.now }
         ensures period { self.new.staged.period ≡ period }
         ensures stands { StandsOn self.new.staged self.new.plan }
-        ensures plays { (course : Course) (at : Settled) → self.old.staged.is_staffed ≡ true → result ≡ true → IsSettledOn self.old.staged self.old.plan plan.now moment.now period capture.now.channels at → course.scores ≡ self.old.staged.owned.scores
+        ensures plays { (course : Course) (at : Settled) → self.old.staged.is_staffed ≡ true → result ≡ true → IsSettledOn G.sound self.old.staged self.old.plan plan.now moment.now period capture.now.channels at → course.scores ≡ map G.sound self.old.staged.owned.scores
             → HasNoEvents at → length capture.now.channels ≡ length (audio_outputs (state_of_plan plan.now) system_name)
-            → ((n : ℕ) → n < length plan.now.nodes → IsOldKind (node_at (open_clients plan.now.nodes) n).kind) → PlaysPlan course self.old.staged plan.now at self.new.staged }
-        ensures rests { result ≡ false → Rests plan.now self.old.staged self.new.staged }
+            → ((n : ℕ) → n < length plan.now.nodes → IsOldKind (node_at (open_clients plan.now.nodes) n).kind) → PlaysPlan G.sound course self.old.staged plan.now at self.new.staged }
+        ensures rests { result ≡ false → Rests G.sound plan.now self.old.staged self.new.staged }
         ensures kinds { IsPermutation (kinds_of self.old.staged.racked) (kinds_of self.new.staged.racked) }
         ensures scores { self.new.staged.owned.scores ≡ self.old.staged.owned.scores }
         ensures room { self.new.staged.room ≡ self.old.staged.room }

@@ -46,9 +46,9 @@ fn cast_anew<G: Guest>(parts: &mut Parts<G>, crew: usize, plan: &Plan, moment: &
     requires rate { 8000 ≤ moment.now.rate }
     requires frames { moment.now.frame + period < 2 ^ 32 }
     ensures refused { parts.new.is_staffed ≡ false → IsIdle parts.new.rack × IsRefused (open_clients plan.now.nodes) parts.new.rack parts.new.owners }
-    ensures cast { parts.new.is_staffed ≡ true → HasCast parts.old.rack parts.old.owners parts.new.rack parts.new.owners plan.now moment.now period }
+    ensures cast { parts.new.is_staffed ≡ true → HasCast G.sound parts.old.rack parts.old.owners parts.new.rack parts.new.owners plan.now moment.now period }
     ensures seating { IsSeating parts.new.rack parts.new.owners }
-    ensures recalls { parts.new.is_staffed ≡ false → Recalls plan.now parts.old.rack parts.old.owners parts.new.rack parts.new.owners }
+    ensures recalls { parts.new.is_staffed ≡ false → Recalls G.sound plan.now parts.old.rack parts.old.owners parts.new.rack parts.new.owners }
     ensures seats { SeatsPlan plan.now parts.old.rack parts.old.owners parts.new.rack parts.new.owners }
     ensures kinds { IsPermutation (kinds_of parts.old.rack) (kinds_of parts.new.rack) }
     ensures periods { HavePeriod parts.new.rack parts.old.room }
@@ -108,8 +108,8 @@ fn recast<G: Guest>(parts: &mut Parts<G>, crew: usize, plan: &Plan, moment: &Mom
     requires stands { (last : Planned) × StandsOn (staged_by parts.old crew last.nodes) last × GoesOn last plan.now × (parts.old.number ≡ length last.changes) }
     ensures stands { (last : Planned) → StandsOn (staged_by parts.old crew last.nodes) last → GoesOn last plan.now → parts.old.number ≡ length last.changes → StandsBy (staged_by parts.new crew plan.now.nodes) plan.now }
     ensures cast { (last : Planned) → StandsOn (staged_by parts.old crew last.nodes) last → GoesOn last plan.now → parts.old.number ≡ length last.changes → parts.new.is_staffed ≡ true
-        → Casts (staged_by parts.old crew last.nodes) last plan.now moment.now period (staged_by parts.new crew plan.now.nodes) }
-    ensures recalls { parts.new.is_staffed ≡ false → Recalls plan.now parts.old.rack parts.old.owners parts.new.rack parts.new.owners }
+        → Casts G.sound (staged_by parts.old crew last.nodes) last plan.now moment.now period (staged_by parts.new crew plan.now.nodes) }
+    ensures recalls { parts.new.is_staffed ≡ false → Recalls G.sound plan.now parts.old.rack parts.old.owners parts.new.rack parts.new.owners }
     ensures kinds { IsPermutation (kinds_of parts.old.rack) (kinds_of parts.new.rack) }
     ensures scores { parts.new.owners.scores ≡ parts.old.owners.scores }
     ensures heard { length parts.old.wiring.heard ≤ 512 → length parts.new.wiring.heard ≤ 512 }
@@ -147,9 +147,9 @@ pub(crate) fn turn_to<G: Guest>(
     requires stands { (last : Planned) × StandsOn (staged_by parts.old crew last.nodes) last × GoesOn last plan.now × (parts.old.number ≡ length last.changes) }
     ensures stands { (last : Planned) → StandsOn (staged_by parts.old crew last.nodes) last → GoesOn last plan.now → parts.old.number ≡ length last.changes → StandsBy (staged_by parts.new crew plan.now.nodes) plan.now }
     ensures cast { (last : Planned) → StandsOn (staged_by parts.old crew last.nodes) last → GoesOn last plan.now → parts.old.number ≡ length last.changes → parts.new.is_staffed ≡ true
-        → Casts (staged_by parts.old crew last.nodes) last plan.now moment.now period (staged_by parts.new crew plan.now.nodes) }
+        → Casts G.sound (staged_by parts.old crew last.nodes) last plan.now moment.now period (staged_by parts.new crew plan.now.nodes) }
     ensures rest { parts.new.is_staffed ≡ false → AreAtRest parts.new.rack }
-    ensures recalls { parts.new.is_staffed ≡ false → Recalls plan.now parts.old.rack parts.old.owners parts.new.rack parts.new.owners }
+    ensures recalls { parts.new.is_staffed ≡ false → Recalls G.sound plan.now parts.old.rack parts.old.owners parts.new.rack parts.new.owners }
     ensures kinds { IsPermutation (kinds_of parts.old.rack) (kinds_of parts.new.rack) }
     ensures scores { parts.new.owners.scores ≡ parts.old.owners.scores }
     ensures heard { length parts.old.wiring.heard ≤ 512 → length parts.new.wiring.heard ≤ 512 }

@@ -33,10 +33,10 @@ impl<S: Source, W: Store, G: Guest + Send> Driver<S, W, G> {
         gate: &K,
         freewheel: bool,
     ) -> Result<(), CycleFault>
-        requires { MayCycle (driver_of self.old) freewheel }
-        ensures ok { IfOk result (λ _. CyclesOnce (driver_of self.old) (driver_of self.new)) }
-        ensures read { IsErrOf result CycleFault.Read → FailsAtRead (driver_of self.old) (driver_of self.new) }
-        ensures write { IsErrOf result CycleFault.Write → FailsAtWrite (driver_of self.old) (driver_of self.new) }
+        requires { MayCycle (driver_of G.sound self.old) freewheel }
+        ensures ok { IfOk result (λ _. CyclesOnce (driver_of G.sound self.old) (driver_of G.sound self.new)) }
+        ensures read { IsErrOf result CycleFault.Read → FailsAtRead (driver_of G.sound self.old) (driver_of G.sound self.new) }
+        ensures write { IsErrOf result CycleFault.Write → FailsAtWrite (driver_of G.sound self.old) (driver_of G.sound self.new) }
         ensures read_cause { IsErrOf result CycleFault.Read → Rose self.old.capture.reading.faults self.new.capture.reading.faults }
         ensures write_cause { IsErrOf result CycleFault.Write → (file : Tape) × (after : Tape) × (self.old.playback ≡ Some file) × (self.new.playback ≡ Some after) × SameFile file after × Rose file.faults after.faults }
         ensures capture { SameReading self.old.capture.reading self.new.capture.reading }

@@ -28,5 +28,5 @@ impl<S: Source, W: Store, G: Guest> Model for Driver<S, W, G> {
 
     ghost view = { seen_of };
 
-    ghost invariant = { IsWhole };
+    ghost invariant = { IsWhole G.sound };
 }

@@ -78,7 +78,7 @@ impl<S: Source, W: Store, G: Guest> Driver<S, W, G> {
 
     /// The peak of the meter that the change of this number opened, over the cycles run; 0 for every other number.
     pub fn peak(&self, birth: u32) -> u32
-        ensures { result ≡ peak_in (driver_of self.now) birth }
+        ensures { result ≡ peak_in (driver_of G.sound self.now) birth }
     {
         self.works.peak(birth)
     }

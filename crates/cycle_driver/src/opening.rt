@@ -81,7 +81,7 @@ impl<S: Source, W: Store, G: Guest> Driver<S, W, G> {
         requires rows { reader.0.rows ≡ [] }
         requires capture { (capture.format.channels ≡ script.now.header.capture) × (capture.failed ≡ false) }
         requires guests { guests_needed script.now ≤ length guests.items }
-        ensures new { IfOk result (λ driver. IsNew script.now (map G.score guests.items) (driver_of driver)) }
+        ensures new { IfOk result (λ driver. IsNew script.now (map G.sound (map G.score guests.items)) (driver_of G.sound driver)) }
         ensures capture { IfOk result (λ driver. driver.capture.reading ≡ capture) }
         ensures reader { IfOk result (λ driver. driver.reading ≡ reader.0) }
         ensures rings { IfOk result (λ driver. AreNew script.now.header.recorders script.now.header.ring (greatest_period script.now) (length (turns script.now) * length script.now.header.recorders) driver.rings) }

@@ -28,15 +28,15 @@ pub fn run_cycles<S: Source, W: Store, G: Guest + Send, T: Threads + Sync, K: Ga
     freewheel: bool,
 ) -> Result<(), CycleFault>
     requires many { length driver.old.rings.rings ≡ recorders }
-    requires next { AreNext cycles freewheel (driver_of driver.old) }
-    requires going { IsGoing (driver_of driver.old) }
-    ensures ok { OnOk result (CyclesMany cycles (driver_of driver.old) (driver_of driver.new)) }
-    ensures going { OnOk result (IsGoing (driver_of driver.new)) }
-    ensures read { IsErrOf result CycleFault.Read → RunsInto FailsAtRead cycles (driver_of driver.old) (driver_of driver.new) }
-    ensures write { IsErrOf result CycleFault.Write → RunsInto BreaksAtWrite cycles (driver_of driver.old) (driver_of driver.new) }
+    requires next { AreNext cycles freewheel (driver_of G.sound driver.old) }
+    requires going { IsGoing (driver_of G.sound driver.old) }
+    ensures ok { OnOk result (CyclesMany cycles (driver_of G.sound driver.old) (driver_of G.sound driver.new)) }
+    ensures going { OnOk result (IsGoing (driver_of G.sound driver.new)) }
+    ensures read { IsErrOf result CycleFault.Read → RunsInto FailsAtRead cycles (driver_of G.sound driver.old) (driver_of G.sound driver.new) }
+    ensures write { IsErrOf result CycleFault.Write → RunsInto BreaksAtWrite cycles (driver_of G.sound driver.old) (driver_of G.sound driver.new) }
     ensures read_cause { IsErrOf result CycleFault.Read → Rose driver.old.capture.reading.faults driver.new.capture.reading.faults }
     ensures write_cause { IsErrOf result CycleFault.Write → (tape after : Tape) → driver.old.playback ≡ Some tape → driver.new.playback ≡ Some after → Rose tape.faults after.faults }
-    ensures stays { StaysInRun (driver_of driver.old) (driver_of driver.new) }
+    ensures stays { StaysInRun (driver_of G.sound driver.old) (driver_of G.sound driver.new) }
     ensures capture { SameReading driver.old.capture.reading driver.new.capture.reading }
 {
     let mut rest = 0;

@@ -8,6 +8,8 @@ use Rattle.jack_types.specs.declared.files.Format.{Format}
 use Rattle.jack_types.specs.declared.kinds.Kind.{Kind}
 use Rattle.jack_types.specs.declared.moments.Moment.{Moment}
 use Rattle.session_model.specs.Scripts.{Script, turns}
+use Rattle.session_model.specs.Kinds.{Sound}
+use Rattle.client_kinds.specs.Scores.{Score}
 use Rattle.port_registry.specs.Registered.{open_clients}
 use Rattle.graph_word.specs.declared.plans.Base.{Base}
 use Rattle.cycle_plan.specs.Plans.{Planned}
@@ -30,7 +32,7 @@ use Rattle.cycle_laws.proofs.StepLemmas.{frames-is}
 overruns-next : (overruns more recorders cycles : ℕ) → overruns ≤ cycles * recorders → more ≤ recorders → overruns + more ≤ (cycles + 1) * recorders
 overruns-next overruns more recorders cycles so_far few = let next : (cycles + 1) * recorders ≡ cycles * recorders + 1 * recorders = add-mul cycles 1 recorders in omega (arith, so_far, few, next)
 
-module _ (freewheel : Bool) (before after : Gear) (plan : Planned) (moment : Moment) (is : IsGear before) (may : MayCycle (driver_of before) freewheel) (turned : Turns freewheel before plan moment after) where
+module _ (sounding : Score → Sound) (freewheel : Bool) (before after : Gear) (plan : Planned) (moment : Moment) (is : IsGear sounding before) (may : MayCycle (driver_of sounding before) freewheel) (turned : Turns sounding freewheel before plan moment after) where
   size : length after.numbers ≡ length before.numbers + 1
   size = ap length turned.numbers ∙ length_push before.numbers turned.number
 
@@ -42,7 +44,7 @@ module _ (freewheel : Bool) (before after : Gear) (plan : Planned) (moment : Mom
   base-is =
       ap (λ (p : Planned). p.base) turned.plan_is
       ∙ turned.base
-      ∙ taken-base (driver_of before) (driver_of after) turned.number turned.taken turned.takes turned.begins
+      ∙ taken-base (driver_of sounding before) (driver_of sounding after) turned.number turned.taken turned.takes turned.begins
       ∙ may.rows.base
       ∙ script-back {X = Base} (λ (s : Script). record { capture = s.header.capture; playback = s.header.playback })
 
@@ -68,20 +70,20 @@ module _ (freewheel : Bool) (before after : Gear) (plan : Planned) (moment : Mom
       let same : length after.numbers * length after.rings.rings ≡ (length before.numbers + 1) * length before.rings.rings = ap₂ (λ a b. a * b) size turned.sends.as_many in
       omega (arith, all, next, same)
 
-  in-step : IsInStep after
+  in-step : IsInStep sounding after
   in-step =
-      let old : IsInStep before = is.in_step may.sound in
+      let old : IsInStep sounding before = is.in_step may.sound in
       let next : (turn_of before.script (length before.numbers + 1)).period ≡ (turn_of after.script (length after.numbers)).period =
       script-back (λ (s : Script). (turn_of s (length before.numbers + 1)).period) ∙ ap (λ k. (turn_of after.script k).period) (sym size) in
       record {
         cycles = ap (λ (t : Standing). t.cycles) turned.standing ∙ ap (λ n. n + 1) old.cycles ∙ sym size;
-        frames = ap (λ (t : Standing). t.frames) turned.standing ∙ ap (λ n. n + before.set) old.frames ∙ sym (frames-is freewheel before after plan moment is may turned);
+        frames = ap (λ (t : Standing). t.frames) turned.standing ∙ ap (λ n. n + before.set) old.frames ∙ sym (frames-is sounding freewheel before after plan moment is may turned);
         period = turned.period ∙ sym may.period_is ∙ next;
         moments = ap length turned.moments ∙ length_push before.moments moment ∙ ap (λ n. n + 1) old.moments ∙ sym size;
         capture = turned.capture_sound;
       }
 
-  pub IsGear-turned : IsGear after
+  pub IsGear-turned : IsGear sounding after
   IsGear-turned = record {
     served = subst IsServed (sym turned.script) is.served;
     stands = subst (StandsOn after.stage.staged) (sym turned.plan_is) turned.stands;

@@ -15,6 +15,8 @@ use Rattle.session_model.specs.Cycles.{audio_outputs, player_born}
 use Rattle.session_model.specs.Samples.{below, sample, silence}
 use Rattle.session_model.specs.State.{OpenClient, capture_port, is_system, opening, system_name}
 use Rattle.session_model.specs.Transport.{next_row, slow_numbers, timeout_of}
+use Rattle.session_model.specs.Kinds.{Sound}
+use Rattle.client_kinds.specs.Scores.{Score}
 use Rattle.session_laws.proofs.CycleLemmas.{find-contains}
 use Rattle.session_laws.proofs.PlaceLemmas.{filter-contains}
 use Rattle.session_laws.proofs.SequentialLemmas.{length-below}
@@ -39,16 +41,16 @@ use Rattle.cycle_laws.proofs.FrontLemmas.{AreOfCalls-last}
 use Rattle.cycle_laws.proofs.SeenLemmas.{bench-seen, memory-seen}
 use Rattle.cycle_laws.proofs.SettledLemmas.{base-now, channels-now, content-now, events-now, graph-now, moment-now, settled-now}
 
-module _ {freewheel : Bool} {before after : Gear} {plan : Planned} {moment : Moment} (gear : IsGear before) (may : MayCycle (driver_of before) freewheel) (turns : Turns freewheel before plan moment after)
-    (steps : StepsOnce (driver_of before) (driver_of after)) (of_calls : AreOfCalls before.script (content_now (driver_of after))) where
+module _ (sounding : Score → Sound) {freewheel : Bool} {before after : Gear} {plan : Planned} {moment : Moment} (gear : IsGear sounding before) (may : MayCycle (driver_of sounding before) freewheel) (turns : Turns sounding freewheel before plan moment after)
+    (steps : StepsOnce (driver_of sounding before) (driver_of sounding after)) (of_calls : AreOfCalls before.script (content_now (driver_of sounding after))) where
   abbrev driver : Driver
-  driver = driver_of before
+  driver = driver_of sounding before
 
   abbrev played : Driver
-  played = driver_of after
+  played = driver_of sounding after
 
   pub calls-now : AreOfCalls before.script plan.changes
-  calls-now = subst (AreOfCalls before.script) (content-now gear may turns steps) of_calls
+  calls-now = subst (AreOfCalls before.script) (content-now sounding gear may turns steps) of_calls
 
   -- the changes that the stage played last are a front of the plan's
   pub calls-last : AreOfCalls before.script before.stage.plan.changes
@@ -73,7 +75,7 @@ module _ {freewheel : Bool} {before after : Gear} {plan : Planned} {moment : Mom
       ap length (has_ports plan.base.capture plan.base.playback plan.changes)
       ∙ length-map (below plan.base.capture) capture_port
       ∙ length-below plan.base.capture
-      ∙ ap (λ (base : Base). base.capture) (base-now gear may turns steps)
+      ∙ ap (λ (base : Base). base.capture) (base-now sounding gear may turns steps)
 
   nodes-now : open_clients after.stage.staged.nodes ≡ open_clients plan.nodes
   nodes-now = ap open_clients turns.stands.stands.nodes
@@ -82,12 +84,12 @@ module _ {freewheel : Bool} {before after : Gear} {plan : Planned} {moment : Mom
   within-plan n low = subst (λ k. n < k) (ap length nodes-now ∙ length-map plan.nodes open_client) low
 
   -- each node of the plan has its bench
-  bench-now : after.stage.staged.is_staffed ≡ true → (n : ℕ) → n < length plan.nodes → bench_at played n ≡ bench_on plan after.stage.staged n
+  bench-now : after.stage.staged.is_staffed ≡ true → (n : ℕ) → n < length plan.nodes → bench_at played n ≡ bench_on sounding plan after.stage.staged n
   bench-now staffed n low =
-      bench-seen after n (bench-within (open_clients plan.nodes) after.stage.staged.racked after.stage.staged.owned n n turns.stands.stands.seating ((turns.stands.staffed staffed).has n low))
-      ∙ ap (λ (p : Planned). bench_on p after.stage.staged n) turns.plan_is
+      bench-seen sounding after n (bench-within (open_clients plan.nodes) after.stage.staged.racked after.stage.staged.owned n n turns.stands.stands.seating ((turns.stands.staffed staffed).has n low))
+      ∙ ap (λ (p : Planned). bench_on sounding p after.stage.staged n) turns.plan_is
 
-  pub plays-own : (left : List ℤ) → after.stage.staged.is_staffed ≡ true → PlaysPlan (own_course driver) before.stage.staged plan (settled_now driver played left) after.stage.staged → PlaysOwn driver played left
+  pub plays-own : (left : List ℤ) → after.stage.staged.is_staffed ≡ true → PlaysPlan sounding (own_course driver) before.stage.staged plan (settled_now driver played left) after.stage.staged → PlaysOwn driver played left
   plays-own left staffed plays = record {
     period = may.period_is;
     full = λ disk low. absurd (none low);
@@ -95,15 +97,15 @@ module _ {freewheel : Bool} {before after : Gear} {plan : Planned} {moment : Mom
     moments = steps.moments;
     links = plan.links;
     before = plays.before;
-    plan = subst (λ state. IsPlan state (open_clients after.stage.staged.nodes) plan.links) (sym (graph-now gear may turns steps))
+    plan = subst (λ state. IsPlan state (open_clients after.stage.staged.nodes) plan.links) (sym (graph-now sounding gear may turns steps))
         (subst (λ nodes. IsPlan (state_of_plan plan) nodes plan.links) (sym nodes-now) turns.planned.is_plan);
     ready = subst (λ nodes. IsReady (own_course driver) (settled_now driver played left) nodes plan.links plays.before) (sym nodes-now) plays.ready;
     played = λ n low. bench-now staffed n (within-plan n low) ∙ plays.played n (within-plan n low);
     remembered = λ n low.
         ap (λ nodes. memory_of after.stage.staged.racked after.stage.staged.owned (node_at nodes n).birth) nodes-now
         ∙ plays.remembered n (within-plan n low)
-        ∙ ap Some (sym (memory-seen after n));
-    others = λ birth none. plays.others birth (ap (λ state. player_born state birth) (sym (graph-now gear may turns steps)) ∙ none);
+        ∙ ap Some (sym (memory-seen sounding after n));
+    others = λ birth none. plays.others birth (ap (λ state. player_born state birth) (sym (graph-now sounding gear may turns steps)) ∙ none);
   }
     where
       none : {disk : ℕ} → disk < 0 → ⊥
@@ -120,10 +122,10 @@ module _ {freewheel : Bool} {before after : Gear} {plan : Planned} {moment : Mom
     kinds-now n low = old_kinds plan.base.capture plan.base.playback (node_at (open_clients plan.nodes) n) (open-now n low)
 
     -- what the stage played
-    pub plays-now : before.stage.staged.is_staffed ≡ true → after.stage.staged.is_staffed ≡ true → PlaysPlan (own_course driver) before.stage.staged plan (settled_now driver played left) after.stage.staged
+    pub plays-now : before.stage.staged.is_staffed ≡ true → after.stage.staged.is_staffed ≡ true → PlaysPlan sounding (own_course driver) before.stage.staged plan (settled_now driver played left) after.stage.staged
     plays-now staffed staffed_now = turns.plays (own_course driver) (settled_now driver played left) staffed staffed_now
-        (settled-now gear may turns steps left told as_many_read was_read rested kinds-now)
+        (settled-now sounding gear may turns steps left told as_many_read was_read rested kinds-now)
         refl
-        (events-now gear may turns steps left)
-        (channels-now gear may turns steps left told as_many_read was_read rested ∙ sym (device-now has_ports))
+        (events-now sounding gear may turns steps left)
+        (channels-now sounding gear may turns steps left told as_many_read was_read rested ∙ sym (device-now has_ports))
         kinds-now

@@ -6,6 +6,7 @@
 --     block-length      a block has no more samples than the channels of a period
 --     HasOwnRings-next      the rings are the driver's own again
 use Rattle.std.proofs.Common.{◌≡◌, ℕ, ◌+◌, ◌*◌, ◌≤◌, Bool, List, [], ◌∷◌, ◌++◌, length, map, slice_get, Option, Some, None, ℤ, sym, ◌∙◌, ap, subst, arith, add-mul}
+use Rattle.std.specs.Prelude.{slice_index_or}
 use Rattle.std.specs.Option.{option_map_or}
 use Rattle.std.proofs.lemmas.List.{length_push, length-map}
 use Rattle.std.proofs.lemmas.List.Sums.{sum_by_push}
@@ -93,4 +94,6 @@ HasOwnRings-next driver after own script frames as_many disks played counted sam
   own = λ recorder ring_after here.
       let there = there_too after.rings driver.rings recorder ring_after (sym as_many) here in
       own-next driver after recorder there.0 ring_after (samples recorder) script frames (few recorder) (grown recorder there.0 ring_after there.1 here) (own.own recorder there.0 there.1);
+  own_disks = λ disk got here.
+      own.own_disks disk got (ap (λ xs. slice_get xs disk) (sym disks) ∙ here) ∙ ap (λ (s : Script). greatest_period s * slice_index_or s.header.disks disk 0) (sym script);
 }

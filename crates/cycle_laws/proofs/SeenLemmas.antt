@@ -17,9 +17,10 @@ use Rattle.jack_types.specs.declared.kinds.Kind.{Kind}
 use Rattle.jack_types.specs.declared.kinds.Kind.TheVariants.{Disk, Pass}
 use Rattle.session_model.specs.Benches.{Bench, fixed_audio, no_bench, node_at, outputs_of, place_in}
 use Rattle.session_model.specs.Cycles.{Settled, at_port, audio_outputs, midi_outputs}
-use Rattle.session_model.specs.Kinds.{Memory}
+use Rattle.session_model.specs.Kinds.{Memory, Sound}
 use Rattle.session_model.specs.Samples.{below, silence}
 use Rattle.session_model.specs.State.{OpenClient, OpenPort}
+use Rattle.client_kinds.specs.Scores.{Score}
 use Rattle.session_laws.proofs.ActivationLemmas.{get_or-map_below, length-map_below}
 use Rattle.port_registry.specs.Registered.{open_clients}
 use Rattle.cycle_plan.specs.Plans.{state_of_plan}
@@ -30,32 +31,32 @@ use Rattle.task_laws.specs.Calls.{IsOldKind}
 use Rattle.stage_laws.specs.Stages.{bench_of, bench_on}
 use Rattle.cycle_laws.specs.Gears.{Gear, driver_of}
 
-pub bench-seen : (gear : Gear) (n : ℕ) → n < length gear.stage.staged.racked.benches → bench_at (driver_of gear) n ≡ bench_on gear.stage.plan gear.stage.staged n
-bench-seen gear n low = get_or-map_below (bench_on gear.stage.plan gear.stage.staged) (length gear.stage.staged.racked.benches) n no_bench low
+pub bench-seen : (sounding : Score → Sound) (gear : Gear) (n : ℕ) → n < length gear.stage.staged.racked.benches → bench_at (driver_of sounding gear) n ≡ bench_on sounding gear.stage.plan gear.stage.staged n
+bench-seen sounding gear n low = get_or-map_below (bench_on sounding gear.stage.plan gear.stage.staged) (length gear.stage.staged.racked.benches) n no_bench low
 
 -- what is the same whether a client has MIDI ports or not, and what nobody has
-part-seen : {X : Type 0} (part : Bench → X) (gear : Gear) → ((n : ℕ) → part (bench_on gear.stage.plan gear.stage.staged n) ≡ part (bench_of gear.stage.staged n))
-    → part no_bench ≡ part (bench_in gear.stage.staged.owned.scores (new_bench Pass 0).kept) → (n : ℕ) → part (bench_at (driver_of gear) n) ≡ part (bench_of gear.stage.staged n)
-part-seen part gear plain past n = go (cases_lt n (length gear.stage.staged.racked.benches))
+part-seen : {X : Type 0} (sounding : Score → Sound) (part : Bench → X) (gear : Gear) → ((n : ℕ) → part (bench_on sounding gear.stage.plan gear.stage.staged n) ≡ part (bench_of sounding gear.stage.staged n))
+    → part no_bench ≡ part (bench_in (map sounding gear.stage.staged.owned.scores) (new_bench Pass 0).kept) → (n : ℕ) → part (bench_at (driver_of sounding gear) n) ≡ part (bench_of sounding gear.stage.staged n)
+part-seen sounding part gear plain past n = go (cases_lt n (length gear.stage.staged.racked.benches))
   where
     shown : ℕ → Bench
-    shown = bench_on gear.stage.plan gear.stage.staged
+    shown = bench_on sounding gear.stage.plan gear.stage.staged
 
-    go : (n < length gear.stage.staged.racked.benches) ⊎ (length gear.stage.staged.racked.benches ≤ n) → part (bench_at (driver_of gear) n) ≡ part (bench_of gear.stage.staged n)
-    go (inl low) = ap part (bench-seen gear n low) ∙ plain n
+    go : (n < length gear.stage.staged.racked.benches) ⊎ (length gear.stage.staged.racked.benches ≤ n) → part (bench_at (driver_of sounding gear) n) ≡ part (bench_of sounding gear.stage.staged n)
+    go (inl low) = ap part (bench-seen sounding gear n low) ∙ plain n
     go (inr high) =
         ap part (get_or_past (map shown (below (length gear.stage.staged.racked.benches))) n no_bench (subst (λ k. k ≤ n) (sym (length-map_below shown (length gear.stage.staged.racked.benches))) high))
         ∙ past
-        ∙ ap (λ (bench : Seen). part (bench_in gear.stage.staged.owned.scores bench.kept)) (sym (get_or_past gear.stage.staged.racked.benches n (new_bench Pass 0) high))
+        ∙ ap (λ (bench : Seen). part (bench_in (map sounding gear.stage.staged.owned.scores) bench.kept)) (sym (get_or_past gear.stage.staged.racked.benches n (new_bench Pass 0) high))
 
-pub audio-seen : (gear : Gear) (n : ℕ) → (bench_at (driver_of gear) n).audio ≡ (bench_of gear.stage.staged n).audio
-audio-seen gear = part-seen (λ bench. bench.audio) gear (λ n. refl) refl
+pub audio-seen : (sounding : Score → Sound) (gear : Gear) (n : ℕ) → (bench_at (driver_of sounding gear) n).audio ≡ (bench_of sounding gear.stage.staged n).audio
+audio-seen sounding gear = part-seen sounding (λ bench. bench.audio) gear (λ n. refl) refl
 
-pub sounds-seen : (gear : Gear) (n : ℕ) → (bench_at (driver_of gear) n).sounds ≡ (bench_of gear.stage.staged n).sounds
-sounds-seen gear = part-seen (λ bench. bench.sounds) gear (λ n. refl) refl
+pub sounds-seen : (sounding : Score → Sound) (gear : Gear) (n : ℕ) → (bench_at (driver_of sounding gear) n).sounds ≡ (bench_of sounding gear.stage.staged n).sounds
+sounds-seen sounding gear = part-seen sounding (λ bench. bench.sounds) gear (λ n. refl) refl
 
-pub memory-seen : (gear : Gear) (n : ℕ) → (bench_at (driver_of gear) n).memory ≡ (bench_of gear.stage.staged n).memory
-memory-seen gear = part-seen (λ bench. bench.memory) gear (λ n. refl) refl
+pub memory-seen : (sounding : Score → Sound) (gear : Gear) (n : ℕ) → (bench_at (driver_of sounding gear) n).memory ≡ (bench_of sounding gear.stage.staged n).memory
+memory-seen sounding gear = part-seen sounding (λ bench. bench.memory) gear (λ n. refl) refl
 
 -- a list of one thing alone has it at each place, and past its end it is the default
 alike-at : {X : Type 0} (x : X) (count place : ℕ) → slice_index_or (replicate count x) place x ≡ x
@@ -68,8 +69,8 @@ alike-at x count place = go (cases_lt place count)
 abbrev pub events_at : ℕ → Bench → List Event
 events_at place bench = slice_index_or bench.midi place []
 
-pub midi-seen : (gear : Gear) (n place : ℕ) → events_at place (bench_at (driver_of gear) n) ≡ []
-midi-seen gear n place = part-seen (events_at place) gear (λ m. alike-at [] (length (midi_outputs (state_of_plan gear.stage.plan) (node_at (open_clients gear.stage.plan.nodes) m).name)) place) refl n
+pub midi-seen : (sounding : Score → Sound) (gear : Gear) (n place : ℕ) → events_at place (bench_at (driver_of sounding gear) n) ≡ []
+midi-seen sounding gear n place = part-seen sounding (events_at place) gear (λ m. alike-at [] (length (midi_outputs (state_of_plan gear.stage.plan) (node_at (open_clients gear.stage.plan.nodes) m).name)) place) refl n
 
 pub outputs-same : (at : Settled) (nodes : List OpenClient) (benches others : ℕ → Bench) → ((n : ℕ) → (benches n).audio ≡ (others n).audio) → (outputs_of at nodes benches).audio ≡ (outputs_of at nodes others).audio
 outputs-same at nodes benches others same i = λ port. option_map_or (λ n. at_port (silence at.frames) (audio_outputs at.graph (node_at nodes n).name) (same n i) port) (place_in nodes (client_part port)) (fixed_audio at port)

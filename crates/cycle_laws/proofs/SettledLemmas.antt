@@ -12,11 +12,12 @@ use Rattle.session_model.specs.Benches.{node_at, outputs_of}
 use Rattle.session_model.specs.Commands.{replay}
 use Rattle.session_model.specs.Cycles.{was_there}
 use Rattle.session_model.specs.Driving.{kept_from}
-use Rattle.session_model.specs.Kinds.{first}
+use Rattle.session_model.specs.Kinds.{Sound, first}
 use Rattle.session_model.specs.Samples.{below, sample, silence}
 use Rattle.session_model.specs.Scripts.{Script}
 use Rattle.session_model.specs.State.{OpenClient, State, opening}
 use Rattle.session_model.specs.Transport.{active_master, shown}
+use Rattle.client_kinds.specs.Scores.{Score}
 use Rattle.port_registry.specs.Registered.{open_clients}
 use Rattle.cycle_plan.specs.Plans.{Planned, state_of_plan}
 use Rattle.graph_word.specs.declared.plans.Base.{Base}
@@ -34,15 +35,15 @@ use Rattle.cycle_laws.specs.Gears.{Gear, IsGear, IsInStep, driver_of}
 use Rattle.cycle_laws.specs.Turnings.{Turns}
 use Rattle.cycle_laws.proofs.SeenLemmas.{audio-seen, events-none, memory-plain, midi-seen, outputs-same}
 
-module _ {freewheel : Bool} {before after : Gear} {plan : Planned} {moment : Moment} (gear : IsGear before) (may : MayCycle (driver_of before) freewheel) (turns : Turns freewheel before plan moment after)
-    (steps : StepsOnce (driver_of before) (driver_of after)) where
+module _ (sounding : Score → Sound) {freewheel : Bool} {before after : Gear} {plan : Planned} {moment : Moment} (gear : IsGear sounding before) (may : MayCycle (driver_of sounding before) freewheel) (turns : Turns sounding freewheel before plan moment after)
+    (steps : StepsOnce (driver_of sounding before) (driver_of sounding after)) where
   abbrev driver : Driver
-  driver = driver_of before
+  driver = driver_of sounding before
 
   abbrev played : Driver
-  played = driver_of after
+  played = driver_of sounding after
 
-  in_step : IsInStep before
+  in_step : IsInStep sounding before
   in_step = gear.in_step may.sound
 
   pub content-now : content_now played ≡ plan.changes
@@ -71,17 +72,17 @@ module _ {freewheel : Bool} {before after : Gear} {plan : Planned} {moment : Mom
 
   -- the audio that feedback edges give is read from the stage's benches
   kept-now : (port : List ℕ) → (kept_now driver played).audio port
-      ≡ (kept_from before.stage.staged.period (state_of_plan before.stage.plan) (outputs_of (settled_last driver) (open_clients before.stage.staged.nodes) (bench_of before.stage.staged)) (state_of_plan plan) before.set).audio port
+      ≡ (kept_from before.stage.staged.period (state_of_plan before.stage.plan) (outputs_of (settled_last driver) (open_clients before.stage.staged.nodes) (bench_of sounding before.stage.staged)) (state_of_plan plan) before.set).audio port
   kept-now port =
       ap₂ (λ period last. kept_at period last (graph_now played) (outputs_of (settled_last driver) driver.nodes (bench_at driver)).audio) (sym in_step.period) graph-last
-      ∙ ap₂ (kept_at before.stage.staged.period (state_of_plan before.stage.plan)) graph-now (outputs-same (settled_last driver) driver.nodes (bench_at driver) (bench_of before.stage.staged) (audio-seen before))
+      ∙ ap₂ (kept_at before.stage.staged.period (state_of_plan before.stage.plan)) graph-now (outputs-same (settled_last driver) driver.nodes (bench_at driver) (bench_of sounding before.stage.staged) (audio-seen sounding before))
     where
       kept_at : ℕ → State → State → (List ℕ → List ℤ) → List ℤ
       kept_at period last state audio = (kept_from period last (record { audio = audio; midi = λ _. [] }) state before.set).audio port
 
   -- no bench gave an event, so feedback edges give none
   pub events-now : (left : List ℤ) → HasNoEvents (settled_now driver played left)
-  events-now left port = none-kept ((turn_of before.script (run driver)).period == before.set && was_there (graph_now driver) (graph_now played) port) (events-none (settled_last driver) driver.nodes (bench_at driver) (midi-seen before) port)
+  events-now left port = none-kept ((turn_of before.script (run driver)).period == before.set && was_there (graph_now driver) (graph_now played) port) (events-none (settled_last driver) driver.nodes (bench_at driver) (midi-seen sounding before) port)
     where
       none-kept : (b : Bool) → (outputs_of (settled_last driver) driver.nodes (bench_at driver)).midi port ≡ [] → cond b ((outputs_of (settled_last driver) driver.nodes (bench_at driver)).midi port) [] ≡ []
       none-kept true none = none
@@ -126,7 +127,7 @@ module _ {freewheel : Bool} {before after : Gear} {plan : Planned} {moment : Mom
         go false e = ap (λ b. channel_in b count channel) e ∙ sym (was_read left after.capture.reading.left after.capture.channels count before.set channel (of-run e) within)
 
     pub settled-now : ((n : ℕ) → n < length plan.nodes → IsOldKind (node_at (open_clients plan.nodes) n).kind)
-        → IsSettledOn before.stage.staged before.stage.plan plan moment before.set after.capture.channels (settled_now driver played left)
+        → IsSettledOn sounding before.stage.staged before.stage.plan plan moment before.set after.capture.channels (settled_now driver played left)
     settled-now old = record {
       graph = graph-now;
       moment_is = sym moment-now;
@@ -136,7 +137,7 @@ module _ {freewheel : Bool} {before after : Gear} {plan : Planned} {moment : Mom
       graph_last = graph-last;
       frames_last = sym in_step.period;
       before = kept-now;
-      memory = λ n low. memory-plain (fed_now driver played) (client n).kind (unwrap_or (memory_in driver (client n).birth) (first before.stage.staged.owned.scores (client n).kind)) (old n low);
+      memory = λ n low. memory-plain (fed_now driver played) (client n).kind (unwrap_or (memory_in driver (client n).birth) (first (map sounding before.stage.staged.owned.scores) (client n).kind)) (old n low);
     }
       where
         client : ℕ → OpenClient

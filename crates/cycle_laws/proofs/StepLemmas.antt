@@ -3,18 +3,19 @@
 --     puts      at each ring the blocks were put as by the driver
 --     frames-is      the frames of one cycle more
 --     StepsOnce-turned      it is a step
-use Rattle.std.proofs.Common.{◌≡◌, ℕ, ◌+◌, ◌*◌, ◌<◌, ◌≤◌, Bool, true, false, List, [], ◌∷◌, ◌++◌, drop, length, position, All, slice_get, ℤ, Some, refl, sym, ◌∙◌, ap, ap₂, subst}
+use Rattle.std.proofs.Common.{◌≡◌, ℕ, ◌+◌, ◌*◌, ◌<◌, ◌≤◌, Bool, true, false, List, [], ◌∷◌, ◌++◌, drop, length, map, position, All, slice_get, ℤ, Some, refl, sym, ◌∙◌, ap, ap₂, subst}
 use Rattle.std.proofs.lemmas.List.Elements.{All-nil}
 use Rattle.std.proofs.lemmas.Option.{get_or_from_slice_get, none-some, slice_get_within}
 use Rattle.jack_types.specs.declared.commands.Change.{Change}
 use Rattle.jack_types.specs.declared.moments.Moment.{Moment}
 use Rattle.jack_types.specs.declared.replies.Underrun.{Underrun}
 use Rattle.session_model.specs.Courses.{players}
-use Rattle.session_model.specs.Kinds.{input_at}
+use Rattle.session_model.specs.Kinds.{Sound, input_at}
 use Rattle.session_model.specs.Recorders.{is_tape}
 use Rattle.session_model.specs.Scripts.{Script}
 use Rattle.session_model.specs.State.{OpenClient, State}
 use Rattle.session_model.specs.Transport.{active_master, next_row, shown, slow_numbers, timeout_of}
+use Rattle.client_kinds.specs.Scores.{Score}
 use Rattle.port_registry.specs.Registered.{open_clients}
 use Rattle.cycle_plan.specs.Plans.{Planned, state_of_plan}
 use Rattle.record_ring.specs.Rings.{Sending}
@@ -37,18 +38,18 @@ use Rattle.cycle_laws.proofs.RowLemmas.{HasOwnRows-next, graph-planned}
 use Rattle.cycle_laws.proofs.SeenLemmas.{sounds-seen}
 use Rattle.cycle_laws.proofs.SendLemmas.{channels-are}
 
-module _ (freewheel : Bool) (before after : Gear) (plan : Planned) (moment : Moment) (is : IsGear before) (may : MayCycle (driver_of before) freewheel) (turned : Turns freewheel before plan moment after) where
+module _ (sounding : Score → Sound) (freewheel : Bool) (before after : Gear) (plan : Planned) (moment : Moment) (is : IsGear sounding before) (may : MayCycle (driver_of sounding before) freewheel) (turned : Turns sounding freewheel before plan moment after) where
   -- the graph of the cycle is the plan's
-  pub graph-is : graph_now (driver_of after) ≡ state_of_plan plan
-  graph-is = graph-planned (driver_of before) (driver_of after) turned.number turned.taken turned.takes turned.begins may.rows turned.numbers turned.script plan turned.content turned.base
+  pub graph-is : graph_now (driver_of sounding after) ≡ state_of_plan plan
+  graph-is = graph-planned (driver_of sounding before) (driver_of sounding after) turned.number turned.taken turned.takes turned.begins may.rows turned.numbers turned.script plan turned.content turned.base
 
-  own-rows : HasOwnRows (driver_of after)
-  own-rows = HasOwnRows-next (driver_of before) (driver_of after) turned.number turned.taken turned.takes turned.begins may.rows turned.numbers turned.script (ap (λ (p : Planned). p.changes) turned.plan_is ∙ turned.content)
+  own-rows : HasOwnRows (driver_of sounding after)
+  own-rows = HasOwnRows-next (driver_of sounding before) (driver_of sounding after) turned.number turned.taken turned.takes turned.begins may.rows turned.numbers turned.script (ap (λ (p : Planned). p.changes) turned.plan_is ∙ turned.content)
 
-  pub frames-is : frames_run (driver_of after) ≡ frames_run (driver_of before) + before.set
-  frames-is = frames-after (driver_of before) may.left may.period_is (driver_of after) turned.number turned.script turned.numbers
+  pub frames-is : frames_run (driver_of sounding after) ≡ frames_run (driver_of sounding before) + before.set
+  frames-is = frames-after (driver_of sounding before) may.left may.period_is (driver_of sounding after) turned.number turned.script turned.numbers
 
-  taped : (recorder : ℕ) → is_taped (open_clients plan.nodes) recorder ≡ has_tape (graph_now (driver_of after)) recorder
+  taped : (recorder : ℕ) → is_taped (open_clients plan.nodes) recorder ≡ has_tape (graph_now (driver_of sounding after)) recorder
   taped recorder =
       sym (found-permuted (λ (client : OpenClient). is_tape recorder client.kind) (players (state_of_plan plan)) (open_clients plan.nodes) turned.planned.moved)
       ∙ ap (λ (state : State). has_tape state recorder) (sym graph-is)
@@ -58,37 +59,37 @@ module _ (freewheel : Bool) (before after : Gear) (plan : Planned) (moment : Mom
 
   channels-is : (recorder : ℕ) → channels_at before.rings recorder ≡ channels_on after.script recorder
   channels-is recorder =
-      channels-are before.rings (driver_of before) may.rings.own is.rings_channels recorder
+      channels-are before.rings (driver_of sounding before) may.rings.own is.rings_channels recorder
       ∙ ap (λ (s : Script). channels_on s recorder) (sym turned.script)
 
-  heard : (recorder : ℕ) → block_by after.stage.staged.racked (open_clients plan.nodes) before.set (channels_at before.rings recorder) recorder ≡ block_in (driver_of after) recorder
+  heard : (recorder : ℕ) → block_by after.stage.staged.racked (open_clients plan.nodes) before.set (channels_at before.rings recorder) recorder ≡ block_in (driver_of sounding after) recorder
   heard recorder =
       block-same before.set after.set (channels_at before.rings recorder) (channels_on after.script recorder)
-      (λ n. (bench_of_rack after.stage.staged.racked n).kept.sounds) (λ n. (bench_at (driver_of after) n).sounds)
+      (λ n. (bench_of_rack after.stage.staged.racked n).kept.sounds) (λ n. (bench_at (driver_of sounding after) n).sounds)
       (position (λ (client : OpenClient). is_tape recorder client.kind) (open_clients plan.nodes)) (position (λ (client : OpenClient). is_tape recorder client.kind) (open_clients after.stage.staged.nodes))
-      (sym turned.set) (channels-is recorder) (λ n. sym (sounds-seen after n))
+      (sym turned.set) (channels-is recorder) (λ n. sym (sounds-seen sounding after n))
       (ap (position (λ (client : OpenClient). is_tape recorder client.kind)) nodes-are)
 
   -- at each ring the blocks were put as by the driver
   pub puts : (recorder : ℕ) (ring ring_after : Sending) → slice_get before.rings.rings recorder ≡ Some ring → slice_get after.rings.rings recorder ≡ Some ring_after
-      → PutsOne (length before.numbers + 1) recorder (has_tape (graph_now (driver_of after)) recorder) (block_in (driver_of after) recorder) ring ring_after (overruns_on before.rings.overruns recorder) (overruns_on after.rings.overruns recorder)
+      → PutsOne (length before.numbers + 1) recorder (has_tape (graph_now (driver_of sounding after)) recorder) (block_in (driver_of sounding after) recorder) ring ring_after (overruns_on before.rings.overruns recorder) (overruns_on after.rings.overruns recorder)
   puts recorder ring ring_after here there =
-      puts-same (length before.numbers + 1) recorder (is_taped (open_clients plan.nodes) recorder) (has_tape (graph_now (driver_of after)) recorder)
-      (block_by after.stage.staged.racked (open_clients plan.nodes) before.set (channels_at before.rings recorder) recorder) (block_in (driver_of after) recorder)
+      puts-same (length before.numbers + 1) recorder (is_taped (open_clients plan.nodes) recorder) (has_tape (graph_now (driver_of sounding after)) recorder)
+      (block_by after.stage.staged.racked (open_clients plan.nodes) before.set (channels_at before.rings recorder) recorder) (block_in (driver_of sounding after) recorder)
       (ring_at before.rings recorder) ring (ring_at after.rings recorder) ring_after (overruns_on before.rings.overruns recorder) (overruns_on after.rings.overruns recorder)
       (taped recorder) (heard recorder) (get_or_from_slice_get before.rings.rings recorder ring no_ring here) (get_or_from_slice_get after.rings.rings recorder ring_after no_ring there)
       (turned.sends.each recorder (slice_get_within before.rings.rings recorder ring here))
 
-  block-fits : (recorder : ℕ) → length (block_in (driver_of after) recorder) ≤ before.set * channels_on before.script recorder
+  block-fits : (recorder : ℕ) → length (block_in (driver_of sounding after) recorder) ≤ before.set * channels_on before.script recorder
   block-fits recorder =
-      subst (λ n. length (block_in (driver_of after) recorder) ≤ n)
+      subst (λ n. length (block_in (driver_of sounding after) recorder) ≤ n)
       (ap₂ (λ a b. a * b) turned.set (ap (λ (s : Script). channels_on s recorder) turned.script))
-      (block-length after.set (channels_on after.script recorder) (λ n. input_at after.set (bench_at (driver_of after) n).sounds) (position (λ (client : OpenClient). is_tape recorder client.kind) (open_clients after.stage.staged.nodes)))
+      (block-length after.set (channels_on after.script recorder) (λ n. input_at after.set (bench_at (driver_of sounding after) n).sounds) (position (λ (client : OpenClient). is_tape recorder client.kind) (open_clients after.stage.staged.nodes)))
 
-  own-rings : HasOwnRings (driver_of after)
-  own-rings = HasOwnRings-next (driver_of before) (driver_of after) may.rings turned.script frames-is turned.sends.as_many refl refl (turned.sends.counted may.rings.puts)
-      (block_in (driver_of after)) block-fits
-      (λ recorder ring ring_after here there. grows (length before.numbers + 1) recorder (has_tape (graph_now (driver_of after)) recorder) (block_in (driver_of after) recorder) ring ring_after
+  own-rings : HasOwnRings (driver_of sounding after)
+  own-rings = HasOwnRings-next (driver_of sounding before) (driver_of sounding after) may.rings turned.script frames-is turned.sends.as_many refl refl (turned.sends.counted may.rings.puts)
+      (block_in (driver_of sounding after)) block-fits
+      (λ recorder ring ring_after here there. grows (length before.numbers + 1) recorder (has_tape (graph_now (driver_of sounding after)) recorder) (block_in (driver_of sounding after) recorder) ring ring_after
       (overruns_on before.rings.overruns recorder) (overruns_on after.rings.overruns recorder) (puts recorder ring ring_after here there))
 
   left-is : (left : List ℤ) → before.capture.reading.left ≡ Some left
@@ -103,28 +104,28 @@ module _ (freewheel : Bool) (before after : Gear) (plan : Planned) (moment : Mom
           before.set (frames_read (turn_of before.script (length before.numbers + 1))) (turned.reads e) is.capture_channels
           (sym (frames-of_run (turn_of before.script (length before.numbers + 1)) (may.turn_is ∙ e) ∙ may.period_is)) told
 
-  content-is : content_now (driver_of after) ≡ plan.changes
+  content-is : content_now (driver_of sounding after) ≡ plan.changes
   content-is = own-rows.last ∙ ap (λ (p : Planned). p.changes) turned.plan_is
 
   -- one step of the transport
-  transport-is : (AreOfCalls before.script plan.changes → All HasTarget (drop (last_number (driver_of before)) plan.changes)) → AreOfCalls before.script (content_now (driver_of after))
+  transport-is : (AreOfCalls before.script plan.changes → All HasTarget (drop (last_number (driver_of sounding before)) plan.changes)) → AreOfCalls before.script (content_now (driver_of sounding after))
       → after.transport.row
-      ≡ next_row before.transport.row (adopted_now (driver_of before) (driver_of after)) (slow_numbers (graph_now (driver_of after))) (timeout_of (graph_now (driver_of after)) before.script.header.rate before.set) before.set
+      ≡ next_row before.transport.row (adopted_now (driver_of sounding before) (driver_of sounding after)) (slow_numbers (graph_now (driver_of sounding after))) (timeout_of (graph_now (driver_of sounding after)) before.script.header.rate before.set) before.set
   transport-is targets of_calls =
       turned.row (targets (subst (AreOfCalls before.script) content-is of_calls))
-      ∙ ap₂ (λ (changes : List Change) state. next_row before.transport.row (drop (last_number (driver_of before)) changes) (slow_numbers state) (timeout_of state before.transport.rate before.set) before.set)
+      ∙ ap₂ (λ (changes : List Change) state. next_row before.transport.row (drop (last_number (driver_of sounding before)) changes) (slow_numbers state) (timeout_of state before.transport.rate before.set) before.set)
       (sym content-is) (sym graph-is)
-      ∙ ap (λ rate. next_row before.transport.row (adopted_now (driver_of before) (driver_of after)) (slow_numbers (graph_now (driver_of after))) (timeout_of (graph_now (driver_of after)) rate before.set) before.set) is.rate
+      ∙ ap (λ rate. next_row before.transport.row (adopted_now (driver_of sounding before) (driver_of sounding after)) (slow_numbers (graph_now (driver_of sounding after))) (timeout_of (graph_now (driver_of sounding after)) rate before.set) before.set) is.rate
 
   -- and what it shows
-  moment-is : moment ≡ moment_now (driver_of before) (driver_of after)
+  moment-is : moment ≡ moment_now (driver_of sounding before) (driver_of sounding after)
   moment-is =
       turned.moment_is
       ∙ ap₂ (λ cycles rate. shown cycles after.transport.row rate (active_master (state_of_plan plan)))
       (ap (λ (s : Standing). s.cycles) turned.standing ∙ ap (λ cycles. cycles + 1) (is.in_step may.sound).cycles) is.rate
       ∙ ap (λ state. shown (length before.numbers + 1) after.transport.row before.script.header.rate (active_master state)) (sym graph-is)
 
-  pub StepsOnce-turned : (AreOfCalls before.script plan.changes → All HasTarget (drop (last_number (driver_of before)) plan.changes)) → StepsOnce (driver_of before) (driver_of after)
+  pub StepsOnce-turned : (AreOfCalls before.script plan.changes → All HasTarget (drop (last_number (driver_of sounding before)) plan.changes)) → StepsOnce (driver_of sounding before) (driver_of sounding after)
   StepsOnce-turned targets = record {
     taken = turned.taken;
     number = turned.number;
@@ -147,6 +148,6 @@ module _ (freewheel : Bool) (before after : Gear) (plan : Planned) (moment : Mom
     own_rows = own-rows;
     own_rings = own-rings;
     script = turned.script;
-    scores = turned.scores;
+    scores = ap (map sounding) turned.scores;
     set = turned.set;
   }

@@ -1,9 +1,9 @@
 -- What a driver is made of, as the contracts of its parts see them.
 --     Gear      its parts
 --     no_events      what is heard where no client plays an event
---     driver_of gear      the driver that they make
+--     driver_of sounding gear      the driver that they make, whose guests sound so by their scores
 --     IsServed script      a script of the words that are played yet
---     IsGear gear      what is true of the parts between two cycles
+--     IsGear sounding gear      what is true of the parts between two cycles
 use Rattle.std.specs.Prelude.{◌≡◌, ℕ, ◌*◌, ◌≤◌, ◌<◌, Bool, false, List, [], length, map, All, Option}
 use Rattle.std.specs.List.Sorted.{IsPermutation}
 use Rattle.jack_types.specs.declared.files.Format.{Format}
@@ -11,6 +11,8 @@ use Rattle.jack_types.specs.declared.moments.Moment.{Moment}
 use Rattle.session_model.specs.Grammar.{IsScript}
 use Rattle.session_model.specs.Samples.{below}
 use Rattle.session_model.specs.Scripts.{Script, turns}
+use Rattle.session_model.specs.Kinds.{Sound}
+use Rattle.client_kinds.specs.Scores.{Score}
 use Rattle.port_registry.specs.Registered.{open_clients}
 use Rattle.graph_word.specs.Publications.{Reading}
 use Rattle.transport.specs.Standings.{Standing}
@@ -45,10 +47,10 @@ abbrev pub no_events : Heard
 no_events = record { lists = []; period = 0; played = []; carried = []; before = []; logs = [] }
 
 -- what the last cycle took is the content of the plan that the stage played last, and its MIDI ports are quiet; there are no disks
-abbrev pub driver_of : Gear → Driver
-driver_of gear = record {
+abbrev pub driver_of : (sounding : Score → Sound) → Gear → Driver
+driver_of sounding gear = record {
   script = gear.script;
-  scores = gear.stage.staged.owned.scores;
+  scores = map sounding gear.stage.staged.owned.scores;
   reading = gear.reading;
   content = gear.stage.plan.changes;
   left = gear.capture.reading.left;
@@ -65,7 +67,7 @@ driver_of gear = record {
   set = gear.set;
   failed = gear.failed;
   nodes = open_clients gear.stage.staged.nodes;
-  benches = map (bench_on gear.stage.plan gear.stage.staged) (below (length gear.stage.staged.racked.benches));
+  benches = map (bench_on sounding gear.stage.plan gear.stage.staged) (below (length gear.stage.staged.racked.benches));
   memories = memories gear.stage.staged.racked gear.stage.staged.owned;
 }
 
@@ -75,15 +77,15 @@ pub record IsServed (script : Script) : Type 0 where
   pub version : script.header.version < 3
 
 -- where no cycle failed, the parts stand behind the same cycles
-pub record IsInStep (gear : Gear) : Type 0 where
+pub record IsInStep (sounding : Score → Sound) (gear : Gear) : Type 0 where
   pub cycles : gear.transport.cycles ≡ length gear.numbers
-  pub frames : gear.transport.frames ≡ frames_run (driver_of gear)
+  pub frames : gear.transport.frames ≡ frames_run (driver_of sounding gear)
   pub period : gear.stage.staged.period ≡ (turn_of gear.script (length gear.numbers)).period
   pub moments : length gear.moments ≡ length gear.numbers
   pub capture : gear.capture.reading.failed ≡ false
 
 -- the parts are made for the script: its channels, its greatest period, a bench for each client that it may open, a ring for each recorder, and room for as many overruns as there may be
-pub record IsGear (gear : Gear) : Type 0 where
+pub record IsGear (sounding : Score → Sound) (gear : Gear) : Type 0 where
   pub served : IsServed gear.script
   pub stands : StandsOn gear.stage.staged gear.stage.plan
   pub base : gear.stage.plan.base ≡ record { capture = gear.script.header.capture; playback = gear.script.header.playback }
@@ -102,4 +104,4 @@ pub record IsGear (gear : Gear) : Type 0 where
   pub few : length gear.numbers ≤ length (turns gear.script)
   pub events : gear.events ≡ no_events
   pub disks : gear.disks ≡ no_disks
-  pub in_step : gear.failed ≡ false → IsInStep gear
+  pub in_step : gear.failed ≡ false → IsInStep sounding gear

@@ -1,6 +1,6 @@
 -- What the parts of a driver do in a cycle.
---     Turns freewheel before plan moment after      what the calls left, in their order
-use Rattle.std.specs.Prelude.{◌≡◌, ℕ, ◌+◌, ◌<◌, Bool, true, false, [], ◌∷◌, ◌++◌, length, drop, replicate, All}
+--     Turns sounding freewheel before plan moment after      what the calls left, in their order
+use Rattle.std.specs.Prelude.{◌≡◌, ℕ, ◌+◌, ◌<◌, Bool, true, false, [], ◌∷◌, ◌++◌, length, drop, map, replicate, All}
 use Rattle.std.specs.List.Sorted.{IsPermutation}
 use Rattle.jack_types.specs.declared.moments.Moment.{Moment}
 use Rattle.session_model.specs.Benches.{node_at}
@@ -9,6 +9,8 @@ use Rattle.session_model.specs.Cycles.{Settled, audio_outputs}
 use Rattle.session_model.specs.Samples.{silence}
 use Rattle.session_model.specs.State.{system_name}
 use Rattle.session_model.specs.Transport.{active_master, next_row, shown, slow_numbers, timeout_of}
+use Rattle.session_model.specs.Kinds.{Sound}
+use Rattle.client_kinds.specs.Scores.{Score}
 use Rattle.port_registry.specs.Registered.{open_clients}
 use Rattle.cycle_plan.specs.Plans.{IsPlanned, Planned, state_of_plan}
 use Rattle.graph_word.specs.Publications.{Begins, Reading, Takes}
@@ -25,7 +27,7 @@ use Rattle.cycle_blocks.specs.Blocks.{Sends}
 use Rattle.cycle_laws.specs.Gears.{Gear, driver_of}
 
 -- the plan was taken and begun, the transport stepped, the capture read in a `run` cycle alone, the plan played, and the blocks put
-pub record Turns (freewheel : Bool) (before : Gear) (plan : Planned) (moment : Moment) (after : Gear) : Type 0 where
+pub record Turns (sounding : Score → Sound) (freewheel : Bool) (before : Gear) (plan : Planned) (moment : Moment) (after : Gear) : Type 0 where
   pub number : ℕ
   pub taken : Reading
   pub takes : Takes before.reading number taken
@@ -36,8 +38,8 @@ pub record Turns (freewheel : Bool) (before : Gear) (plan : Planned) (moment : M
   pub numbers : after.numbers ≡ before.numbers ++ number ∷ []
   pub moments : after.moments ≡ before.moments ++ moment ∷ []
   pub standing : after.transport ≡ record { rate = before.transport.rate; cycles = before.transport.cycles + 1; frames = before.transport.frames + before.set; row = after.transport.row }
-  pub row : All HasTarget (drop (last_number (driver_of before)) plan.changes)
-      → after.transport.row ≡ next_row before.transport.row (drop (last_number (driver_of before)) plan.changes) (slow_numbers (state_of_plan plan)) (timeout_of (state_of_plan plan) before.transport.rate before.set) before.set
+  pub row : All HasTarget (drop (last_number (driver_of sounding before)) plan.changes)
+      → after.transport.row ≡ next_row before.transport.row (drop (last_number (driver_of sounding before)) plan.changes) (slow_numbers (state_of_plan plan)) (timeout_of (state_of_plan plan) before.transport.rate before.set) before.set
   pub moment_is : moment ≡ shown after.transport.cycles after.transport.row before.transport.rate (active_master (state_of_plan plan))
   pub rests : freewheel ≡ true → after.capture ≡ record before.capture { channels = replicate before.capture.reading.format.channels (silence before.set) }
   pub reads : freewheel ≡ false → Reads before.capture.reading.left after.capture.reading.left after.capture.channels before.capture.reading.format.channels before.set
@@ -47,10 +49,10 @@ pub record Turns (freewheel : Bool) (before : Gear) (plan : Planned) (moment : M
   pub plan_is : after.stage.plan ≡ plan
   pub period : after.stage.staged.period ≡ before.set
   pub stands : StandsOn after.stage.staged plan
-  pub plays : (course : Course) (at : Settled) → before.stage.staged.is_staffed ≡ true → after.stage.staged.is_staffed ≡ true → IsSettledOn before.stage.staged before.stage.plan plan moment before.set after.capture.channels at
-      → course.scores ≡ before.stage.staged.owned.scores → HasNoEvents at
+  pub plays : (course : Course) (at : Settled) → before.stage.staged.is_staffed ≡ true → after.stage.staged.is_staffed ≡ true → IsSettledOn sounding before.stage.staged before.stage.plan plan moment before.set after.capture.channels at
+      → course.scores ≡ map sounding before.stage.staged.owned.scores → HasNoEvents at
       → length after.capture.channels ≡ length (audio_outputs (state_of_plan plan) system_name) → ((n : ℕ) → n < length plan.nodes → IsOldKind (node_at (open_clients plan.nodes) n).kind)
-      → PlaysPlan course before.stage.staged plan at after.stage.staged
+      → PlaysPlan sounding course before.stage.staged plan at after.stage.staged
   pub kinds : IsPermutation (kinds_of before.stage.staged.racked) (kinds_of after.stage.staged.racked)
   pub scores : after.stage.staged.owned.scores ≡ before.stage.staged.owned.scores
   pub room : after.stage.staged.room ≡ before.stage.staged.room

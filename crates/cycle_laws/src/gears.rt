@@ -3,6 +3,8 @@
 ghost use Rattle.std.specs.Prelude.{◌≡◌, ◌+◌, ◌<◌, ◌≤◌, Bool, List, Some, map, true, ℤ};
 ghost use Rattle.jack_types.specs.declared.moments.Moment.{Moment as MomentValue};
 ghost use Rattle.session_model.specs.Courses.{Course};
+ghost use Rattle.session_model.specs.Kinds.{Sound};
+ghost use Rattle.client_kinds.specs.Scores.{Score};
 ghost use Rattle.cycle_plan.specs.Plans.{Planned};
 ghost use Rattle.driver_laws.specs.Cycling.{MayCycle, StepsOnce};
 ghost use Rattle.driver_laws.specs.Keeping.{AreOfCalls, Fits, Keeps};
@@ -24,10 +26,10 @@ use task_laws::scripts::old_scripts_are_plain;
 
 /// Before a cycle the blocks may be put, and the numbers of the transport have room for one cycle more.
 pub fn a_cycle_may_be_played()
-    ensures sends { (gear : Gear) (freewheel : Bool) → IsGear gear → MayCycle (driver_of gear) freewheel → MaySend gear.rings gear.set }
-    ensures cycles { (gear : Gear) (freewheel : Bool) → IsGear gear → MayCycle (driver_of gear) freewheel → gear.transport.cycles < 1000000 }
-    ensures frames { (gear : Gear) (freewheel : Bool) → IsGear gear → MayCycle (driver_of gear) freewheel → gear.transport.frames + gear.set ≤ 500000000 }
-    ensures period { (gear : Gear) (freewheel : Bool) → IsGear gear → MayCycle (driver_of gear) freewheel → (4 ≤ gear.set) × (gear.set ≤ 4096) }
+    ensures sends { (sounding : Score → Sound) (gear : Gear) (freewheel : Bool) → IsGear sounding gear → MayCycle (driver_of sounding gear) freewheel → MaySend gear.rings gear.set }
+    ensures cycles { (sounding : Score → Sound) (gear : Gear) (freewheel : Bool) → IsGear sounding gear → MayCycle (driver_of sounding gear) freewheel → gear.transport.cycles < 1000000 }
+    ensures frames { (sounding : Score → Sound) (gear : Gear) (freewheel : Bool) → IsGear sounding gear → MayCycle (driver_of sounding gear) freewheel → gear.transport.frames + gear.set ≤ 500000000 }
+    ensures period { (sounding : Score → Sound) (gear : Gear) (freewheel : Bool) → IsGear sounding gear → MayCycle (driver_of sounding gear) freewheel → (4 ≤ gear.set) × (gear.set ≤ 4096) }
 {
     cycles_are_few();
     periods_are_in_range();
@@ -36,19 +38,19 @@ pub fn a_cycle_may_be_played()
 
 /// What the calls of a cycle leave is one step of the driver, whatever was played.
 pub fn a_cycle_is_a_step()
-    ensures { (freewheel : Bool) (before after : Gear) (plan : Planned) (moment : MomentValue) → IsGear before → MayCycle (driver_of before) freewheel → Turns freewheel before plan moment after → StepsOnce (driver_of before) (driver_of after) }
+    ensures { (sounding : Score → Sound) (freewheel : Bool) (before after : Gear) (plan : Planned) (moment : MomentValue) → IsGear sounding before → MayCycle (driver_of sounding before) freewheel → Turns sounding freewheel before plan moment after → StepsOnce (driver_of sounding before) (driver_of sounding after) }
 {
     calls_have_targets();
 }
 
 /// Behind a cycle the parts are as before it.
 pub fn a_cycle_leaves_the_parts()
-    ensures { (freewheel : Bool) (before after : Gear) (plan : Planned) (moment : MomentValue) → IsGear before → MayCycle (driver_of before) freewheel → Turns freewheel before plan moment after → IsGear after }
+    ensures { (sounding : Score → Sound) (freewheel : Bool) (before after : Gear) (plan : Planned) (moment : MomentValue) → IsGear sounding before → MayCycle (driver_of sounding before) freewheel → Turns sounding freewheel before plan moment after → IsGear sounding after }
 {}
 
 /// Where the changes are calls of the script, each client has its bench.
 pub fn all_have_their_benches()
-    ensures { (gear : Gear) → IsGear gear → AreOfCalls gear.script gear.stage.plan.changes → gear.stage.staged.is_staffed ≡ true }
+    ensures { (sounding : Score → Sound) (gear : Gear) → IsGear sounding gear → AreOfCalls gear.script gear.stage.plan.changes → gear.stage.staged.is_staffed ≡ true }
 {
     a_plan_of_a_scripts_calls_is_not_refused();
 }
@@ -56,8 +58,8 @@ pub fn all_have_their_benches()
 /// Where a course fits and was kept, the cycle played what is its own: from the samples that its capture has left, and from
 /// its benches.
 pub fn a_cycle_plays_its_own()
-    ensures { (freewheel : Bool) (before after : Gear) (plan : Planned) (moment : MomentValue) → IsGear before → MayCycle (driver_of before) freewheel → Turns freewheel before plan moment after
-        → (left : List ℤ) (course : Course) → Fits (driver_of after) course → Keeps (driver_of before) course → (driver_of before).left ≡ Some left → PlaysOwn (driver_of before) (driver_of after) left }
+    ensures { (sounding : Score → Sound) (freewheel : Bool) (before after : Gear) (plan : Planned) (moment : MomentValue) → IsGear sounding before → MayCycle (driver_of sounding before) freewheel → Turns sounding freewheel before plan moment after
+        → (left : List ℤ) (course : Course) → Fits (driver_of sounding after) course → Keeps (driver_of sounding before) course → (driver_of sounding before).left ≡ Some left → PlaysOwn (driver_of sounding before) (driver_of sounding after) left }
 {
     a_cycle_is_a_step();
     a_cycle_leaves_the_parts();
@@ -70,8 +72,8 @@ pub fn a_cycle_plays_its_own()
 
 /// What the playback mixes behind the cycle is what the definitions give it.
 pub fn a_mix_is_played()
-    ensures { (freewheel : Bool) (before after : Gear) (plan : Planned) (moment : MomentValue) → IsGear before → MayCycle (driver_of before) freewheel → Turns freewheel before plan moment after → (left : List ℤ) → (driver_of before).left ≡ Some left
-        → interleaved before.set (map (channel_mix before.set after.stage.staged.racked.benches after.capture.channels after.stage.staged.wiring.heard) (below before.script.header.playback)) ≡ played_now (driver_of before) (driver_of after) left }
+    ensures { (sounding : Score → Sound) (freewheel : Bool) (before after : Gear) (plan : Planned) (moment : MomentValue) → IsGear sounding before → MayCycle (driver_of sounding before) freewheel → Turns sounding freewheel before plan moment after → (left : List ℤ) → (driver_of sounding before).left ≡ Some left
+        → interleaved before.set (map (channel_mix before.set after.stage.staged.racked.benches after.capture.channels after.stage.staged.wiring.heard) (below before.script.header.playback)) ≡ played_now (driver_of sounding before) (driver_of sounding after) left }
 {
     a_cycle_is_a_step();
     the_mix_is_played();

@@ -5,19 +5,21 @@ use Rattle.std.proofs.Common.{◌≡◌, ◌+◌, ◌*◌, ◌<◌, ◌≤◌, B
 use Rattle.std.proofs.lemmas.List.{length_push}
 use Rattle.jack_types.specs.declared.files.Format.{Format}
 use Rattle.session_model.specs.Scripts.{turns}
+use Rattle.session_model.specs.Kinds.{Sound}
+use Rattle.client_kinds.specs.Scores.{Score}
 use Rattle.wave_pcm.specs.Readings.{SameReading}
 use Rattle.wave_write.specs.Tapes.{Tape}
 use Rattle.driver_laws.specs.Cycling.{FailsAtRead, MayCycle}
 use Rattle.cycle_laws.specs.Gears.{Gear, IsGear, driver_of}
 use Rattle.cycle_works.specs.Gears.{FailsToRead, with_playback}
 
-module _ (before after : Gear) (freewheel : Bool) (playback : Option Tape) (is : IsGear before) (may : MayCycle (driver_of (with_playback before playback)) freewheel)
+module _ (sounding : Score → Sound) (before after : Gear) (freewheel : Bool) (playback : Option Tape) (is : IsGear sounding before) (may : MayCycle (driver_of sounding (with_playback before playback)) freewheel)
     (fails : FailsToRead before after) (same : SameReading before.capture.reading after.capture.reading) where
   more : length after.numbers ≡ length before.numbers + 1
   more = ap length fails.numbers ∙ length_push before.numbers fails.number
 
-  pub IsGear-failed : IsGear after
-  IsGear-failed = subst (λ gear. IsGear gear) (sym fails.same) (record {
+  pub IsGear-failed : IsGear sounding after
+  IsGear-failed = subst (λ gear. IsGear sounding gear) (sym fails.same) (record {
     served = is.served;
     stands = is.stands;
     base = is.base;
@@ -43,13 +45,13 @@ module _ (before after : Gear) (freewheel : Bool) (playback : Option Tape) (is :
   })
 
 -- whichever file is played back
-pub failed-at-read : (before after : Gear) (playback : Option Tape) → FailsToRead before after → FailsAtRead (driver_of (with_playback before playback)) (driver_of (with_playback after playback))
-failed-at-read before after playback fails = record {
+pub failed-at-read : (sounding : Score → Sound) (before after : Gear) (playback : Option Tape) → FailsToRead before after → FailsAtRead (driver_of sounding (with_playback before playback)) (driver_of sounding (with_playback after playback))
+failed-at-read sounding before after playback fails = record {
   taken = fails.taken;
   number = fails.number;
   takes = fails.takes;
   begins = fails.begins;
   numbers = fails.numbers;
   failed = ap (λ (gear : Gear). gear.failed) fails.same;
-  same = ap (λ gear. driver_of (with_playback gear playback)) fails.same;
+  same = ap (λ gear. driver_of sounding (with_playback gear playback)) fails.same;
 }

@@ -12,16 +12,17 @@ use Rattle.std.specs.Prelude.{IfOk, MatchOption, Result, Ok, Err, slice_index, s
 use Rattle.std.specs.List.Sorted.{IsPermutation}
 use Rattle.std.proofs.lemmas.List.{length-map}
 use Rattle.std.proofs.lemmas.List.Sorted.{IsPermutation-refl}
-use Rattle.std.proofs.lemmas.Option.{get_or_from_slice_get, slice_get_within}
+use Rattle.std.proofs.lemmas.Option.{get_or_from_slice_get, none-some, slice_get_within}
 use Rattle.std.proofs.Math.ListN.{get_or-map}
 use Rattle.jack_types.specs.Recorders.{no_format}
 use Rattle.jack_types.specs.declared.files.Format.{Format}
 use Rattle.jack_types.specs.declared.kinds.Kind.{Kind}
-use Rattle.jack_types.specs.declared.kinds.Score.{Score}
 use Rattle.session_model.specs.Commands.{replay}
 use Rattle.session_model.specs.Scripts.{Script, ScriptCycle, turns}
+use Rattle.session_model.specs.Kinds.{Sound}
 use Rattle.port_registry.specs.Registered.{open_clients}
 use Rattle.graph_word.specs.Publications.{Reading}
+use Rattle.client_kinds.specs.Scores.{Score}
 use Rattle.cycle_plan.specs.Plans.{Planned, nodes_of, opening_of}
 use Rattle.transport.specs.Standings.{Standing}
 use Rattle.record_ring.specs.Rings.{Getting, IsOpening, Sending, items_of}
@@ -98,7 +99,7 @@ module _ {G : Type 0} (script : Script) (scores : List Score) (made : Made G) (i
 abbrev pub parts-made : {S G : Type 0} → Reading × Planned → Captured → Made G → ℕ → Parts S G
 parts-made reader capture made set = record { reader = reader; stage = made.stage; capture = capture; transport = made.outfit.transport; rings = made.outfit.rings; numbers = made.outfit.lists.numbers; moments = made.outfit.lists.moments; set = set }
 
-module _ (gear : Gear) (scores : List Score) (served : IsServed gear.script) (stage : IsNewStage gear.script scores gear.stage) (guests : guests_needed gear.script ≤ length scores)
+module _ (sounding : Score → Sound) (gear : Gear) (scores : List Score) (served : IsServed gear.script) (stage : IsNewStage gear.script scores gear.stage) (guests : guests_needed gear.script ≤ length scores)
     (transport : IsNewTransport gear.script gear.transport) (rings : AreNewRings gear.script gear.rings) (numbers : gear.numbers ≡ []) (moments : gear.moments ≡ []) (capture : IsUnread gear.script gear.capture) (events : gear.events ≡ no_events) (disks : gear.disks ≡ no_disks) where
   kinds-are : kinds_of gear.stage.staged.racked ≡ open_kinds gear.script
   kinds-are = ap (map (λ (bench : Seen). bench.kept.standing.kind)) stage.benches ∙ kinds-new (greatest_period gear.script) (open_kinds gear.script)
@@ -106,7 +107,7 @@ module _ (gear : Gear) (scores : List Score) (served : IsServed gear.script) (st
   as-many : length gear.rings.rings ≡ length gear.script.header.recorders
   as-many = rings.opened.as_many ∙ ap length rings.channels ∙ length-map gear.script.header.recorders (λ (format : Format). format.channels)
 
-  pub IsGear-new : IsGear gear
+  pub IsGear-new : IsGear sounding gear
   IsGear-new = record {
     served = served;
     stands = stage.stands;
@@ -141,11 +142,11 @@ module _ (gear : Gear) (scores : List Score) (served : IsServed gear.script) (st
   channels-at : (recorder : ℕ) → slice_index gear.rings.channels recorder ≡ channels_on gear.script recorder
   channels-at recorder = ap (λ cs. slice_index cs recorder) rings.channels ∙ get_or-map (λ (format : Format). format.channels) gear.script.header.recorders recorder no_format
 
-  own : (recorder : ℕ) (ring : Sending) → slice_get gear.rings.rings recorder ≡ Some ring → IsOwnRing (driver_of gear) recorder ring
+  own : (recorder : ℕ) (ring : Sending) → slice_get gear.rings.rings recorder ≡ Some ring → IsOwnRing (driver_of sounding gear) recorder ring
   own recorder ring here = record {
     samples = ap (λ (s : Sending). s.samples) ring-is ∙ ap (λ n. greatest_period gear.script * n) (channels-at recorder);
     most = ap (λ (s : Sending). s.most) ring-is;
-    items = subst (λ blocks. items_of blocks ≤ frames_run (driver_of gear) * channels_on gear.script recorder) (sym (ap (λ (s : Sending). s.put) ring-is)) (omega arith);
+    items = subst (λ blocks. items_of blocks ≤ frames_run (driver_of sounding gear) * channels_on gear.script recorder) (sym (ap (λ (s : Sending). s.put) ring-is)) (omega arith);
   }
     where
       low : recorder < length gear.rings.channels
@@ -157,10 +158,10 @@ module _ (gear : Gear) (scores : List Score) (served : IsServed gear.script) (st
       ring-is : ring ≡ record { table = (slice_index_or gear.rings.rings recorder no_ring).table; capacity = gear.script.header.ring; samples = greatest_period gear.script * slice_index gear.rings.channels recorder; most = 500000000; put = []; looks = []; least = 0; ended = false }
       ring-is = sym (get_or_from_slice_get gear.rings.rings recorder ring no_ring here) ∙ opened.1.sending_is
 
-  pub IsNew-gear : gear.reading.rows ≡ [] → gear.playback ≡ None → gear.set ≡ gear.script.header.period → gear.failed ≡ false → IsNew gear.script scores (driver_of gear)
+  pub IsNew-gear : gear.reading.rows ≡ [] → gear.playback ≡ None → gear.set ≡ gear.script.header.period → gear.failed ≡ false → IsNew gear.script (map sounding scores) (driver_of sounding gear)
   IsNew-gear rows playback set failed = record {
     script_is = refl;
-    scores_are = ap (λ (o : Owned). o.scores) stage.owned;
+    scores_are = ap (λ (o : Owned). map sounding o.scores) stage.owned;
     rows = rows;
     content = stage.opening.changes;
     numbers = numbers;
@@ -174,6 +175,7 @@ module _ (gear : Gear) (scores : List Score) (served : IsServed gear.script) (st
     sent = rings.sent;
     as_many_disks = sym (ap length no-disks);
     disks = λ i d h. absurd (none_below h);
+    own_disks = λ disk got here. absurd (none-some got here);
     played = sym (ap (map (λ _. 0)) no-disks);
     playback = playback;
     set = set;

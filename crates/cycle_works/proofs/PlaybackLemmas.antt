@@ -7,6 +7,8 @@ use Rattle.std.proofs.Common.{◌≡◌, ℕ, ◌*◌, Bool, length, map, Option
 use Rattle.std.proofs.lemmas.List.{length-map}
 use Rattle.jack_types.specs.declared.moments.Moment.{Moment}
 use Rattle.session_model.specs.Samples.{below, interleaved}
+use Rattle.session_model.specs.Kinds.{Sound}
+use Rattle.client_kinds.specs.Scores.{Score}
 use Rattle.session_laws.proofs.SequentialLemmas.{length-below}
 use Rattle.cycle_plan.specs.Plans.{Planned}
 use Rattle.playback_mix.specs.Mixes.{channel_mix}
@@ -16,8 +18,8 @@ use Rattle.cycle_laws.specs.Turnings.{Turns}
 use Rattle.cycle_laws.proofs.ListLemmas.{interleaved-length}
 use Rattle.cycle_works.specs.Gears.{mixed, with_playback}
 
-pub IsGear-playback : (gear : Gear) (playback : Option Tape) → IsGear gear → IsGear (with_playback gear playback)
-IsGear-playback gear playback is = record {
+pub IsGear-playback : (sounding : Score → Sound) (gear : Gear) (playback : Option Tape) → IsGear sounding gear → IsGear sounding (with_playback gear playback)
+IsGear-playback sounding gear playback is = record {
   served = is.served;
   stands = is.stands;
   base = is.base;
@@ -45,8 +47,8 @@ IsGear-playback gear playback is = record {
   };
 }
 
-module _ (freewheel : Bool) (before : Gear) (plan : Planned) (moment : Moment) (after : Gear) (turns : Turns freewheel before plan moment after) where
-  pub Turns-playback : (playback later : Option Tape) (stops : Bool) → Turns freewheel (with_playback before playback) plan moment (record after { playback = later; failed = stops })
+module _ (sounding : Score → Sound) (freewheel : Bool) (before : Gear) (plan : Planned) (moment : Moment) (after : Gear) (turns : Turns sounding freewheel before plan moment after) where
+  pub Turns-playback : (playback later : Option Tape) (stops : Bool) → Turns sounding freewheel (with_playback before playback) plan moment (record after { playback = later; failed = stops })
   Turns-playback playback later stops = record {
     number = turns.number;
     taken = turns.taken;

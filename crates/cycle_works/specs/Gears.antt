@@ -1,9 +1,9 @@
 -- What contracts see of the works of a driver's cycles, as the laws of its parts have it, for those that use them.
 --     Gear      their parts
---     driver_of gear      the driver that they make
+--     driver_of sounding gear      the driver that they make, whose guests sound so by their scores
 --     IsServed script      which scripts they play
---     IsGear gear      what is true of them between two cycles
---     Turns freewheel before plan moment after      what a cycle leaves
+--     IsGear sounding gear      what is true of them between two cycles
+--     Turns sounding freewheel before plan moment after      what a cycle leaves
 --     with_playback gear playback      the same, with a file that is played back
 --     FailsToRead before after      what a cycle leaves that failed at the capture
 --     mixed gear channels      the block that the last cycle plays back

@@ -1,9 +1,11 @@
 -- The fields of the works. No public clause cites this module.
 --     script_in noted      the script that was noted
 --     gear_of script playback failed parts, seen_of works      their parts
---     IsWhole works      what stays true of the fields
+--     IsWhole sounding works      what stays true of the fields
 use Rattle.std.specs.Prelude.{◌≡◌, ◌≤◌, ⊤, Bool, false, List, [], length, slice_index_or, vec_capacity, Option, None}
 use Rattle.session_model.specs.Scripts.{Script, turns}
+use Rattle.session_model.specs.Kinds.{Sound}
+use Rattle.client_kinds.specs.Scores.{Score}
 use Rattle.wave_write.specs.Tapes.{Tape}
 use Rattle.disk_feeds.specs.Feeding.{no_disks}
 use Rattle.cycle_laws.specs.Gears.{Gear, IsGear, no_events}
@@ -43,7 +45,7 @@ abbrev pub seen_of : {S G : Type 0} → Inside S G → Gear
 seen_of works = gear_of (script_in works.script.items) None works.failed works.parts
 
 -- there is room for a number and a moment of each cycle
-pub record IsWhole {S G : Type 0} (works : Inside S G) : Type 0 where
-  pub gear : IsGear (seen_of works)
+pub record IsWhole (sounding : Score → Sound) {S G : Type 0} (works : Inside S G) : Type 0 where
+  pub gear : IsGear sounding (seen_of works)
   pub numbers : length (turns (seen_of works).script) ≤ vec_capacity works.parts.numbers
   pub moments : length (turns (seen_of works).script) ≤ vec_capacity works.parts.moments

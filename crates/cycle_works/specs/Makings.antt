@@ -10,9 +10,9 @@
 --     IsUnread script capture      a capture of the script's channels
 use Rattle.std.specs.Prelude.{◌≡◌, ℕ, ◌*◌, ◌≤◌, List, [], length, map, replicate, false, Some, None}
 use Rattle.std.specs.Vec.{vec_capacity}
-use Rattle.jack_types.specs.declared.kinds.Score.{Score}
 use Rattle.session_model.specs.Scripts.{Script, turns}
 use Rattle.session_model.specs.Transport.{first_row}
+use Rattle.client_kinds.specs.Scores.{Score}
 use Rattle.cycle_plan.specs.Plans.{Planned}
 use Rattle.transport.specs.Standings.{Standing}
 use Rattle.client_benches.specs.Seen.{new_bench}

@@ -52,7 +52,7 @@ impl<S: Source, G: Guest> Works<S, G> {
 
     /// The peak of the meter that the change of this number opened, over the cycles run; 0 for every other number.
     pub fn peak(&self, birth: u32) -> u32
-        ensures { result ≡ peak_in (driver_of self.now) birth }
+        ensures { result ≡ peak_in (driver_of G.sound self.now) birth }
     {
         self.parts.stage.peak(birth)
     }

@@ -182,7 +182,7 @@ fn assemble<S: Source, G: Guest>(
     requires capture { IsUnread script.now capture }
     requires made { IsMade script.now made.stage.staged.owned.scores made }
     requires guests { guests_needed script.now ≤ length made.stage.staged.owned.scores }
-    ensures new { IsNew script.now made.stage.staged.owned.scores (driver_of result) }
+    ensures new { IsNew script.now (map G.sound made.stage.staged.owned.scores) (driver_of G.sound result) }
     ensures capture { result.capture ≡ capture }
     ensures reader { result.reading ≡ reader.0 }
     ensures rings { result.rings ≡ made.outfit.rings }
@@ -222,7 +222,7 @@ fn over<S: Source, G: Guest>(
     requires capture { (capture.format.channels ≡ script.now.header.capture) × (capture.failed ≡ false) }
     requires made { IsMade script.now made.stage.staged.owned.scores made }
     requires guests { guests_needed script.now ≤ length made.stage.staged.owned.scores }
-    ensures new { IfOk result (λ works. IsNew script.now made.stage.staged.owned.scores (driver_of works)) }
+    ensures new { IfOk result (λ works. IsNew script.now (map G.sound made.stage.staged.owned.scores) (driver_of G.sound works)) }
     ensures capture { IfOk result (λ works. works.capture.reading ≡ capture) }
     ensures reader { IfOk result (λ works. works.reading ≡ reader.0) }
     ensures rings { IfOk result (λ works. works.rings ≡ made.outfit.rings) }
@@ -260,7 +260,7 @@ impl<S: Source, G: Guest> Works<S, G> {
         requires capture { (capture.format.channels ≡ script.now.header.capture) × (capture.failed ≡ false) }
         requires guests { guests_needed script.now ≤ length guests.items }
         requires seats { (0 < seats) × (seats ≤ 16) }
-        ensures new { IfOk result (λ works. IsNew script.now (map G.score guests.items) (driver_of works)) }
+        ensures new { IfOk result (λ works. IsNew script.now (map G.sound (map G.score guests.items)) (driver_of G.sound works)) }
         ensures capture { IfOk result (λ works. works.capture.reading ≡ capture) }
         ensures reader { IfOk result (λ works. works.reading ≡ reader.0) }
         ensures rings { IfOk result (λ works. AreNew script.now.header.recorders script.now.header.ring (greatest_period script.now) (length (turns script.now) * length script.now.header.recorders) works.rings) }

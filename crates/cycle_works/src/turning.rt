@@ -88,10 +88,10 @@ fn turn<S: Source, G: Guest + Send, T: Threads + Sync, K: Gate>(
     gate: &K,
     freewheel: bool,
 ) -> Result<(), ReadFailed>
-    requires may { (script : ScriptValue) × (playback : Option Tape) × (failed : Bool) × IsGear (gear_of script playback failed parts.old) × MayCycle (driver_of (gear_of script playback failed parts.old)) freewheel
+    requires may { (script : ScriptValue) × (playback : Option Tape) × (failed : Bool) × IsGear G.sound (gear_of script playback failed parts.old) × MayCycle (driver_of G.sound (gear_of script playback failed parts.old)) freewheel
         × (length parts.old.numbers.items < vec_capacity parts.old.numbers) × (length parts.old.moments.items < vec_capacity parts.old.moments) }
     ensures turned { (script : ScriptValue) (playback later : Option Tape) (failed stops : Bool)
-        → OnOk result ((plan : Planned) × (moment : MomentValue) × Turns freewheel (gear_of script playback failed parts.old) plan moment (gear_of script later stops parts.new)) }
+        → OnOk result ((plan : Planned) × (moment : MomentValue) × Turns G.sound freewheel (gear_of script playback failed parts.old) plan moment (gear_of script later stops parts.new)) }
     ensures failed { (script : ScriptValue) (playback : Option Tape) (failed : Bool) → OnErr result (FailsToRead (gear_of script playback failed parts.old) (gear_of script playback true parts.new)) }
     ensures same { SameReading parts.old.capture.reading parts.new.capture.reading }
     ensures cause { HasCause parts.old.capture.reading.faults parts.new.capture.reading.faults result }
@@ -140,11 +140,11 @@ impl<S: Source, G: Guest + Send> Works<S, G> {
         gate: &K,
         freewheel: bool,
     ) -> Result<(), ReadFailed>
-        requires may { (playback : Option Tape) × MayCycle (driver_of (with_playback self.old playback)) freewheel }
-        ensures turned { OnOk result ((plan : Planned) × (moment : MomentValue) × Turns freewheel self.old plan moment self.new) }
+        requires may { (playback : Option Tape) × MayCycle (driver_of G.sound (with_playback self.old playback)) freewheel }
+        ensures turned { OnOk result ((plan : Planned) × (moment : MomentValue) × Turns G.sound freewheel self.old plan moment self.new) }
         ensures failed { OnErr result (FailsToRead self.old self.new) }
         ensures sound { self.new.failed ≡ is_err result }
-        ensures stands { IsGear self.old × IsGear self.new }
+        ensures stands { IsGear G.sound self.old × IsGear G.sound self.new }
         ensures same { SameReading self.old.capture.reading self.new.capture.reading }
         ensures cause { HasCause self.old.capture.reading.faults self.new.capture.reading.faults result }
     {

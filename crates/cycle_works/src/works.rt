@@ -28,5 +28,5 @@ impl<S: Source, G: Guest> Model for Works<S, G> {
 
     ghost view = { seen_of };
 
-    ghost invariant = { IsWhole };
+    ghost invariant = { IsWhole G.sound };
 }

@@ -3,6 +3,7 @@
 --     silent-kept      a line of zeros
 --     line-more      a full line, one sample later
 --     echo-played, echo-kept      one frame of the output, and of what is kept
+--     length-echoed      as many samples as are heard
 --     last-one, last-none      the last sample
 --     echo-all, last-all      all frames
 --     IsKept, HasEchoed      what a loop over the frames keeps
@@ -12,7 +13,7 @@ use Rattle.std.proofs.lemmas.Bool.{cases_lt}
 use Rattle.std.proofs.lemmas.List.{drop-append-le, drop-drop, drop_all, drop_more, length-replicate, length-set, take_all, take_more_set}
 use Rattle.std.proofs.Math.Seq.{drop-append_seam}
 use Rattle.circular_buffer.specs.Buffer.{Buffer, buffer, keep_last}
-use Rattle.session_model.specs.Kinds.{echoed, last}
+use Rattle.guests.specs.Sounds.{echoed, last}
 use Rattle.session_model.specs.Samples.{clamp, sample, silence}
 use Rattle.session_laws.proofs.ActivationLemmas.{get_or-map_below, length-map_below}
 use Rattle.guests.specs.Turns.{IsLine, heard}
@@ -70,6 +71,10 @@ last-skip frames x xs h = ap (λ k. drop k (x ∷ xs)) (less (length xs) frames 
   where
     less : (n m : ℕ) → m ≤ n → suc n - m ≡ suc (n - m)
     less n m p = omega (arith, p)
+
+pub length-echoed : (gain : ℤ) (shift : ℕ) (past x : List ℤ) → length (echoed gain shift past x) ≡ length x
+length-echoed gain shift past [] = refl
+length-echoed gain shift past (x ∷ xs) = ap suc (length-echoed gain shift (drop 1 past ++ clamp (x +ℤ int_shr (sample past 0 *ℤ gain) shift) ∷ []) xs)
 
 -- the last sample
 pub last-one : (x : ℤ) (xs : List ℤ) → 0 < length xs → last 1 (x ∷ xs) ≡ sample xs (length xs - 1) ∷ []

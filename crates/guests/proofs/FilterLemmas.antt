@@ -9,7 +9,7 @@ use Rattle.std.specs.Int.{int_shr}
 use Rattle.std.proofs.lemmas.Bool.{cases_lt}
 use Rattle.std.proofs.lemmas.List.{ext_get_or, get_or_append_left, length-set, map-append}
 use Rattle.std.proofs.lemmas.List.Sums.{fold-append}
-use Rattle.session_model.specs.Kinds.{filtered_at, last}
+use Rattle.guests.specs.Sounds.{filtered_at, last}
 use Rattle.session_model.specs.Samples.{below, clamp, sample, total}
 use Rattle.session_laws.proofs.ActivationLemmas.{get_or-map_below, length-map_below}
 use Rattle.session_laws.proofs.PlaceLemmas.{map-same}

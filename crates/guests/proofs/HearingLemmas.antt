@@ -7,13 +7,14 @@
 use Rattle.std.proofs.Common.{◌≡◌, ℕ, zero, suc, ◌+◌, ◌-◌, ◌*◌, ◌<◌, ◌≤◌, List, [], ◌++◌, length, map, take, drop, replicate, ℤ, pos, refl, sym, ◌∙◌, ap, ap₂, subst, arith}
 use Rattle.std.proofs.Math.Seq.{take-append_seam}
 use Rattle.std.proofs.lemmas.List.{ext_get_or, get_or-take, length-replicate, length-take-le, take_all}
-use Rattle.session_model.specs.Kinds.{input_at}
+use Rattle.session_model.specs.Kinds.{fitted, input_at}
 use Rattle.session_model.specs.Samples.{below, sample}
 use Rattle.session_laws.proofs.ActivationLemmas.{get_or-map_below, length-map_below}
 use Rattle.session_laws.proofs.PlaceLemmas.{map-same, sample-silence}
 use Rattle.client_kinds.specs.Buffers.{buffers_of}
 use Rattle.client_kinds.proofs.BufferLemmas.{buffer_past, buffer_within, length-buffer, place_within}
 pub use Rattle.client_kinds.proofs.FillLemmas.{fill_more}
+use Rattle.client_kinds.proofs.FitLemmas.{fitted-alike}
 use Rattle.guests.specs.Turns.{SoundsAs, heard}
 
 pub none_heard : (inputs period : ℕ) (input : List ℤ) → inputs ≡ 0 → SoundsAs [] (input_at period (buffers_of inputs period input) 0)
@@ -47,7 +48,11 @@ pub front : (n : ℕ) (xs ys : List ℤ) → length xs ≡ n → take n (xs ++ y
 front n xs ys h = subst (λ m. take m (xs ++ ys) ≡ xs) h (take-append_seam xs ys)
 
 -- the same on all outputs
-pub played-all : (outputs period : ℕ) (output sound : List ℤ) → length output ≡ outputs * period → (period ≤ length output → take period output ≡ sound) → replicate outputs (take period output) ≡ replicate outputs sound
-played-all zero period output sound size played = refl
-played-all (suc outputs) period output sound size played =
+replicated : (outputs period : ℕ) (output sound : List ℤ) → length output ≡ outputs * period → (period ≤ length output → take period output ≡ sound) → replicate outputs (take period output) ≡ replicate outputs sound
+replicated zero period output sound size played = refl
+replicated (suc outputs) period output sound size played =
     ap (replicate (suc outputs)) (played (omega (arith, size, place_within 0 (suc outputs) period (omega arith))))
+
+pub played-all : (outputs period : ℕ) (output sound : List ℤ) → length sound ≡ period → length output ≡ outputs * period → (period ≤ length output → take period output ≡ sound)
+    → replicate outputs (take period output) ≡ fitted period outputs (replicate outputs sound)
+played-all outputs period output sound whole size played = replicated outputs period output sound size played ∙ sym (fitted-alike period outputs sound whole)

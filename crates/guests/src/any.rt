@@ -18,16 +18,16 @@ pub enum AnyGuest {
 }
 
 impl AnyGuest {
-    ghost use Rattle.std.specs.Prelude.{◌≡◌, Some, IfOk};
-    ghost use Rattle.session_model.specs.Kinds.{first_numbers};
+    ghost use Rattle.std.specs.Prelude.{◌≡◌, IfOk};
     ghost use Rattle.guests.specs.Any.{any_numbers, any_score};
     ghost use Rattle.guests.specs.Guests.{IsPlayable};
+    ghost use Rattle.guests.specs.Sounds.{first_of, numbers_of};
 
     /// The guest of a score in its first memory.
     pub fn new(alloc: Global, score: Score) -> Result<AnyGuest, Memory>
         requires { IsPlayable score }
-        ensures score { IfOk result (λ guest. any_score guest ≡ score) }
-        ensures numbers { IfOk result (λ guest. any_numbers guest ≡ first_numbers (Some score)) }
+        ensures score { IfOk result (λ guest. any_score guest ≡ numbers_of score) }
+        ensures numbers { IfOk result (λ guest. any_numbers guest ≡ first_of score) }
     {
         match score {
             Score::Echo { .. } => match EchoGuest::new(alloc, score) {
@@ -53,8 +53,11 @@ impl AnyGuest {
 impl Guest for AnyGuest {
     ghost use Rattle.std.specs.Prelude.{None};
     ghost use Rattle.guests.specs.Any.{any_numbers, any_score};
+    ghost use Rattle.guests.specs.Sounds.{sound_by};
 
     ghost score = { any_score };
+
+    ghost sound = { sound_by };
 
     ghost numbers = { any_numbers };
 

@@ -3,7 +3,7 @@
 ghost use Rattle.std.specs.Prelude.{◌≡◌, ◌+ℤ◌, ◌*ℤ◌, ◌≤◌, ◌++◌, [], ◌∷◌, IfOk, drop, length, take};
 ghost use Rattle.circular_buffer.specs.Buffer.{buffer};
 ghost use Rattle.std.specs.Int.{int_shr};
-ghost use Rattle.session_model.specs.Kinds.{echoed, last};
+ghost use Rattle.guests.specs.Sounds.{echoed, last};
 ghost use Rattle.session_model.specs.Samples.{clamp, sample, silence};
 ghost use Rattle.jack_types.specs.Taps.{IsTap};
 ghost use Rattle.guests.specs.Turns.{IsLine, IsWithin, heard};
@@ -28,24 +28,25 @@ impl Model for EchoGuest {
     ghost use Rattle.jack_types.specs.declared.kinds.Score.TheVariants.{Echo};
     ghost use Rattle.client_kinds.specs.Seats.{Playing};
     ghost use Rattle.guests.specs.Guests.{IsEchoed};
+    ghost use Rattle.guests.specs.Sounds.{numbers_of};
     ghost use Rattle.guests.specs.Turns.{IsLine};
 
     ghost Value = { Playing };
 
-    ghost view = { λ guest. record { score = Echo guest.frames guest.gain guest.shift; numbers = guest.line.items } };
+    ghost view = { λ guest. record { score = numbers_of (Echo guest.frames guest.gain guest.shift); numbers = guest.line.items } };
 
     ghost invariant = { λ guest. IsEchoed guest.frames guest.gain guest.shift × IsLine guest.frames guest.line };
 }
 
 impl EchoGuest {
-    ghost use Rattle.std.specs.Prelude.{◌≡◌, Some, IfOk};
-    ghost use Rattle.session_model.specs.Kinds.{first_numbers};
+    ghost use Rattle.std.specs.Prelude.{◌≡◌, IfOk};
     ghost use Rattle.guests.specs.Guests.{IsEcho};
+    ghost use Rattle.guests.specs.Sounds.{first_of, numbers_of};
 
     /// The guest of a score in its first memory.
     pub fn new(alloc: Global, score: Score) -> Result<EchoGuest, Memory>
         requires { IsEcho score }
-        ensures { IfOk result (λ guest. guest ≡ record { score = score; numbers = first_numbers (Some score) }) }
+        ensures { IfOk result (λ guest. guest ≡ record { score = numbers_of score; numbers = first_of score }) }
     {
         match score {
             Score::Echo {
@@ -190,8 +191,11 @@ fn echo(
 
 impl Guest for EchoGuest {
     ghost use Rattle.std.specs.Prelude.{None};
+    ghost use Rattle.guests.specs.Sounds.{sound_by};
 
     ghost score = { λ guest. guest.score };
+
+    ghost sound = { sound_by };
 
     ghost numbers = { λ guest. guest.numbers };
 

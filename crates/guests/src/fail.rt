@@ -20,23 +20,24 @@ impl Model for FailGuest {
     ghost use Rattle.std.specs.Prelude.{[], ◌∷◌, ◌+◌, ◌≤◌, pos};
     ghost use Rattle.jack_types.specs.declared.kinds.Score.TheVariants.{FailsAfter};
     ghost use Rattle.client_kinds.specs.Seats.{Playing};
+    ghost use Rattle.guests.specs.Sounds.{numbers_of};
 
     ghost Value = { Playing };
 
-    ghost view = { λ guest. record { score = FailsAfter guest.calls; numbers = pos guest.made ∷ [] } };
+    ghost view = { λ guest. record { score = numbers_of (FailsAfter guest.calls); numbers = pos guest.made ∷ [] } };
 
     ghost invariant = { λ guest. guest.made ≤ guest.calls + 1 };
 }
 
 impl FailGuest {
-    ghost use Rattle.std.specs.Prelude.{◌≡◌, Some, IfOk};
-    ghost use Rattle.session_model.specs.Kinds.{first_numbers};
+    ghost use Rattle.std.specs.Prelude.{◌≡◌, IfOk};
     ghost use Rattle.guests.specs.Guests.{IsFailing};
+    ghost use Rattle.guests.specs.Sounds.{first_of, numbers_of};
 
     /// The guest of a score in its first memory.
     pub fn new(_alloc: Global, score: Score) -> Result<FailGuest, Memory>
         requires { IsFailing score }
-        ensures { IfOk result (λ guest. guest ≡ record { score = score; numbers = first_numbers (Some score) }) }
+        ensures { IfOk result (λ guest. guest ≡ record { score = numbers_of score; numbers = first_of score }) }
     {
         match score {
             Score::FailsAfter { calls } => Ok(FailGuest { calls, made: 0 }),
@@ -81,8 +82,11 @@ fn answer(calls: u32, made: u64) -> i32
 
 impl Guest for FailGuest {
     ghost use Rattle.std.specs.Prelude.{None};
+    ghost use Rattle.guests.specs.Sounds.{sound_by};
 
     ghost score = { λ guest. guest.score };
+
+    ghost sound = { sound_by };
 
     ghost numbers = { λ guest. guest.numbers };
 

@@ -1,7 +1,7 @@
 //! A guest that filters: the weighted sum of the last samples.
 
 ghost use Rattle.std.specs.Prelude.{◌≡◌, ◌+◌, ◌-◌, ◌+ℤ◌, ◌*ℤ◌, ◌≤◌, ◌<◌, ◌++◌, length, map, take};
-ghost use Rattle.session_model.specs.Kinds.{filtered_at};
+ghost use Rattle.guests.specs.Sounds.{filtered_at};
 ghost use Rattle.session_model.specs.Samples.{below, sample, silence};
 ghost use Rattle.jack_types.specs.Taps.{AreTaps, IsTap};
 ghost use Rattle.guests.specs.Turns.{IsWithin, weighted};
@@ -24,23 +24,24 @@ impl Model for FirGuest {
     ghost use Rattle.std.specs.Prelude.{◌≡◌, ◌-◌, ◌≤◌, length};
     ghost use Rattle.jack_types.specs.declared.kinds.Score.TheVariants.{Fir};
     ghost use Rattle.client_kinds.specs.Seats.{Playing};
+    ghost use Rattle.guests.specs.Sounds.{numbers_of};
 
     ghost Value = { Playing };
 
-    ghost view = { λ guest. record { score = Fir guest.taps guest.shift; numbers = guest.past.items } };
+    ghost view = { λ guest. record { score = numbers_of (Fir guest.taps guest.shift); numbers = guest.past.items } };
 
     ghost invariant = { λ guest. (guest.shift ≤ 31) × (length guest.past.items ≡ length guest.taps - 1) };
 }
 
 impl FirGuest {
-    ghost use Rattle.std.specs.Prelude.{◌≡◌, Some, IfOk};
-    ghost use Rattle.session_model.specs.Kinds.{first_numbers};
+    ghost use Rattle.std.specs.Prelude.{◌≡◌, IfOk};
     ghost use Rattle.guests.specs.Guests.{IsFilter};
+    ghost use Rattle.guests.specs.Sounds.{first_of, numbers_of};
 
     /// The guest of a score in its first memory.
     pub fn new(alloc: Global, score: Score) -> Result<FirGuest, Memory>
         requires { IsFilter score }
-        ensures { IfOk result (λ guest. guest ≡ record { score = score; numbers = first_numbers (Some score) }) }
+        ensures { IfOk result (λ guest. guest ≡ record { score = numbers_of score; numbers = first_of score }) }
     {
         match score {
             Score::Fir { taps, shift } => match vec![in alloc; 0; taps.as_slice().len() - 1] {
@@ -160,8 +161,11 @@ fn fill_silence(past: &mut [i32])
 
 impl Guest for FirGuest {
     ghost use Rattle.std.specs.Prelude.{None};
+    ghost use Rattle.guests.specs.Sounds.{sound_by};
 
     ghost score = { λ guest. guest.score };
+
+    ghost sound = { sound_by };
 
     ghost numbers = { λ guest. guest.numbers };
 

@@ -18,21 +18,22 @@ impl Model for HoldGuest {
     ghost use Rattle.std.specs.Prelude.{[], ◌∷◌};
     ghost use Rattle.jack_types.specs.declared.kinds.Score.TheVariants.{Hold};
     ghost use Rattle.client_kinds.specs.Seats.{Playing};
+    ghost use Rattle.guests.specs.Sounds.{numbers_of};
 
     ghost Value = { Playing };
 
-    ghost view = { λ guest. record { score = Hold; numbers = guest.last ∷ [] } };
+    ghost view = { λ guest. record { score = numbers_of Hold; numbers = guest.last ∷ [] } };
 }
 
 impl HoldGuest {
-    ghost use Rattle.std.specs.Prelude.{◌≡◌, Some, IfOk};
-    ghost use Rattle.session_model.specs.Kinds.{first_numbers};
+    ghost use Rattle.std.specs.Prelude.{◌≡◌, IfOk};
     ghost use Rattle.guests.specs.Guests.{IsHold};
+    ghost use Rattle.guests.specs.Sounds.{first_of, numbers_of};
 
     /// The guest of a score in its first memory.
     pub fn new(_alloc: Global, score: Score) -> Result<HoldGuest, Memory>
         requires { IsHold score }
-        ensures { IfOk result (λ guest. guest ≡ record { score = score; numbers = first_numbers (Some score) }) }
+        ensures { IfOk result (λ guest. guest ≡ record { score = numbers_of score; numbers = first_of score }) }
     {
         match score {
             Score::Hold => Ok(HoldGuest { last: 0 }),
@@ -52,8 +53,11 @@ fn hold(period: usize, y: i32, output: &mut [i32])
 
 impl Guest for HoldGuest {
     ghost use Rattle.std.specs.Prelude.{None};
+    ghost use Rattle.guests.specs.Sounds.{sound_by};
 
     ghost score = { λ guest. guest.score };
+
+    ghost sound = { sound_by };
 
     ghost numbers = { λ guest. guest.numbers };
 

@@ -9,12 +9,13 @@ use Rattle.std.specs.Prelude.{IsSome}
 use Rattle.std.proofs.lemmas.Bool.{cases_lt}
 use Rattle.std.proofs.lemmas.List.{length-map, take-append-drop}
 use Rattle.std.proofs.lemmas.Option.{same_Some, slice_get-get_or}
-use Rattle.jack_types.specs.declared.kinds.Score.{Score}
 use Rattle.jack_host.specs.Bytes.{Gains}
 use Rattle.jack_host.specs.Files.{bytes_under, SameFiles}
 use Rattle.session_model.specs.Explanations.{Given, Printed}
+use Rattle.session_model.specs.Kinds.{Sound}
 use Rattle.session_model.specs.Serial.{serial_printed}
 use Rattle.session_model.specs.Soundness.{Apart}
+use Rattle.client_kinds.specs.Scores.{Score}
 use Rattle.session_laws.proofs.LoopLemmas.{Contains-cases, Contains-first, Contains-later}
 use Rattle.port_registry.proofs.PlaceLemmas.{Apart-place}
 use Rattle.recorder_files.specs.Recorders.{Stored}
@@ -124,15 +125,15 @@ others-of : (a b : Option (List ℕ)) (rest others : List (Option (List ℕ))) �
 others-of a b rest others same = cc
 
 -- whatever is given, what is printed explains what the stores have and this report, and in serial mode it is the history of that
-abbrev pub ExplainsAll : Parts → Printed → List Stored → List ℕ → Type 0
-ExplainsAll parts printed stores report = (given : Given) → IsGiven (session_of parts) given → given.disks ≡ [] → Explain given printed stores report
+abbrev pub ExplainsAll : (Score → Sound) → Parts → Printed → List Stored → List ℕ → Type 0
+ExplainsAll sounding parts printed stores report = (given : Given) → IsGiven (session_of sounding parts) given → given.disks ≡ [] → Explain given printed stores report
 
-abbrev pub IsSerialOf : Parts → Printed → Type 0
-IsSerialOf parts printed = (given : Given) → IsGiven (session_of parts) given → given.disks ≡ [] → IsNone given.script.header.threads → printed ≡ serial_printed given
+abbrev pub IsSerialOf : (Score → Sound) → Parts → Printed → Type 0
+IsSerialOf sounding parts printed = (given : Given) → IsGiven (session_of sounding parts) given → given.disks ≡ [] → IsNone given.script.header.threads → printed ≡ serial_printed given
 
-module _ (scores : List Score) (play : Play) (parts : Parts) (printed : Printed) (stores : List Stored) where
-  plays : (files made behind new : Files) (out out_after : Option (List ℕ)) (report : List ℕ) → IsSessionOf (Some files) scores play parts → AreOut (Some made) (made_by play) stores
-      → Stand (Some made) (Some behind) (made_by play) stores → SameFiles (Some behind) (Some new) → ExplainsAll parts printed stores report → IsSerialOf parts printed → Gains out out_after report → Plays files new out out_after scores play
+module _ (sounding : Score → Sound) (scores : List Sound) (play : Play) (parts : Parts) (printed : Printed) (stores : List Stored) where
+  plays : (files made behind new : Files) (out out_after : Option (List ℕ)) (report : List ℕ) → IsSessionOf sounding (Some files) scores play parts → AreOut (Some made) (made_by play) stores
+      → Stand (Some made) (Some behind) (made_by play) stores → SameFiles (Some behind) (Some new) → ExplainsAll sounding parts printed stores report → IsSerialOf sounding parts printed → Gains out out_after report → Plays files new out out_after scores play
   plays files made behind new out out_after report is held stand same explains serial gains = go texts.0 texts.1
     where
       texts : (texts : List (List ℕ)) × (map (λ (store : Stored). store.bytes) stores ≡ map Some texts)
@@ -160,7 +161,7 @@ module _ (scores : List Score) (play : Play) (parts : Parts) (printed : Printed)
       }
 
   pub explained : (files old made behind new : Option Files) (out out_after : Option (List ℕ)) (report : List ℕ) → SameFiles files old → TouchesOnly old made (made_by play) → AreApart (made_by play) → AllStand made behind stores → SameFiles behind new
-      → IsSessionOf files scores play parts → AreOut made (made_by play) stores → ExplainsAll parts printed stores report → IsSerialOf parts printed → Gains out out_after report → IsExplained files new out out_after scores play
+      → IsSessionOf sounding files scores play parts → AreOut made (made_by play) stores → ExplainsAll sounding parts printed stores report → IsSerialOf sounding parts printed → Gains out out_after report → IsExplained files new out out_after scores play
   explained None old made behind new out out_after report first touches apart stand last is held explains serial gains = tt
   explained (Some files) None made behind new out out_after report first touches apart stand last is held explains serial gains = absurd first
   explained (Some files) (Some old) None behind new out out_after report first touches apart stand last is held explains serial gains = absurd touches
@@ -197,9 +198,9 @@ module _ (front : ℕ → Option (List ℕ) → Type 0) (names : List (List ℕ)
           let told = some-told store.0.bytes held.tells in
           inl (low, told.0, last name ∙ stand.each place name store.0 at store.1 ∙ told.1, subst (λ (bytes : Option (List ℕ)). front place bytes) told.1 (fronts place store.0 store.1))
 
-module _ (scores : List Score) (play : Play) (parts : Parts) (printed : Printed) (stores : List Stored) where
+module _ (sounding : Score → Sound) (scores : List Sound) (play : Play) (parts : Parts) (printed : Printed) (stores : List Stored) where
   cuts : (files old made behind new : Files) → SameFiles (Some files) (Some old) → AreApart (made_by play) → MadeSome (Some old) (Some made) (made_by play) stores → AllStand (Some made) (Some behind) stores → SameFiles (Some behind) (Some new)
-      → IsSessionOf (Some files) scores play parts → ((given : Given) → IsGiven (session_of parts) given → given.disks ≡ [] → HaveCut given printed stores) → Cuts files new scores play
+      → IsSessionOf sounding (Some files) scores play parts → ((given : Given) → IsGiven (session_of sounding parts) given → given.disks ≡ [] → HaveCut given printed stores) → Cuts files new scores play
   cuts files old made behind new first apart some stand last is cut = record {
     script_bytes = is.given.0;
     capture_bytes = is.given.2.0;
@@ -237,7 +238,7 @@ module _ (scores : List Score) (play : Play) (parts : Parts) (printed : Printed)
           cut-at front (made_by play) stores apart fronts files old made behind new first some (handed (Some old) (Some made) (Some behind) (made_by play) stores apart some stand) last place name there
 
   pub cut : (files old made behind new : Option Files) → SameFiles files old → AreApart (made_by play) → MadeSome old made (made_by play) stores → AllStand made behind stores → SameFiles behind new
-      → IsSessionOf files scores play parts → ((given : Given) → IsGiven (session_of parts) given → given.disks ≡ [] → HaveCut given printed stores) → IsPlayCut files new scores play
+      → IsSessionOf sounding files scores play parts → ((given : Given) → IsGiven (session_of sounding parts) given → given.disks ≡ [] → HaveCut given printed stores) → IsPlayCut files new scores play
   cut None old made behind new first apart some stand last is fronts = tt
   cut (Some files) None made behind new first apart some stand last is fronts = absurd first
   cut (Some files) (Some old) None behind new first apart some stand last is fronts = absurd some.touches

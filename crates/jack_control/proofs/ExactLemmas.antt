@@ -1,7 +1,7 @@
 -- What was played has no refusal.
 use Rattle.std.proofs.Common.{ℕ, List, Some, None}
 use Rattle.std.specs.Prelude.{Option}
-use Rattle.jack_types.specs.declared.kinds.Score.{Score}
+use Rattle.session_model.specs.Kinds.{Sound}
 use Rattle.play_words.specs.Words.{Play}
 use Rattle.play_inputs.specs.declared.status.Status.{Status}
 use Rattle.play_inputs.specs.Answers.{HasRefusal}
@@ -9,7 +9,7 @@ use Rattle.play_inputs.specs.Inputs.{Files}
 use Rattle.jack_control.specs.Plays.{IsExplained}
 use Rattle.play_inputs.proofs.ExactLemmas.{input-fits, refused-fits}
 
-pub exact-ok : (files new : Option Files) (out out_after : Option (List ℕ)) (scores : List Score) (play : Play) (fault : Status) → HasRefusal files scores play fault
+pub exact-ok : (files new : Option Files) (out out_after : Option (List ℕ)) (scores : List Sound) (play : Play) (fault : Status) → HasRefusal files scores play fault
     → IsExplained files new out out_after scores play → ⊥
 exact-ok None new out out_after scores play fault h is = h
 exact-ok (Some files) None out out_after scores play fault h is = is

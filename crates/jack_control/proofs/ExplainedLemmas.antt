@@ -22,6 +22,8 @@ use Rattle.session_model.specs.Samples.{below}
 use Rattle.session_model.specs.Scripts.{Script, turns}
 use Rattle.session_model.specs.Serial.{course_before, serial_history, serial_numbers, serial_overruns, serial_printed}
 use Rattle.session_model.specs.WaveFiles.{wave_text}
+use Rattle.session_model.specs.Kinds.{Sound}
+use Rattle.client_kinds.specs.Scores.{Score}
 use Rattle.session_laws.proofs.ActivationLemmas.{get_or-map_below}
 use Rattle.wave_write.specs.Tapes.{HasFront, IsCut}
 use Rattle.disk_recorder.specs.Recordings.{samples_of_blocks}
@@ -59,8 +61,8 @@ map-map g f (x ∷ xs) = ap (λ rest. g (f x) ∷ rest) (map-map g f xs)
 abbrev pub AreHeld : Parts → Type 0
 AreHeld parts = length (stores_in parts) ≡ suc (length parts.recorders)
 
-pub told-stores : (parts : Parts) → AreHeld parts → map (λ (store : Stored). store.bytes) (stores_in parts) ≡ (told_of parts).playback_file ∷ (told_of parts).record_files
-told-stores parts all =
+pub told-stores : (sounding : Score → Sound) (parts : Parts) → AreHeld parts → map (λ (store : Stored). store.bytes) (stores_in parts) ≡ (told_of sounding parts).playback_file ∷ (told_of sounding parts).record_files
+told-stores sounding parts all =
     sym (map-map bytes_of Some (stores_in parts))
     ∙ ap (map bytes_of) (picked-all held (all ∙ ap suc (sym (length-map parts.recorders held_in))))
     ∙ ap (λ (rest : List (Option (List ℕ))). bytes_of (held_or parts.playback parts.gear.playback) ∷ rest) (map-map bytes_of held_in parts.recorders)
@@ -90,51 +92,51 @@ printed-serial before between given runs serial is none =
 
 -- ---- fronts
 
-module _ (front : ℕ → Option (List ℕ) → Type 0) where
+module _ (sounding : Score → Sound) (front : ℕ → Option (List ℕ) → Type 0) where
   front-there : (playback : Option (List ℕ)) (records : List (Option (List ℕ))) → front zero playback
       → ((recorder : ℕ) (file : Option (List ℕ)) → slice_get records recorder ≡ Some file → front (suc recorder) file)
       → (place : ℕ) (bytes : Option (List ℕ)) → slice_get (playback ∷ records) place ≡ Some bytes → front place bytes
   front-there playback records first others zero bytes is = subst (λ (told : Option (List ℕ)). front zero told) (same_Some playback bytes is) first
   front-there playback records first others (suc recorder) bytes is = others recorder bytes is
 
-  fronts-held : (parts : Parts) → AreHeld parts → front zero (told_of parts).playback_file
-      → ((recorder : ℕ) (file : Option (List ℕ)) → slice_get (told_of parts).record_files recorder ≡ Some file → front (suc recorder) file) → HaveFronts front (stores_in parts)
+  fronts-held : (parts : Parts) → AreHeld parts → front zero (told_of sounding parts).playback_file
+      → ((recorder : ℕ) (file : Option (List ℕ)) → slice_get (told_of sounding parts).record_files recorder ≡ Some file → front (suc recorder) file) → HaveFronts front (stores_in parts)
   fronts-held parts all first others place store is =
-      front-there (told_of parts).playback_file (told_of parts).record_files first others place store.bytes
-      (ap (λ (told : List (Option (List ℕ))). slice_get told place) (sym (told-stores parts all)) ∙ mapped_there (λ (store : Stored). store.bytes) (stores_in parts) place store is)
+      front-there (told_of sounding parts).playback_file (told_of sounding parts).record_files first others place store.bytes
+      (ap (λ (told : List (Option (List ℕ))). slice_get told place) (sym (told-stores sounding parts all)) ∙ mapped_there (λ (store : Stored). store.bytes) (stores_in parts) place store is)
 
-pub fronts-told : (parts : Parts) (given : Given) → AreHeld parts → StandsInSerial given (told_of parts) → HaveFronts (front_at given) (stores_in parts)
-fronts-told parts given all stands = fronts-held (front_at given) parts all stands.playback stands.records
+pub fronts-told : (sounding : Score → Sound) (parts : Parts) (given : Given) → AreHeld parts → StandsInSerial given (told_of sounding parts) → HaveFronts (front_at given) (stores_in parts)
+fronts-told sounding parts given all stands = fronts-held sounding (front_at given) parts all stands.playback stands.records
 
 -- the overruns that the report prints of a recorder
 printed-overruns : (session : Session) (recorder : ℕ) → recorder < length session.script.header.recorders → overruns_of (printed_of session) recorder ≡ overruns_on session.driver.overruns recorder
 printed-overruns session recorder low = get_or-map_below (overruns_on session.driver.overruns) (length session.script.header.recorders) recorder [] low
 
-pub fronts-so_far : (parts : Parts) (given : Given) (kept : ℕ) → AreHeld parts → length parts.recorders ≡ length parts.gear.script.header.recorders → StandsSoFar kept (told_of parts) given
-    → HaveFronts (front_so_far given (printed_of (session_of parts)) kept) (stores_in parts)
-fronts-so_far parts given kept all many stands = fronts-held (front_so_far given (printed_of (session_of parts)) kept) parts all stands.playback each
+pub fronts-so_far : (sounding : Score → Sound) (parts : Parts) (given : Given) (kept : ℕ) → AreHeld parts → length parts.recorders ≡ length parts.gear.script.header.recorders → StandsSoFar kept (told_of sounding parts) given
+    → HaveFronts (front_so_far given (printed_of (session_of sounding parts)) kept) (stores_in parts)
+fronts-so_far sounding parts given kept all many stands = fronts-held sounding (front_so_far given (printed_of (session_of sounding parts)) kept) parts all stands.playback each
   where
-    each : (recorder : ℕ) (file : Option (List ℕ)) → slice_get (told_of parts).record_files recorder ≡ Some file → front_so_far given (printed_of (session_of parts)) kept (suc recorder) file
+    each : (recorder : ℕ) (file : Option (List ℕ)) → slice_get (told_of sounding parts).record_files recorder ≡ Some file → front_so_far given (printed_of (session_of sounding parts)) kept (suc recorder) file
     each recorder file there =
-        let low : recorder < length parts.gear.script.header.recorders = subst (λ n. recorder < n) (length-map parts.recorders (λ (r : Recording). bytes_of (held_in r)) ∙ many) (slice_get_within (told_of parts).record_files recorder file there) in
-        subst (λ (overruns : List Overrun). HasFront (recorder_format (course_in given (session_of parts)) recorder) (samples_of_blocks (kept_blocks (course_in given (session_of parts)) overruns recorder kept)) file)
-        (sym (printed-overruns (session_of parts) recorder low)) (stands.records recorder file there)
+        let low : recorder < length parts.gear.script.header.recorders = subst (λ n. recorder < n) (length-map parts.recorders (λ (r : Recording). bytes_of (held_in r)) ∙ many) (slice_get_within (told_of sounding parts).record_files recorder file there) in
+        subst (λ (overruns : List Overrun). HasFront (recorder_format (course_in given (session_of sounding parts)) recorder) (samples_of_blocks (kept_blocks (course_in given (session_of sounding parts)) overruns recorder kept)) file)
+        (sym (printed-overruns (session_of sounding parts) recorder low)) (stands.records recorder file there)
 
 front-begun : (format of : Format) (samples : List ℤ) (told : Option (List ℕ)) → format ≡ of → IfSome told (IsCut format) → HasFront of samples told
 front-begun format of samples None same cut = tt
 front-begun format of samples (Some bytes) same cut = inl (subst (λ (f : Format). IsCut f bytes) same cut)
 
-pub fronts-begun : (parts : Parts) (stores : List Stored) → AreFronts parts stores → (given : Given) → IsGiven (session_of parts) given → HaveFronts (front_at given) stores
-fronts-begun parts stores begun given is zero store there =
+pub fronts-begun : (sounding : Score → Sound) (parts : Parts) (stores : List Stored) → AreFronts parts stores → (given : Given) → IsGiven (session_of sounding parts) given → HaveFronts (front_at given) stores
+fronts-begun sounding parts stores begun given is zero store there =
     front-begun (format_at zero parts) (playback_format (serial_course_of given)) (played_back (serial_course_of given)) store.bytes (ap (λ (s : Script). playback_format (record (serial_course_of given) { script = s })) (sym is.own.script)) (begun zero store there)
-fronts-begun parts stores begun given is (suc recorder) store there =
+fronts-begun sounding parts stores begun given is (suc recorder) store there =
     front-begun (format_at (suc recorder) parts) (recorder_format (serial_course_of given) recorder) (recorded (serial_course_of given) (serial_overruns given.script recorder) recorder) store.bytes
     (ap (λ (s : Script). recorder_format (record (serial_course_of given) { script = s }) recorder) (sym is.own.script)) (begun (suc recorder) store there)
 
-pub begun-so_far : (parts : Parts) (stores : List Stored) → AreFronts parts stores → (given : Given) (printed : Printed) (kept : ℕ) → IsGiven (session_of parts) given → HaveFronts (front_so_far given printed kept) stores
-begun-so_far parts stores begun given printed kept is zero store there =
+pub begun-so_far : (sounding : Score → Sound) (parts : Parts) (stores : List Stored) → AreFronts parts stores → (given : Given) (printed : Printed) (kept : ℕ) → IsGiven (session_of sounding parts) given → HaveFronts (front_so_far given printed kept) stores
+begun-so_far sounding parts stores begun given printed kept is zero store there =
     front-begun (format_at zero parts) (playback_format (course_of given printed)) (played_so_far (course_of given printed) kept) store.bytes (ap (λ (s : Script). playback_format (record (course_of given printed) { script = s })) (sym is.own.script)) (begun zero store there)
-begun-so_far parts stores begun given printed kept is (suc recorder) store there =
+begun-so_far sounding parts stores begun given printed kept is (suc recorder) store there =
     front-begun (format_at (suc recorder) parts) (recorder_format (course_of given printed) recorder) (samples_of_blocks (kept_blocks (course_of given printed) (overruns_of printed recorder) recorder kept)) store.bytes
     (ap (λ (s : Script). recorder_format (record (course_of given printed) { script = s }) recorder) (sym is.own.script)) (begun (suc recorder) store there)
 
@@ -185,19 +187,19 @@ first-told a b rest others same = cc
 others-told : (a b : Option (List ℕ)) (rest others : List (Option (List ℕ))) → a ∷ rest ≡ b ∷ others → rest ≡ others
 others-told a b rest others same = cc
 
-pub explain : IsExplainedEach → (before between after : Parts) → Runs (session_of before) (session_of between)
-    → AreHeld after → told_of after ≡ session_of after → length after.recorders ≡ length before.gear.script.header.recorders
-    → (given : Given) → IsGiven (session_of before) given → Ends given (session_of between) (session_of after) → Explain given (printed_of (session_of after)) (stores_in after) (text_in (session_of after))
-explain law before between after runs all told many given is ends playback records same =
-    subst (λ (printed : Printed). Explained given printed (record { playback = playback; records = records; report = text_in (session_of after) }))
+pub explain : (sounding : Score → Sound) → IsExplainedEach → (before between after : Parts) → Runs (session_of sounding before) (session_of sounding between)
+    → AreHeld after → told_of sounding after ≡ session_of sounding after → length after.recorders ≡ length before.gear.script.header.recorders
+    → (given : Given) → IsGiven (session_of sounding before) given → Ends given (session_of sounding between) (session_of sounding after) → Explain given (printed_of (session_of sounding after)) (stores_in after) (text_in (session_of sounding after))
+explain sounding law before between after runs all told many given is ends playback records same =
+    subst (λ (printed : Printed). Explained given printed (record { playback = playback; records = records; report = text_in (session_of sounding after) }))
     (sym ends.printed)
-    (law (session_of before) (session_of between) (session_of after) given playback records is runs ends
-    (ap (λ (s : Session). s.playback_file) (sym told) ∙ first-told (told_of after).playback_file (Some playback) (told_of after).record_files (map Some records) files)
+    (law (session_of sounding before) (session_of sounding between) (session_of sounding after) given playback records is runs ends
+    (ap (λ (s : Session). s.playback_file) (sym told) ∙ first-told (told_of sounding after).playback_file (Some playback) (told_of sounding after).record_files (map Some records) files)
     (ap (λ (s : Session). s.record_files) (sym told) ∙ rest)
     (sym (length-map records Some) ∙ sym (ap length rest) ∙ length-map after.recorders (λ (r : Recording). bytes_of (held_in r)) ∙ many))
   where
-    files : (told_of after).playback_file ∷ (told_of after).record_files ≡ Some playback ∷ map Some records
-    files = sym (told-stores after all) ∙ same
+    files : (told_of sounding after).playback_file ∷ (told_of sounding after).record_files ≡ Some playback ∷ map Some records
+    files = sym (told-stores sounding after all) ∙ same
 
-    rest : (told_of after).record_files ≡ map Some records
-    rest = others-told (told_of after).playback_file (Some playback) (told_of after).record_files (map Some records) files
+    rest : (told_of sounding after).record_files ≡ map Some records
+    rest = others-told (told_of sounding after).playback_file (Some playback) (told_of sounding after).record_files (map Some records) files

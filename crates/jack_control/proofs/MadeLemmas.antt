@@ -21,6 +21,8 @@ use Rattle.run_laws.proofs.PlaceLemmas.{mapped_there}
 use Rattle.session_laws.proofs.ListLemmas.{slice_get-map}
 use Rattle.session_model.specs.Samples.{bytes_of as sample_bytes}
 use Rattle.session_model.specs.WaveFiles.{opening_text}
+use Rattle.session_model.specs.Kinds.{Sound}
+use Rattle.client_kinds.specs.Scores.{Score}
 use Rattle.session_run.specs.Seen.{playback_format}
 use Rattle.session_run.specs.Seen.{Parts, stores_in}
 use Rattle.session_run.specs.Standings.{IsAttaching, IsBegun, format_at, format_next}
@@ -60,7 +62,7 @@ begun-cut format own (Some bytes) e h =
     let whole : bytes ≡ opening_text format = h ∙ append-nil (opening_text own) ∙ ap opening_text e in
     subst (λ (xs : List ℕ). xs ≡ take (length xs) (opening_text format)) (sym whole) (sym (take-length (opening_text format)))
 
-module _ (parts : Parts) (is : IsAttaching parts) where
+module _ (sounding : Score → Sound) (parts : Parts) (is : IsAttaching sounding parts) where
   abbrev places : List (Option Stored)
   places = held_or parts.playback parts.gear.playback ∷ map held_in parts.recorders
 
@@ -137,15 +139,15 @@ rest-then old parts after first second = record {
   as_many = second.as_many ∙ first.as_many;
 }
 
-pub record HaveMade (files now : Option Files) (names : List (List ℕ)) (old parts : Parts) : Type 0 where
-  pub attaching : IsAttaching parts
+pub record HaveMade (sounding : Score → Sound) (files now : Option Files) (names : List (List ℕ)) (old parts : Parts) : Type 0 where
+  pub attaching : IsAttaching sounding parts
   pub attached : parts.attached ≡ length names
   pub out : AreOut now names (stores_in parts)
   pub others : TouchesOnly files now names
   pub rest : KeepsRest old parts
 
-pub made-none : (files : Option Files) (old : Parts) → IsAttaching old → old.attached ≡ 0 → stores_in old ≡ [] → HaveMade files files [] old old
-made-none files old is first none = record {
+pub made-none : (sounding : Score → Sound) (files : Option Files) (old : Parts) → IsAttaching sounding old → old.attached ≡ 0 → stores_in old ≡ [] → HaveMade sounding files files [] old old
+made-none sounding files old is first none = record {
   attaching = is;
   attached = first;
   out = record { as_many = ap (λ stores. length stores) none; each = λ i name store n s. absurd (none-some name n) };
@@ -153,9 +155,9 @@ made-none files old is first none = record {
   rest = record { desk = refl; gear = refl; as_many = refl };
 }
 
-pub made-more : (files a b : Option Files) (names : List (List ℕ)) (name : List ℕ) (old parts after : Parts) → HaveMade files a names old parts
-    → IsAttaching after → after.attached ≡ suc parts.attached → MakesOne a b name parts after → KeepsRest parts after → HaveMade files b (names ++ name ∷ []) old after
-made-more files a b names name old parts after made is more one rest = record {
+pub made-more : (sounding : Score → Sound) (files a b : Option Files) (names : List (List ℕ)) (name : List ℕ) (old parts after : Parts) → HaveMade sounding files a names old parts
+    → IsAttaching sounding after → after.attached ≡ suc parts.attached → MakesOne a b name parts after → KeepsRest parts after → HaveMade sounding files b (names ++ name ∷ []) old after
+made-more sounding files a b names name old parts after made is more one rest = record {
   attaching = is;
   attached = more ∙ ap suc made.attached ∙ (let long = length-append names (name ∷ []) in omega (arith, long));
   out = subst (AreOut b (names ++ name ∷ [])) (sym one.stores) (out-more a b names name [] (stores_in parts) one.back made.out one.made one.out);
@@ -167,14 +169,14 @@ format_same : (old parts : Parts) → KeepsRest old parts → (i : ℕ) → form
 format_same old parts rest zero = ap (λ (g : Gear). playback_format g.script) rest.gear
 format_same old parts rest (suc i) = ap (λ (g : Gear). slice_index_or g.script.header.recorders i no_format) rest.gear
 
-pub made-fronts : (files now : Option Files) (names : List (List ℕ)) (old parts : Parts) → HaveMade files now names old parts → AreFronts old (stores_in parts)
-made-fronts files now names old parts made i store there = subst (λ (f : Format). IfSome store.bytes (IsCut f)) (format_same old parts made.rest i) (begun-fronts parts made.attaching i store there)
+pub made-fronts : (sounding : Score → Sound) (files now : Option Files) (names : List (List ℕ)) (old parts : Parts) → HaveMade sounding files now names old parts → AreFronts old (stores_in parts)
+made-fronts sounding files now names old parts made i store there = subst (λ (f : Format). IfSome store.bytes (IsCut f)) (format_same old parts made.rest i) (begun-fronts sounding parts made.attaching i store there)
 
 pub made-touches : (files now : Option Files) (n : ℕ) (names : List (List ℕ)) → TouchesOnly files now (take n names) → TouchesOnly files now names
 made-touches files now n names t = touches-wider files now (take n names) names (Contains-front n names) t
 
-pub made-count : (files now : Option Files) (n : ℕ) (names : List (List ℕ)) (old parts : Parts) → HaveMade files now (take n names) old parts → n ≤ length names → parts.attached ≡ n
-made-count files now n names old parts made few = made.attached ∙ length-take-le n names few
+pub made-count : (sounding : Score → Sound) (files now : Option Files) (n : ℕ) (names : List (List ℕ)) (old parts : Parts) → HaveMade sounding files now (take n names) old parts → n ≤ length names → parts.attached ≡ n
+made-count sounding files now n names old parts made few = made.attached ∙ length-take-le n names few
 
 pub made-all : (names : List (List ℕ)) (n : ℕ) → n ≡ length names → take n names ≡ names
 made-all names n e = take_all n names (omega (arith, e))
@@ -185,7 +187,7 @@ abbrev pub IsUnmade : Option Files → Option Files → List ℕ → Parts → P
 IsUnmade a b name parts after before faults =
     (SameFiles a b × (after ≡ parts) × Rose before faults) ⊎ ((one : MakesOne a b name parts after) × (1 ≤ one.back.faults) × IfSome one.back.bytes (IsCut (format_next parts)))
 
-module _ (files a b : Option Files) (names : List (List ℕ)) (name : List ℕ) (old parts after : Parts) (before faults : ℕ) (made : HaveMade files a names old parts) where
+module _ (sounding : Score → Sound) (files a b : Option Files) (names : List (List ℕ)) (name : List ℕ) (old parts after : Parts) (before faults : ℕ) (made : HaveMade sounding files a names old parts) where
   -- so many of all names were made
   pub left-out : (all : List (List ℕ)) (n : ℕ) → take n all ≡ names → take (suc n) all ≡ names ++ name ∷ [] → IsUnmade a b name parts after before faults
       → (m : ℕ) × AreOut b (take m all) (stores_in after) × TouchesOnly files b (take m all)
@@ -205,14 +207,14 @@ module _ (files a b : Option Files) (names : List (List ℕ)) (name : List ℕ) 
   last-front back cut i store there = go (last_or (stores_in parts) back i store there)
     where
       go : (slice_get (stores_in parts) i ≡ Some store) ⊎ ((i ≡ length (stores_in parts)) × (back ≡ store)) → IfSome store.bytes (IsCut (format_at i old))
-      go (inl here) = made-fronts files a names old parts made i store here
+      go (inl here) = made-fronts sounding files a names old parts made i store here
       go (inr last) =
           let place : i ≡ parts.attached = last.0 ∙ made.out.as_many ∙ sym made.attached in
           subst (λ (s : Stored). IfSome s.bytes (IsCut (format_at i old))) last.1
           (subst (λ (f : Format). IfSome back.bytes (IsCut f)) (ap (λ k. format_at k parts) (sym place) ∙ format_same old parts made.rest i) cut)
 
   pub left-fronts : IsUnmade a b name parts after before faults → AreFronts old (stores_in after)
-  left-fronts (inl same) = subst (λ (p : Parts). AreFronts old (stores_in p)) (sym same.1) (made-fronts files a names old parts made)
+  left-fronts (inl same) = subst (λ (p : Parts). AreFronts old (stores_in p)) (sym same.1) (made-fronts sounding files a names old parts made)
   left-fronts (inr made_one) = subst (AreFronts old) (sym made_one.0.stores) (last-front made_one.0.back made_one.2)
 
   last-there : (stores : List Stored) (back : Stored) → slice_get (stores ++ back ∷ []) (length stores) ≡ Some back

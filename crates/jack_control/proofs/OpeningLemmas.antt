@@ -1,9 +1,10 @@
 -- What a session that was opened was given.
-use Rattle.std.proofs.Common.{◌≡◌, ◌∙◌, ℕ, ℤ, List, [], Some, refl, sym, ap}
+use Rattle.std.proofs.Common.{◌≡◌, ◌∙◌, ℕ, ℤ, List, [], Some, ap, map, refl, sym}
 use Rattle.std.specs.Prelude.{Option}
-use Rattle.jack_types.specs.declared.kinds.Score.{Score}
 use Rattle.session_model.specs.Explanations.{Given}
+use Rattle.session_model.specs.Kinds.{Sound}
 use Rattle.session_model.specs.Scripts.{Script}
+use Rattle.client_kinds.specs.Scores.{Score}
 use Rattle.session_run.specs.Seen.{IsServed}
 use Rattle.play_words.specs.Words.{Play}
 use Rattle.run_laws.specs.Sessions.{IsGiven as TellsGiven}
@@ -16,13 +17,13 @@ use Rattle.play_inputs.proofs.InputLemmas.{if_bytes_map}
 no_disks : (script : Script) → IsServed script → script.header.disks ≡ []
 no_disks script served = (served.lawful.old served.version).1
 
-module _ (files : Option Files) (scores : List Score) (play : Play) (script : Script) (left : Option (List ℤ)) (parts : Parts) (served : IsServed script) (script_is : parts.gear.script ≡ script)
-    (scores_are : parts.gear.stage.staged.owned.scores ≡ scores) (left_is : parts.gear.capture.reading.left ≡ left) where
+module _ (sounding : Score → Sound) (files : Option Files) (scores : List Sound) (play : Play) (script : Script) (left : Option (List ℤ)) (parts : Parts) (served : IsServed script) (script_is : parts.gear.script ≡ script)
+    (scores_are : map sounding parts.gear.stage.staged.owned.scores ≡ scores) (left_is : parts.gear.capture.reading.left ≡ left) where
   abbrev Reads : List ℕ → List ℕ → Type 0
   Reads script_bytes capture_bytes = (given : Given) × IsInput script_bytes capture_bytes scores play given × (given.script ≡ script) × (left ≡ Some given.capture)
 
   abbrev Tells : List ℕ → List ℕ → Type 0
-  Tells script_bytes capture_bytes = (given : Given) × IsInput script_bytes capture_bytes scores play given × TellsGiven (session_of parts) given
+  Tells script_bytes capture_bytes = (given : Given) × IsInput script_bytes capture_bytes scores play given × TellsGiven (session_of sounding parts) given
 
   tells : (script_bytes capture_bytes : List ℕ) → Reads script_bytes capture_bytes → Tells script_bytes capture_bytes
   tells script_bytes capture_bytes (given, input, of, samples) = (

@@ -7,7 +7,7 @@
 --     come-none, come-ran, come-ended      how far it came
 --     cut-begun, cut-broken, cut-whole      of the stores, where making files failed, where the run or the end failed, and where neither did
 --     explain-whole, serial-whole      what is printed explains them, and in serial mode it is the history of that
-use Rattle.std.proofs.Common.{◌≡◌, ◌⊎◌, inl, inr, ℕ, suc, ◌<◌, ◌≤◌, List, [], length, take, Option, Some, None, IsNone, is_some, Result, Ok, Err, is_err, OnOk, false, sym, ◌∙◌, ap, subst, arith, true≢false}
+use Rattle.std.proofs.Common.{◌≡◌, ◌⊎◌, inl, inr, ℕ, suc, ◌<◌, ◌≤◌, List, [], length, map, take, Option, Some, None, IsNone, is_some, Result, Ok, Err, is_err, OnOk, false, sym, ◌∙◌, ap, subst, arith, true≢false}
 use Rattle.std.specs.Prelude.{IsErrOf, IsSome}
 use Rattle.std.proofs.lemmas.List.{length-map, take_all}
 use Rattle.std.proofs.lemmas.Option.{slice_get_within}
@@ -16,6 +16,8 @@ use Rattle.session_model.specs.Explanations.{Given, Printed}
 use Rattle.session_model.specs.Histories.{LegalSoFar}
 use Rattle.session_model.specs.Scripts.{Script, phases, turns}
 use Rattle.session_model.specs.Serial.{serial_printed}
+use Rattle.session_model.specs.Kinds.{Sound}
+use Rattle.client_kinds.specs.Scores.{Score}
 use Rattle.session_laws.proofs.HistoryLemmas.{LegalSoFar-none}
 use Rattle.control_desk.specs.Desks.{Desk}
 use Rattle.driver_laws.specs.Drivers.{run}
@@ -44,11 +46,11 @@ use Rattle.jack_control.proofs.ExplainedLemmas.{AreHeld, IsExplainedEach, begun-
 abbrev pub HasFiles : Parts → Parts → Type 0
 HasFiles before after = after.gear ≡ record before.gear { playback = after.gear.playback }
 
-pub given-made : (before after : Parts) → HasFiles before after → (given : Given) → IsGiven (session_of before) given → IsGiven (session_of after) given
-given-made before after same given is = record {
+pub given-made : (sounding : Score → Sound) (before after : Parts) → HasFiles before after → (given : Given) → IsGiven (session_of sounding before) given → IsGiven (session_of sounding after) given
+given-made sounding before after same given is = record {
   own = record {
     script = is.own.script ∙ sym script;
-    scores = is.own.scores ∙ sym (ap (λ (g : Gear). g.stage.staged.owned.scores) same);
+    scores = is.own.scores ∙ sym (ap (λ (g : Gear). map sounding g.stage.staged.owned.scores) same);
     channels = is.own.channels ∙ ap (λ (s : Script). s.header.disks) (sym script);
   };
   capture = ap (λ (g : Gear). g.capture.reading.left) same ∙ is.capture;
@@ -84,10 +86,10 @@ come-none script history numbers none no_cycles = record {
 }
 
 -- a file could not be made, or begun: nothing was run
-pub cut-begun : (parts later : Parts) (stores : List Stored) → IsAttaching parts → AreFronts parts stores → later.desk ≡ parts.desk → HasFiles parts later → (given : Given) → IsGiven (session_of parts) given
-    → HaveCut given (printed_of (session_of later)) stores
-cut-begun parts later stores attaching begun desk same given is = record {
-  serial = λ none. fronts-begun parts stores begun given is;
+pub cut-begun : (sounding : Score → Sound) (parts later : Parts) (stores : List Stored) → IsAttaching sounding parts → AreFronts parts stores → later.desk ≡ parts.desk → HasFiles parts later → (given : Given) → IsGiven (session_of sounding parts) given
+    → HaveCut given (printed_of (session_of sounding later)) stores
+cut-begun sounding parts later stores attaching begun desk same given is = record {
+  serial = λ none. fronts-begun sounding parts stores begun given is;
   so_far = λ some. record {
     kept = 0;
     came = record {
@@ -95,21 +97,21 @@ cut-begun parts later stores attaching begun desk same given is = record {
       low = omega arith;
       near = subst (λ (numbers : List ℕ). length numbers ≤ 1) (sym (ap (λ (g : Gear). g.numbers) same ∙ attaching.new.new_driver.numbers)) (omega arith);
     };
-    fronts = begun-so_far parts stores begun given (printed_of (session_of later)) 0 is;
+    fronts = begun-so_far sounding parts stores begun given (printed_of (session_of sounding later)) 0 is;
   };
 }
 
-come-ran : (parts : Parts) → HasLists (session_of parts) → HasCome parts.gear.script parts.desk.history parts.gear.numbers
-come-ran parts lists = record { legal = lists.legal.so_far; rising = lists.cycles.rising; within = lists.cycles.bounds }
+come-ran : (sounding : Score → Sound) (parts : Parts) → HasLists (session_of sounding parts) → HasCome parts.gear.script parts.desk.history parts.gear.numbers
+come-ran sounding parts lists = record { legal = lists.legal.so_far; rising = lists.cycles.rising; within = lists.cycles.bounds }
 
 -- the run came to its end, and what it made stays behind an end that failed
-pub come-ended : (after between ended : Parts) → between.gear.script ≡ after.gear.script → HasLists (session_of between) → ended.desk.history ≡ between.desk.history → ended.gear.numbers ≡ between.gear.numbers
+pub come-ended : (sounding : Score → Sound) (after between ended : Parts) → between.gear.script ≡ after.gear.script → HasLists (session_of sounding between) → ended.desk.history ≡ between.desk.history → ended.gear.numbers ≡ between.gear.numbers
     → HasCome after.gear.script ended.desk.history ended.gear.numbers
-come-ended after between ended script lists history numbers =
+come-ended sounding after between ended script lists history numbers =
     subst (λ (ns : List ℕ). HasCome after.gear.script ended.desk.history ns) (sym numbers)
     (subst (λ (h : List Entry). HasCome after.gear.script h between.gear.numbers) (sym history)
     (subst (λ (s : Script). HasCome s between.desk.history between.gear.numbers) script
-    (come-ran between lists)))
+    (come-ran sounding between lists)))
 
 -- ---- the causes of a session's fault
 
@@ -129,21 +131,21 @@ pub one-failed : (before after : List Stored) → OneRose before after → OneFa
 one-failed before after one = (one.place, one.new, one.is, let rose = one.rose in omega (arith, rose))
 
 -- all files were made, of a session that had none
-pub record MadeAll (old new : Option Files) (names records : List (List ℕ)) (before after : Parts) : Type 0 where
+pub record MadeAll (sounding : Score → Sound) (old new : Option Files) (names records : List (List ℕ)) (before after : Parts) : Type 0 where
   pub names_are : length names ≡ suc (length records)
-  pub ready : IsAttaching after
+  pub ready : IsAttaching sounding after
   pub out : AreOut new names (stores_in after)
   pub touches : TouchesOnly old new names
   pub many : length before.recorders ≡ length records
   pub as_many : length after.recorders ≡ length before.recorders
 
-pub made-all : {T E : Type 0} (r : Result T E) (old new : Option Files) (names records : List (List ℕ)) (before after : Parts) → false ≡ is_err r → length names ≡ suc (length records)
-    → OnOk r (IsAttaching after × (after.attached ≡ suc (length after.recorders)) × AreOut new names (stores_in after)) → TouchesOnly old new names → length before.recorders ≡ length records → length after.recorders ≡ length before.recorders
-    → MadeAll old new names records before after
-made-all (Ok x) old new names records before after is names_are made touches many as_many = record { names_are = names_are; ready = made.0; out = made.2; touches = touches; many = many; as_many = as_many }
-made-all (Err e) old new names records before after is names_are made touches many as_many = absurd (true≢false (sym is))
+pub made-all : (sounding : Score → Sound) {T E : Type 0} (r : Result T E) (old new : Option Files) (names records : List (List ℕ)) (before after : Parts) → false ≡ is_err r → length names ≡ suc (length records)
+    → OnOk r (IsAttaching sounding after × (after.attached ≡ suc (length after.recorders)) × AreOut new names (stores_in after)) → TouchesOnly old new names → length before.recorders ≡ length records → length after.recorders ≡ length before.recorders
+    → MadeAll sounding old new names records before after
+made-all sounding (Ok x) old new names records before after is names_are made touches many as_many = record { names_are = names_are; ready = made.0; out = made.2; touches = touches; many = many; as_many = as_many }
+made-all sounding (Err e) old new names records before after is names_are made touches many as_many = absurd (true≢false (sym is))
 
-module _ (old new : Option Files) (names records : List (List ℕ)) (before after : Parts) (made : MadeAll old new names records before after) where
+module _ (sounding : Score → Sound) (old new : Option Files) (names records : List (List ℕ)) (before after : Parts) (made : MadeAll sounding old new names records before after) where
   pub all-held : AreHeld after
   all-held = made.out.as_many ∙ made.names_are ∙ ap suc (sym made.many) ∙ ap suc (sym made.as_many)
 
@@ -166,68 +168,68 @@ module _ (old new : Option Files) (names records : List (List ℕ)) (before afte
 
     -- the run failed, or the end
     pub cut-broken : later.gear.script ≡ after.gear.script → (given : Given) → given.script ≡ after.gear.script
-        → (IsNone after.gear.script.header.threads → StandsInSerial given (told_of later))
-        → (IsSome after.gear.script.header.threads → HasCome after.gear.script later.desk.history later.gear.numbers × (kept : ℕ) × StandsSoFar kept (told_of later) given)
-        → HaveCut given (printed_of (session_of later)) (stores_in later)
+        → (IsNone after.gear.script.header.threads → StandsInSerial given (told_of sounding later))
+        → (IsSome after.gear.script.header.threads → HasCome after.gear.script later.desk.history later.gear.numbers × (kept : ℕ) × StandsSoFar kept (told_of sounding later) given)
+        → HaveCut given (printed_of (session_of sounding later)) (stores_in later)
     cut-broken same given is serial threads = record {
-      serial = λ none. fronts-told later given held-behind (serial (subst (λ (s : Script). IsNone s.header.threads) is none));
+      serial = λ none. fronts-told sounding later given held-behind (serial (subst (λ (s : Script). IsNone s.header.threads) is none));
       so_far = λ some.
           let far = threads (subst (λ (s : Script). IsSome s.header.threads) is some) in
           record {
             kept = far.1;
             came = record { come = subst (λ (s : Script). HasCome s later.desk.history later.gear.numbers) (sym is) far.0; low = far.2.low; near = far.2.near };
-            fronts = fronts-so_far later given far.1 held-behind (many ∙ recorders-held ∙ ap (λ (s : Script). length s.header.recorders) (sym same)) far.2;
+            fronts = fronts-so_far sounding later given far.1 held-behind (many ∙ recorders-held ∙ ap (λ (s : Script). length s.header.recorders) (sym same)) far.2;
           };
     }
 
   -- the run and the end, both with Ok
-  module _ (same : HasFiles before after) (between ended : Parts) (runs : Runs (session_of after) (session_of between))
-      (ends : (given : Given) → AtPhase (session_of between) given (length (phases between.gear.script)) → Ends given (session_of between) (session_of ended))
-      (told : told_of ended ≡ session_of ended) (goes : AreLater (stores_in after) (stores_in ended)) (many : length ended.recorders ≡ length after.recorders) (script : ended.gear.script ≡ between.gear.script) where
-    at-end : (given : Given) → IsGiven (session_of after) given → AtPhase (session_of between) given (length (phases between.gear.script))
-    at-end given is = subst (λ (s : Script). AtPhase (session_of between) given (length (phases s))) (sym runs.script) (runs.at_end given is)
+  module _ (same : HasFiles before after) (between ended : Parts) (runs : Runs (session_of sounding after) (session_of sounding between))
+      (ends : (given : Given) → AtPhase (session_of sounding between) given (length (phases between.gear.script)) → Ends given (session_of sounding between) (session_of sounding ended))
+      (told : told_of sounding ended ≡ session_of sounding ended) (goes : AreLater (stores_in after) (stores_in ended)) (many : length ended.recorders ≡ length after.recorders) (script : ended.gear.script ≡ between.gear.script) where
+    at-end : (given : Given) → IsGiven (session_of sounding after) given → AtPhase (session_of sounding between) given (length (phases between.gear.script))
+    at-end given is = subst (λ (s : Script). AtPhase (session_of sounding between) given (length (phases s))) (sym runs.script) (runs.at_end given is)
 
-    as-many : length (session_of ended).record_files ≡ length after.gear.script.header.recorders
+    as-many : length (session_of sounding ended).record_files ≡ length after.gear.script.header.recorders
     as-many = sym (ap (λ (s : Session). length s.record_files) told) ∙ length-map ended.recorders (λ (r : Recording). bytes_of (held_in r)) ∙ many ∙ recorders-held
 
-    module _ (given : Given) (is : IsGiven (session_of before) given) (none : given.disks ≡ []) where
-      here : IsGiven (session_of after) given
-      here = given-made before after same given is
+    module _ (given : Given) (is : IsGiven (session_of sounding before) given) (none : given.disks ≡ []) where
+      here : IsGiven (session_of sounding after) given
+      here = given-made sounding before after same given is
 
-      ends-here : Ends given (session_of between) (session_of ended)
+      ends-here : Ends given (session_of sounding between) (session_of sounding ended)
       ends-here = ends given (at-end given here)
 
-      serial-printed : IsNone given.script.header.threads → printed_of (session_of between) ≡ serial_printed given
-      serial-printed serial = printed-serial (session_of after) (session_of between) given runs (subst (λ (s : Script). IsNone s.header.threads) here.own.script serial) here none
+      serial-printed : IsNone given.script.header.threads → printed_of (session_of sounding between) ≡ serial_printed given
+      serial-printed serial = printed-serial (session_of sounding after) (session_of sounding between) given runs (subst (λ (s : Script). IsNone s.header.threads) here.own.script serial) here none
 
-      pub serial-whole : IsNone given.script.header.threads → printed_of (session_of ended) ≡ serial_printed given
+      pub serial-whole : IsNone given.script.header.threads → printed_of (session_of sounding ended) ≡ serial_printed given
       serial-whole serial = ends-here.printed ∙ serial-printed serial
 
       script-here : between.gear.script ≡ given.script
       script-here = runs.script ∙ sym here.own.script
 
-      all-cycles : run (session_of ended).driver ≡ length (turns given.script)
+      all-cycles : run (session_of sounding ended).driver ≡ length (turns given.script)
       all-cycles = ap (λ (printed : Printed). length printed.numbers) ends-here.printed ∙ runs.lists.cycles.each ∙ ap (λ (s : Script). length (turns s)) script-here
 
-      come-whole : HasCome given.script (printed_of (session_of ended)).history (printed_of (session_of ended)).numbers
+      come-whole : HasCome given.script (printed_of (session_of sounding ended)).history (printed_of (session_of sounding ended)).numbers
       come-whole =
           subst (λ (printed : Printed). HasCome given.script printed.history printed.numbers) (sym ends-here.printed)
-          (subst (λ (s : Script). HasCome s between.desk.history between.gear.numbers) script-here (come-ran between runs.lists))
+          (subst (λ (s : Script). HasCome s between.desk.history between.gear.numbers) script-here (come-ran sounding between runs.lists))
 
-      pub cut-whole : PlayedIsAll → KeptAreAll → HaveCut given (printed_of (session_of ended)) (stores_in ended)
+      pub cut-whole : PlayedIsAll → KeptAreAll → HaveCut given (printed_of (session_of sounding ended)) (stores_in ended)
       cut-whole played kept = record {
         serial = λ serial.
-            fronts-told ended given (held-behind ended goes many)
+            fronts-told sounding ended given (held-behind ended goes many)
             (subst (λ (s : Session). StandsInSerial given s) (sym told)
-            (fronts-ended given (session_of between) (session_of ended) ends-here (serial-printed serial) (as-many ∙ ap (λ (s : Script). length s.header.recorders) (sym here.own.script))));
+            (fronts-ended given (session_of sounding between) (session_of sounding ended) ends-here (serial-printed serial) (as-many ∙ ap (λ (s : Script). length s.header.recorders) (sym here.own.script))));
         so_far = λ some. record {
-          kept = run (session_of ended).driver;
+          kept = run (session_of sounding ended).driver;
           came = record { come = come-whole; low = omega arith; near = omega arith };
-          fronts = fronts-so_far ended given (run (session_of ended).driver) (held-behind ended goes many) (many ∙ recorders-held ∙ ap (λ (s : Script). length s.header.recorders) (sym (script ∙ runs.script)))
-              (subst (λ (s : Session). StandsSoFar (run (session_of ended).driver) s given) (sym told)
-              (ended-so_far played kept given (session_of between) (session_of ended) ends-here all-cycles (as-many ∙ ap (λ (s : Script). length s.header.recorders) (sym (script ∙ runs.script)))));
+          fronts = fronts-so_far sounding ended given (run (session_of sounding ended).driver) (held-behind ended goes many) (many ∙ recorders-held ∙ ap (λ (s : Script). length s.header.recorders) (sym (script ∙ runs.script)))
+              (subst (λ (s : Session). StandsSoFar (run (session_of sounding ended).driver) s given) (sym told)
+              (ended-so_far played kept given (session_of sounding between) (session_of sounding ended) ends-here all-cycles (as-many ∙ ap (λ (s : Script). length s.header.recorders) (sym (script ∙ runs.script)))));
         };
       }
 
-      pub explain-whole : IsExplainedEach → Explain given (printed_of (session_of ended)) (stores_in ended) (text_in (session_of ended))
-      explain-whole law = explain law after between ended runs (held-behind ended goes many) told (many ∙ recorders-held) given here ends-here
+      pub explain-whole : IsExplainedEach → Explain given (printed_of (session_of sounding ended)) (stores_in ended) (text_in (session_of sounding ended))
+      explain-whole law = explain sounding law after between ended runs (held-behind ended goes many) told (many ∙ recorders-held) given here ends-here

@@ -5,17 +5,18 @@
 use Rattle.std.proofs.Common.{◌≡◌, ◌∙◌, ◌⊎◌, inl, inr, ℕ, ℤ, List, [], None, Some, Ok, IsNone, ap, refl, sym, subst}
 use Rattle.std.specs.Prelude.{Option, codes}
 use Rattle.jack_types.specs.declared.files.Format.{Format}
-use Rattle.jack_types.specs.declared.kinds.Score.{Score}
 use Rattle.jack_types.specs.declared.replies.Entry.{Entry}
 use Rattle.jack_host.specs.Causes.{Rose}
 use Rattle.jack_host.specs.Files.{bytes_under}
 use Rattle.session_model.specs.Courses.{DiskFile}
 use Rattle.session_model.specs.Explanations.{Explained, Given, Printed, playback_text}
 use Rattle.session_model.specs.Grammar.{Spells}
+use Rattle.session_model.specs.Kinds.{Sound}
 use Rattle.session_model.specs.Scripts.{Script}
 use Rattle.session_model.specs.Serial.{serial, serial_printed}
 use Rattle.session_model.specs.WaveFiles.{IsWave}
 use Rattle.session_model.specs.WaveOpening.{Opened, opened, wave_in}
+use Rattle.client_kinds.specs.Scores.{Score}
 use Rattle.session_laws.proofs.WaveFaults.{wave-same}
 use Rattle.play_words.specs.Words.{Play}
 use Rattle.rehearsals.specs.Made.{Made}
@@ -46,7 +47,7 @@ given-same a b script capture disks scores =
     ap (λ (s : Script). record a { script = s }) script
     ∙ ap (λ (xs : List ℤ). record b { capture = xs; disks = a.disks; scores = a.scores }) capture
     ∙ ap (λ (files : List DiskFile). record b { disks = files; scores = a.scores }) disks
-    ∙ ap (λ (all : List Score). record b { scores = all }) scores
+    ∙ ap (λ (all : List Sound). record b { scores = all }) scores
 
 module _ (target : Given) (format : Format) (script_bytes capture_bytes : List ℕ) (spelled : Spells script_bytes target.script) (wave : IsWave capture_bytes format target.capture) (reads : Reads capture_bytes)
     (no_disk : target.disks ≡ []) (no_guest : target.scores ≡ []) (serial_mode : IsNone target.script.header.threads) where
@@ -95,9 +96,9 @@ played-told target format script capture printed made files new play history scr
 -- ---- its history
 
 -- the history of the session that was opened is that of the script that its files give
-pub history-of : (files : Option Files) (scores : List Score) (play : Play) (parts : Parts) (history : List Entry) → IsSessionOf files scores play parts → (IsNone parts.gear.script.header.threads → history ≡ (serial parts.gear.script).history) → HasHistory files play history
-history-of None scores play parts history is same = tt
-history-of (Some files) scores play parts history is same =
+pub history-of : (sounding : Score → Sound) (files : Option Files) (scores : List Sound) (play : Play) (parts : Parts) (history : List Entry) → IsSessionOf sounding files scores play parts → (IsNone parts.gear.script.header.threads → history ≡ (serial parts.gear.script).history) → HasHistory files play history
+history-of sounding None scores play parts history is same = tt
+history-of sounding (Some files) scores play parts history is same =
     let given : Given = is.given.2.2.0 in
     (is.given.0, is.given.1, (given.script, is.given.2.2.1.script, λ none. same (subst (λ (s : Script). IsNone s.header.threads) is.given.2.2.2.own.script none) ∙ ap (λ (s : Script). (serial s).history) (sym is.given.2.2.2.own.script)))
 

@@ -1,11 +1,12 @@
 -- What a play leaves and was given, behind what was opened before it.
 use Rattle.std.proofs.Common.{◌≡◌, ◌∙◌, ℕ, List, Some, None, subst}
 use Rattle.std.specs.Prelude.{Option}
-use Rattle.jack_types.specs.declared.kinds.Score.{Score}
 use Rattle.jack_types.specs.declared.replies.Row.{Row}
 use Rattle.check_sights.specs.declared.sights.Sight.{Sight}
 use Rattle.jack_host.specs.Files.{SameFiles}
 use Rattle.session_model.specs.Explanations.{Given}
+use Rattle.session_model.specs.Kinds.{Sound}
+use Rattle.client_kinds.specs.Scores.{Score}
 use Rattle.play_words.specs.Words.{Play}
 use Rattle.run_laws.specs.Sessions.{IsGiven as TellsGiven}
 use Rattle.session_run.specs.Seen.{Parts, session_of}
@@ -28,17 +29,17 @@ touches-after (Some a) (Some b) None names same touched = absurd touched
 touches-after (Some a) (Some b) (Some c) names same touched = λ name other. touched name other ∙ same name
 
 -- what a session was opened with
-pub input-of : (files : Option Files) (scores : List Score) (play : Play) (parts : Parts) → IsSessionOf files scores play parts → IfInput files scores play
-input-of files scores play parts is =
-    if_bytes_map files play.script (λ script_bytes. IfBytes files play.capture (λ capture_bytes. (given : Given) × IsInput script_bytes capture_bytes scores play given × TellsGiven (session_of parts) given))
+pub input-of : (sounding : Score → Sound) (files : Option Files) (scores : List Sound) (play : Play) (parts : Parts) → IsSessionOf sounding files scores play parts → IfInput files scores play
+input-of sounding files scores play parts is =
+    if_bytes_map files play.script (λ script_bytes. IfBytes files play.capture (λ capture_bytes. (given : Given) × IsInput script_bytes capture_bytes scores play given × TellsGiven (session_of sounding parts) given))
     (λ script_bytes. IfBytes files play.capture (λ capture_bytes. (given : Given) × IsInput script_bytes capture_bytes scores play given))
     (λ script_bytes more.
-    if_bytes_map files play.capture (λ capture_bytes. (given : Given) × IsInput script_bytes capture_bytes scores play given × TellsGiven (session_of parts) given)
+    if_bytes_map files play.capture (λ capture_bytes. (given : Given) × IsInput script_bytes capture_bytes scores play given × TellsGiven (session_of sounding parts) given)
     (λ capture_bytes. (given : Given) × IsInput script_bytes capture_bytes scores play given) (λ capture_bytes has. (has.0, has.1)) more)
     is.given
 
 -- a play is never answered by a wrong part, and words that are refused neither
-pub play-not-wrong : (files : Option Files) (scores : List Score) (play : Play) (status : Status) (row : Row) (sight : Sight) → status ≡ Wrong row sight → PlayStatus files scores play status → ⊥
+pub play-not-wrong : (files : Option Files) (scores : List Sound) (play : Play) (status : Status) (row : Row) (sight : Sight) → status ≡ Wrong row sight → PlayStatus files scores play status → ⊥
 play-not-wrong files scores play status row sight e is = subst (PlayStatus files scores play) e is
 
 pub wrong-not-words : (row : Row) (sight : Sight) → Wrong row sight ≡ Words → ⊥

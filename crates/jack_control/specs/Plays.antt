@@ -4,12 +4,12 @@
 --     IsPlayCut ..      one that failed: what its files hold
 --     IsOutCut ..      what stands on the sink where a file or the report could not be written
 use Rattle.std.specs.Prelude.{◌≡◌, ◌⊎◌, ℕ, suc, ◌+◌, ◌<◌, ◌≤◌, ◌∷◌, List, [], length, map, slice_get, take, ⊤, Option, Some, None, IsNone, IsSome, Contains}
-use Rattle.jack_types.specs.declared.kinds.Score.{Score}
 use Rattle.jack_host.specs.Bytes.{Gains}
 use Rattle.jack_host.specs.Causes.{Rose}
 use Rattle.jack_host.specs.Files.{bytes_under, SameFiles}
 use Rattle.jack_host.specs.Told.{BothTold}
 use Rattle.session_model.specs.Explanations.{Explained, Given, Printed, Written, course_of, overruns_of}
+use Rattle.session_model.specs.Kinds.{Sound}
 use Rattle.session_model.specs.Playback.{playback_format}
 use Rattle.session_model.specs.Recorders.{recorder_format}
 use Rattle.session_model.specs.Serial.{serial_printed}
@@ -30,7 +30,7 @@ abbrev pub TouchesOnly : Option Files → Option Files → List (List ℕ) → T
 TouchesOnly old new names = BothTold old new (λ before after. (name : List ℕ) → (Contains names name → ⊥) → bytes_under after name ≡ bytes_under before name)
 
 -- what the two files spell, and what was written: the files and the report that the one history explains that is printed; in serial mode it is that of serial mode
-pub record Plays (files new : Files) (out out_after : Option (List ℕ)) (scores : List Score) (play : Play) : Type 0 where
+pub record Plays (files new : Files) (out out_after : Option (List ℕ)) (scores : List Sound) (play : Play) : Type 0 where
   pub script_bytes : List ℕ
   pub capture_bytes : List ℕ
   pub script_is : bytes_under files play.script ≡ Some script_bytes
@@ -45,7 +45,7 @@ pub record Plays (files new : Files) (out out_after : Option (List ℕ)) (scores
   pub records_are : map (bytes_under new) play.records ≡ map Some written.records
   pub report_is : Gains out out_after written.report
 
-abbrev pub IsExplained : Option Files → Option Files → Option (List ℕ) → Option (List ℕ) → List Score → Play → Type 0
+abbrev pub IsExplained : Option Files → Option Files → Option (List ℕ) → Option (List ℕ) → List Sound → Play → Type 0
 IsExplained None new out out_after scores play = ⊤
 IsExplained (Some files) None out out_after scores play = ⊥
 IsExplained (Some files) (Some new) out out_after scores play = Plays files new out out_after scores play
@@ -83,7 +83,7 @@ pub record CutsSoFar (given : Given) (files new : Files) (play : Play) : Type 0 
   pub fronts : AreMadeInOrder (PlaybackSoFar given printed kept) (RecordSoFar given printed kept) files new play
 
 -- what stands behind a fault that came when the files were made, or later; in serial mode fronts of the files of that
-pub record Cuts (files new : Files) (scores : List Score) (play : Play) : Type 0 where
+pub record Cuts (files new : Files) (scores : List Sound) (play : Play) : Type 0 where
   pub script_bytes : List ℕ
   pub capture_bytes : List ℕ
   pub script_is : bytes_under files play.script ≡ Some script_bytes
@@ -94,18 +94,18 @@ pub record Cuts (files new : Files) (scores : List Score) (play : Play) : Type 0
   pub so_far : IsSome given.script.header.threads → CutsSoFar given files new play
 
 -- nothing was made, or this
-abbrev pub IsPlayCut : Option Files → Option Files → List Score → Play → Type 0
+abbrev pub IsPlayCut : Option Files → Option Files → List Sound → Play → Type 0
 IsPlayCut None new scores play = ⊤
 IsPlayCut (Some files) None scores play = ⊥
 IsPlayCut (Some files) (Some new) scores play = SameFiles (Some files) (Some new) ⊎ Cuts files new scores play
 
 -- the sink has a front of the report that explains what the play left: its files are whole, as the report would have told
-pub record PutsFront (files new : Option Files) (out out_after : Option (List ℕ)) (scores : List Score) (play : Play) : Type 0 where
+pub record PutsFront (files new : Option Files) (out out_after : Option (List ℕ)) (scores : List Sound) (play : Play) : Type 0 where
   pub report : List ℕ
   pub explained : IsExplained files new (Some []) (Some report) scores play
   pub front : ℕ
   pub puts : Gains out out_after (take front report)
 
 -- the sink is as it was, or its count rose and it has a front of the report
-abbrev pub IsOutCut : Option Files → Option Files → Option (List ℕ) → Option (List ℕ) → ℕ → ℕ → List Score → Play → Type 0
+abbrev pub IsOutCut : Option Files → Option Files → Option (List ℕ) → Option (List ℕ) → ℕ → ℕ → List Sound → Play → Type 0
 IsOutCut files new out out_after faults faults_after scores play = Gains out out_after [] ⊎ (Rose faults faults_after × PutsFront files new out out_after scores play)

@@ -24,9 +24,9 @@ fn make_file<H: Host, G: Guest>(
     session: &mut Session<H::In, H::Out, G>,
 ) -> Result<(), Failed>
     requires out { H.lent host.old < 1000 }
-    requires attaching { IsAttaching session.old }
+    requires attaching { IsAttaching G.sound session.old }
     requires fewer { session.old.attached ≤ length session.old.recorders }
-    ensures made { OnOk result (IsAttaching session.new × (session.new.attached ≡ suc session.old.attached) × MakesOne (H.files host.old) (H.files host.new) name.now session.old session.new) }
+    ensures made { OnOk result (IsAttaching G.sound session.new × (session.new.attached ≡ suc session.old.attached) × MakesOne (H.files host.old) (H.files host.new) name.now session.old session.new) }
     ensures cut { OnErr result ((SameFiles (H.files host.old) (H.files host.new) × (session.new ≡ session.old) × Rose (H.write_faults host.old) (H.write_faults host.new))
         ⊎ ((one : MakesOne (H.files host.old) (H.files host.new) name.now session.old session.new) × (1 ≤ one.back.faults) × IfSome one.back.bytes (IsCut (format_next session.old)))) }
     ensures same { KeepsRest session.old session.new }
@@ -50,9 +50,9 @@ pub(crate) fn make_files<H: Host, G: Guest>(
     session: &mut Session<H::In, H::Out, G>,
 ) -> Result<(), Failed>
     requires out { H.lent host.old < 950 }
-    requires attaching { IsAttaching session.old × (session.old.attached ≡ 0) × (stores_in session.old ≡ []) }
+    requires attaching { IsAttaching G.sound session.old × (session.old.attached ≡ 0) × (stores_in session.old ≡ []) }
     requires recorders { length session.old.recorders ≡ length names.now.records }
-    ensures made { OnOk result (IsAttaching session.new × (session.new.attached ≡ suc (length session.new.recorders)) × AreOut (H.files host.new) (made_by names.now) (stores_in session.new)) }
+    ensures made { OnOk result (IsAttaching G.sound session.new × (session.new.attached ≡ suc (length session.new.recorders)) × AreOut (H.files host.new) (made_by names.now) (stores_in session.new)) }
     ensures cut { OnErr result ((made : ℕ) × AreOut (H.files host.new) (take made (made_by names.now)) (stores_in session.new) × TouchesOnly (H.files host.old) (H.files host.new) (take made (made_by names.now))) }
     ensures fronts { AreFronts session.old (stores_in session.new) }
     ensures others { TouchesOnly (H.files host.old) (H.files host.new) (made_by names.now) }
@@ -81,8 +81,8 @@ pub(crate) fn hand_back<H: Host, G: Guest>(
     ensures none { stores_in session.new ≡ [] }
     ensures faults { AreRaised (stores_in session.old) (H.write_faults host.old) (H.write_faults host.new) }
     ensures cause { HasCause (H.write_faults host.old) (H.write_faults host.new) result }
-    ensures report { text_in (session_of session.new) ≡ text_in (session_of session.old) }
-    ensures ended { HasEnded session.old → HasEnded session.new }
+    ensures report { text_in (session_of G.sound session.new) ≡ text_in (session_of G.sound session.old) }
+    ensures ended { HasEnded G.sound session.old → HasEnded G.sound session.new }
     ensures capture { session.new.gear.capture ≡ session.old.gear.capture }
     ensures reads { H.read_faults host.new ≡ H.read_faults host.old }
     ensures lent { H.lent host.new + length (stores_in session.old) ≡ H.lent host.old }

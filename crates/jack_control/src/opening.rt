@@ -23,11 +23,11 @@ pub(crate) fn open_session<H: Host, G: Guest>(
     guests: Vec<G>,
 ) -> Result<Session<H::In, H::Out, G>, Status>
     requires { H.lent host.old < 900 }
-    ensures opened { IfOk result (λ session. IsSessionOf (H.files host.old) (map G.score guests.items) names.now session) }
-    ensures fault { IfErr result (OpeningStatus (H.files host.old) (map G.score guests.items) names.now) }
+    ensures opened { IfOk result (λ session. IsSessionOf G.sound (H.files host.old) (map G.sound (map G.score guests.items)) names.now session) }
+    ensures fault { IfErr result (OpeningStatus (H.files host.old) (map G.sound (map G.score guests.items)) names.now) }
     ensures own { IfErr result HasOwnFault }
     ensures read { IsErrOf result Status.ReadFault →
-        Rose (H.read_faults host.old) (H.read_faults host.new) ⊎ LacksInput (H.files host.old) (map G.score guests.items) names.now }
+        Rose (H.read_faults host.old) (H.read_faults host.new) ⊎ LacksInput (H.files host.old) (map G.sound (map G.score guests.items)) names.now }
 
     ensures later { H.read_faults host.old ≤ H.read_faults host.new }
     ensures kept { OnOk result (H.read_faults host.new ≡ H.read_faults host.old) }

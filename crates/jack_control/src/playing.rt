@@ -1,11 +1,11 @@
 //! A play whose session is open.
 
 ghost use Rattle.std.specs.Prelude.{◌≡◌, ◌+◌, ◌<◌, ◌≤◌, ◌⊎◌, [], List, ℕ, Option, IfErr, IsErrOf, IsNone, IsOk, IsTrue, OnErr, OnOk, false, length};
-ghost use Rattle.jack_types.specs.declared.kinds.Score.{Score as ScoreValue};
 ghost use Rattle.jack_host.specs.Bytes.{Gains};
 ghost use Rattle.jack_host.specs.Causes.{Rose};
 ghost use Rattle.jack_host.specs.Files.{SameFiles};
 ghost use Rattle.session_model.specs.Explanations.{Given};
+ghost use Rattle.session_model.specs.Kinds.{Sound};
 ghost use Rattle.session_model.specs.Soundness.{Apart};
 ghost use Rattle.session_model.specs.Serial.{serial, serial_printed};
 ghost use Rattle.run_laws.specs.Sessions.{IsGiven, printed_of};
@@ -51,15 +51,15 @@ pub(crate) fn perform<H: Host, G: Guest + Send, T: Threads + Sync, R: Wait + Syn
     mut session: Session<H::In, H::Out, G>,
 ) -> (Session<H::In, H::Out, G>, Result<(), Status>)
     requires out { H.lent host.old < 950 }
-    requires attaching { IsAttaching session × (session.attached ≡ 0) × (stores_in session ≡ []) }
+    requires attaching { IsAttaching G.sound session × (session.attached ≡ 0) × (stores_in session ≡ []) }
     requires recorders { length session.recorders ≡ length names.now.records }
     requires apart { Apart (λ (name : List ℕ). name) (made_by names.now) }
-    ensures ended { OnOk result.1 (HasEnded result.0) }
-    ensures explained { OnOk result.1 ((given : Given) → IsGiven (session_of session) given → given.disks ≡ [] → Explain given (printed_of (session_of result.0)) (stores_in result.0) (text_in (session_of result.0))) }
-    ensures serial { OnOk result.1 ((given : Given) → IsGiven (session_of session) given → given.disks ≡ [] → IsNone given.script.header.threads → printed_of (session_of result.0) ≡ serial_printed given) }
+    ensures ended { OnOk result.1 (HasEnded G.sound result.0) }
+    ensures explained { OnOk result.1 ((given : Given) → IsGiven (session_of G.sound session) given → given.disks ≡ [] → Explain given (printed_of (session_of G.sound result.0)) (stores_in result.0) (text_in (session_of G.sound result.0))) }
+    ensures serial { OnOk result.1 ((given : Given) → IsGiven (session_of G.sound session) given → given.disks ≡ [] → IsNone given.script.header.threads → printed_of (session_of G.sound result.0) ≡ serial_printed given) }
     ensures history { OnOk result.1 (IsNone session.gear.script.header.threads → result.0.desk.history ≡ (serial session.gear.script).history) }
     ensures whole { OnOk result.1 (AreOut (H.files host.new) (made_by names.now) (stores_in result.0)) }
-    ensures fronts { (given : Given) → IsGiven (session_of session) given → given.disks ≡ [] → HaveCut given (printed_of (session_of result.0)) (stores_in result.0) }
+    ensures fronts { (given : Given) → IsGiven (session_of G.sound session) given → given.disks ≡ [] → HaveCut given (printed_of (session_of G.sound result.0)) (stores_in result.0) }
     ensures made { MadeSome (H.files host.old) (H.files host.new) (made_by names.now) (stores_in result.0) }
     ensures fault { IfErr result.1 (λ status. (status ≡ Status.ReadFault) ⊎ (status ≡ Status.WriteFault)) }
     ensures read { IsErrOf result.1 Status.ReadFault → Rose session.gear.capture.reading.faults result.0.gear.capture.reading.faults }
@@ -93,9 +93,9 @@ fn report<K: Sink, S: Source, W: Store, G: Guest>(
     session: &Session<S, W, G>,
     handed: bool,
 ) -> Result<(), Status>
-    requires { HasEnded session.now }
-    ensures put { OnOk result (IsTrue handed × Gains (K.content out.old) (K.content out.new) (text_in (session_of session.now))) }
-    ensures cut { OnErr result (CutsReport (IsTrue handed) (K.content out.old) (K.content out.new) (K.faults out.old) (K.faults out.new) (text_in (session_of session.now))) }
+    requires { HasEnded G.sound session.now }
+    ensures put { OnOk result (IsTrue handed × Gains (K.content out.old) (K.content out.new) (text_in (session_of G.sound session.now))) }
+    ensures cut { OnErr result (CutsReport (IsTrue handed) (K.content out.old) (K.content out.new) (K.faults out.old) (K.faults out.new) (text_in (session_of G.sound session.now))) }
     ensures cause { OnErr result ((handed ≡ false) ⊎ Rose (K.faults out.old) (K.faults out.new)) }
     ensures status { IfErr result (λ status. status ≡ Status.WriteFault) }
     ensures later { K.faults out.old ≤ K.faults out.new }
@@ -117,13 +117,13 @@ fn conclude<K: Sink, S: Source, W: Store, G: Guest>(
     performed: Result<(), Status>,
     handed: bool,
 ) -> Result<(), Status>
-    requires ended { OnOk performed (HasEnded session.now) }
+    requires ended { OnOk performed (HasEnded G.sound session.now) }
     requires fault { IfErr performed (λ status. (status ≡ Status.ReadFault) ⊎ (status ≡ Status.WriteFault)) }
-    ensures put { OnOk result (IsOk performed × IsTrue handed × Gains (K.content out.old) (K.content out.new) (text_in (session_of session.now))) }
+    ensures put { OnOk result (IsOk performed × IsTrue handed × Gains (K.content out.old) (K.content out.new) (text_in (session_of G.sound session.now))) }
     ensures fault { IfErr result (λ status. (status ≡ Status.ReadFault) ⊎ (status ≡ Status.WriteFault)) }
     ensures read { IsErrOf result Status.ReadFault → IsErrOf performed Status.ReadFault × (out.new ≡ out.old) }
     ensures write { IsErrOf result Status.WriteFault → IsErrOf performed Status.WriteFault ⊎ (handed ≡ false) ⊎ Rose (K.faults out.old) (K.faults out.new) }
-    ensures cut { OnErr result (CutsReport (IsOk performed × IsTrue handed) (K.content out.old) (K.content out.new) (K.faults out.old) (K.faults out.new) (text_in (session_of session.now))) }
+    ensures cut { OnErr result (CutsReport (IsOk performed × IsTrue handed) (K.content out.old) (K.content out.new) (K.faults out.old) (K.faults out.new) (text_in (session_of G.sound session.now))) }
     ensures later { K.faults out.old ≤ K.faults out.new }
     ensures kept { OnOk result (K.faults out.new ≡ K.faults out.old) }
 {
@@ -152,15 +152,15 @@ pub(crate) fn play_session<
     session: Session<H::In, H::Out, G>,
 ) -> Result<(), Status>
     requires out { (1 ≤ H.lent host.old) × (H.lent host.old < 950) }
-    requires attaching { IsAttaching session × (session.attached ≡ 0) × (stores_in session ≡ []) }
+    requires attaching { IsAttaching G.sound session × (session.attached ≡ 0) × (stores_in session ≡ []) }
     requires recorders { length session.recorders ≡ length names.now.records }
     requires apart { Apart (λ (name : List ℕ). name) (names_of names.now) }
-    ensures played { OnOk result ((files : Option AllFiles) (scores : List ScoreValue) → SameFiles files (H.files host.old) → IsSessionOf files scores names.now session → IsExplained files (H.files host.new) (K.content out.old) (K.content out.new) scores names.now) }
-    ensures cut { OnErr result ((files : Option AllFiles) (scores : List ScoreValue) → SameFiles files (H.files host.old) → IsSessionOf files scores names.now session → IsPlayCut files (H.files host.new) scores names.now) }
+    ensures played { OnOk result ((files : Option AllFiles) (scores : List Sound) → SameFiles files (H.files host.old) → IsSessionOf G.sound files scores names.now session → IsExplained files (H.files host.new) (K.content out.old) (K.content out.new) scores names.now) }
+    ensures cut { OnErr result ((files : Option AllFiles) (scores : List Sound) → SameFiles files (H.files host.old) → IsSessionOf G.sound files scores names.now session → IsPlayCut files (H.files host.new) scores names.now) }
     ensures fault { IfErr result (λ status. (status ≡ Status.ReadFault) ⊎ (status ≡ Status.WriteFault)) }
     ensures read { IsErrOf result Status.ReadFault → Rose (H.read_faults host.old) (H.read_faults host.new) × (out.new ≡ out.old) }
     ensures write { IsErrOf result Status.WriteFault → Rose (H.write_faults host.old) (H.write_faults host.new) ⊎ Rose (K.faults out.old) (K.faults out.new) }
-    ensures out_cut { OnErr result ((files : Option AllFiles) (scores : List ScoreValue) → SameFiles files (H.files host.old) → IsSessionOf files scores names.now session → IsOutCut files (H.files host.new) (K.content out.old) (K.content out.new) (K.faults out.old) (K.faults out.new) scores names.now) }
+    ensures out_cut { OnErr result ((files : Option AllFiles) (scores : List Sound) → SameFiles files (H.files host.old) → IsSessionOf G.sound files scores names.now session → IsOutCut files (H.files host.new) (K.content out.old) (K.content out.new) (K.faults out.old) (K.faults out.new) scores names.now) }
     ensures others { TouchesOnly (H.files host.old) (H.files host.new) (made_by names.now) }
     ensures later { (H.read_faults host.old ≤ H.read_faults host.new) × (H.write_faults host.old ≤ H.write_faults host.new) × (K.faults out.old ≤ K.faults out.new) }
     ensures reads { OnOk result (session.gear.capture.reading.faults ≡ 0 → H.read_faults host.new ≡ H.read_faults host.old) }

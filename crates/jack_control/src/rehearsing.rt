@@ -83,7 +83,7 @@ fn play_silently<T: Threads + Sync, R: Wait + Sync, H: Host, G: Guest + Send, A:
 ) -> Result<Vec<Entry>, Status>
     requires out { H.lent host.old < 900 }
     requires apart { Apart (λ (name : List ℕ). name) (names_of names.now) }
-    ensures played { OnOk result (IsExplained (H.files host.old) (H.files host.new) None None (map G.score guests.items) names.now) }
+    ensures played { OnOk result (IsExplained (H.files host.old) (H.files host.new) None None (map G.sound (map G.score guests.items)) names.now) }
     ensures history { IfOk result (λ history. HasHistory (H.files host.old) names.now history.items) }
 {
     let session = open_session(alloc, names, host, guests)?;

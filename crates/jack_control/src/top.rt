@@ -46,16 +46,16 @@ fn play<T: Threads + Sync, R: Wait + Sync, H: Host, K: Sink, G: Guest + Send, A:
 ) -> Result<(), Status>
     requires out { H.lent host.old < 900 }
     requires apart { Apart (λ (name : List ℕ). name) (names_of names.now) }
-    ensures played { OnOk result (IsExplained (H.files host.old) (H.files host.new) (K.content out.old) (K.content out.new) (map G.score guests.items) names.now) }
-    ensures fault { IfErr result (PlayStatus (H.files host.old) (map G.score guests.items) names.now) }
+    ensures played { OnOk result (IsExplained (H.files host.old) (H.files host.new) (K.content out.old) (K.content out.new) (map G.sound (map G.score guests.items)) names.now) }
+    ensures fault { IfErr result (PlayStatus (H.files host.old) (map G.sound (map G.score guests.items)) names.now) }
     ensures own { IfErr result HasOwnFault }
     ensures read { IsErrOf result Status.ReadFault →
-        Rose (H.read_faults host.old) (H.read_faults host.new) ⊎ LacksInput (H.files host.old) (map G.score guests.items) names.now }
+        Rose (H.read_faults host.old) (H.read_faults host.new) ⊎ LacksInput (H.files host.old) (map G.sound (map G.score guests.items)) names.now }
     ensures write { IsErrOf result Status.WriteFault →
         Rose (H.write_faults host.old) (H.write_faults host.new) ⊎ Rose (K.faults out.old) (K.faults out.new) }
-    ensures input { IsErrOf result Status.WriteFault → IfInput (H.files host.old) (map G.score guests.items) names.now }
-    ensures cut { IfErr result (λ status. (status ≡ Status.ReadFault) ⊎ (status ≡ Status.WriteFault) → IsPlayCut (H.files host.old) (H.files host.new) (map G.score guests.items) names.now) }
-    ensures out_cut { IsErrOf result Status.WriteFault → IsOutCut (H.files host.old) (H.files host.new) (K.content out.old) (K.content out.new) (K.faults out.old) (K.faults out.new) (map G.score guests.items) names.now }
+    ensures input { IsErrOf result Status.WriteFault → IfInput (H.files host.old) (map G.sound (map G.score guests.items)) names.now }
+    ensures cut { IfErr result (λ status. (status ≡ Status.ReadFault) ⊎ (status ≡ Status.WriteFault) → IsPlayCut (H.files host.old) (H.files host.new) (map G.sound (map G.score guests.items)) names.now) }
+    ensures out_cut { IsErrOf result Status.WriteFault → IsOutCut (H.files host.old) (H.files host.new) (K.content out.old) (K.content out.new) (K.faults out.old) (K.faults out.new) (map G.sound (map G.score guests.items)) names.now }
     ensures early { IfErr result (λ status. IsEarly status → SameFiles (H.files host.old) (H.files host.new) × (H.write_faults host.new ≡ H.write_faults host.old)) }
     ensures silent { IfErr result (λ status. status ≢ Status.WriteFault → out.new ≡ out.old) }
     ensures others { TouchesOnly (H.files host.old) (H.files host.new) (made_by names.now) }
@@ -98,7 +98,7 @@ pub fn jackd<T: Threads + Sync, R: Wait + Sync, H: Host, K: Sink, G: Guest + Sen
     // What is written is explained by the one history that is printed, and in serial mode that is the history of serial mode.
     ensures played { result ≡ Status.Ok → ForPlay (map string_bytes words.now) (λ play. IsExplained
         (H.files host.old) (H.files host.new) (K.content out.old) (K.content out.new)
-        (map G.score guests.items) play) }
+        (map G.sound (map G.score guests.items)) play) }
 
     // What is put out of a rehearsal is told of the history and the playback that serial mode gives for its number's session.
     // The host is not called.
@@ -111,21 +111,23 @@ pub fn jackd<T: Threads + Sync, R: Wait + Sync, H: Host, K: Sink, G: Guest + Sen
     // A check is Ok exactly where the report explains the files, and names the first wrong part exactly where there is one, if no
     // read and no put fails and memory is found.
     ensures checked { result ≡ Status.Ok → ForCheck (map string_bytes words.now) (λ check.
-        IfCase (H.files host.old) (map G.score guests.items) check HasExplanation) }
+        IfCase (H.files host.old) (map G.sound (map G.score guests.items)) check HasExplanation) }
     ensures wrong { (row : RowValue) (sight : SightValue) → result ≡ Status.Wrong row sight →
         (check : Check) × IsCheck (map string_bytes words.now) check
-        × IfCase (H.files host.old) (map G.score guests.items) check (λ given written. IsFirstWrong given written row) }
+        × IfCase (H.files host.old) (map G.sound (map G.score guests.items)) check
+        (λ given written. IsFirstWrong given written row) }
     ensures decides { ForCheck (map string_bytes words.now) (λ check.
-        OfCase (H.files host.old) (map G.score guests.items) check (λ given written. HasExplanation given written →
+        OfCase (H.files host.old) (map G.sound (map G.score guests.items)) check
+        (λ given written. HasExplanation given written →
         ¬ Rose (H.read_faults host.old) (H.read_faults host.new) →
         ¬ Rose (K.faults out.old) (K.faults out.new) → IsDoneOrNoMemory result)) }
     ensures names { ForCheck (map string_bytes words.now) (λ check.
-        OfCase (H.files host.old) (map G.score guests.items) check (λ given written.
-        (row : RowValue) → IsFirstWrong given written row →
+        OfCase (H.files host.old) (map G.sound (map G.score guests.items)) check
+        (λ given written. (row : RowValue) → IsFirstWrong given written row →
         ¬ Rose (H.read_faults host.old) (H.read_faults host.new) →
         ¬ Rose (K.faults out.old) (K.faults out.new) → IsWrongAt row result ⊎ (result ≡ Status.NoMemory))) }
     ensures decided { ForCheck (map string_bytes words.now) (λ check.
-        HasCase (H.files host.old) (map G.score guests.items) check →
+        HasCase (H.files host.old) (map G.sound (map G.score guests.items)) check →
         ¬ Rose (H.read_faults host.old) (H.read_faults host.new) →
         ¬ Rose (K.faults out.old) (K.faults out.new) → IsDecided result) }
 
@@ -137,15 +139,16 @@ pub fn jackd<T: Threads + Sync, R: Wait + Sync, H: Host, K: Sink, G: Guest + Sen
 
     // A check refuses what a play refuses, and only that.
     ensures check_fault { ForCheck (map string_bytes words.now) (λ check. result ≢ Status.Ok → CheckStatus
-        (H.files host.old) (map G.score guests.items) check result) }
+        (H.files host.old) (map G.sound (map G.score guests.items)) check result) }
     ensures check_read { result ≡ Status.ReadFault → ForCheck (map string_bytes words.now) (λ check.
         Rose (H.read_faults host.old) (H.read_faults host.new)
-        ⊎ LacksCase (H.files host.old) (map G.score guests.items) check) }
+        ⊎ LacksCase (H.files host.old) (map G.sound (map G.score guests.items)) check) }
     ensures check_write { result ≡ Status.WriteFault → ForCheck (map string_bytes words.now) (λ check.
         Rose (K.faults out.old) (K.faults out.new) × IsVerdictCut
-        (H.files host.old) (map G.score guests.items) check (K.content out.old) (K.content out.new)) }
+        (H.files host.old) (map G.sound (map G.score guests.items)) check
+        (K.content out.old) (K.content out.new)) }
     ensures check_exact { ForCheck (map string_bytes words.now) (λ check. (status : StatusValue) →
-        HasRefusal (H.files host.old) (map G.score guests.items) check.play status →
+        HasRefusal (H.files host.old) (map G.sound (map G.score guests.items)) check.play status →
         ¬ Rose (H.read_faults host.old) (H.read_faults host.new) →
         (result ≡ status) ⊎ (result ≡ Status.NoMemory)) }
 
@@ -155,31 +158,31 @@ pub fn jackd<T: Threads + Sync, R: Wait + Sync, H: Host, K: Sink, G: Guest + Sen
 
     // A refusal of the script or of the capture is one that their bytes have.
     ensures fault { ForPlay (map string_bytes words.now) (λ play. result ≢ Status.Ok → PlayStatus
-        (H.files host.old) (map G.score guests.items) play result) }
+        (H.files host.old) (map G.sound (map G.score guests.items)) play result) }
 
     // Whatever the host tells, want of memory is no fault of a script, and a read that failed none of a capture.
     ensures own { HasOwnFault result }
 
     ensures read { result ≡ Status.ReadFault → ForPlay (map string_bytes words.now) (λ play.
         Rose (H.read_faults host.old) (H.read_faults host.new)
-        ⊎ LacksInput (H.files host.old) (map G.score guests.items) play) }
+        ⊎ LacksInput (H.files host.old) (map G.sound (map G.score guests.items)) play) }
     ensures write { result ≡ Status.WriteFault →
         Rose (H.write_faults host.old) (H.write_faults host.new)
         ⊎ Rose (K.faults out.old) (K.faults out.new) }
 
     // A file or the report is written only where script, capture, guests and names fit one another.
     ensures input { result ≡ Status.WriteFault → ForPlay (map string_bytes words.now) (λ play.
-        IfInput (H.files host.old) (map G.score guests.items) play) }
+        IfInput (H.files host.old) (map G.sound (map G.score guests.items)) play) }
 
     // Behind a fault of reading or writing each file that was made has a front of what was to be written, and those were made
     // that come first: the playback, and then the records in their order.
     ensures cut { IsLate result → ForPlay (map string_bytes words.now) (λ play. IsPlayCut
-        (H.files host.old) (H.files host.new) (map G.score guests.items) play) }
+        (H.files host.old) (H.files host.new) (map G.sound (map G.score guests.items)) play) }
 
     // Where the report could not be put out to its end, what was put is a front of the report that explains the files.
     ensures out_cut { result ≡ Status.WriteFault → ForPlay (map string_bytes words.now) (λ play. IsOutCut
         (H.files host.old) (H.files host.new) (K.content out.old) (K.content out.new)
-        (K.faults out.old) (K.faults out.new) (map G.score guests.items) play) }
+        (K.faults out.old) (K.faults out.new) (map G.sound (map G.score guests.items)) play) }
 
     // Before a file is made nothing is touched, and the line of a fault is put out.
     ensures early { IsEarly result → SameFiles (H.files host.old) (H.files host.new)
@@ -202,14 +205,14 @@ pub fn jackd<T: Threads + Sync, R: Wait + Sync, H: Host, K: Sink, G: Guest + Sen
 
     // A refusal that the told bytes have is the answer, if no read fails and memory is found.
     ensures exact { ForPlay (map string_bytes words.now) (λ play. (status : StatusValue) →
-        HasRefusal (H.files host.old) (map G.score guests.items) play status →
+        HasRefusal (H.files host.old) (map G.sound (map G.score guests.items)) play status →
         ¬ Rose (H.read_faults host.old) (H.read_faults host.new) →
         (result ≡ status) ⊎ (result ≡ Status.NoMemory)) }
 
     // A script that is played, and a capture, guests and names that fit it, are played, if nothing outside fails and memory
     // is found.
     ensures complete { ForPlay (map string_bytes words.now) (λ play.
-        HasInput (H.files host.old) (map G.score guests.items) play →
+        HasInput (H.files host.old) (map G.sound (map G.score guests.items)) play →
         ¬ Rose (H.read_faults host.old) (H.read_faults host.new) →
         ¬ Rose (H.write_faults host.old) (H.write_faults host.new) →
         ¬ Rose (K.faults out.old) (K.faults out.new) → IsDoneOrNoMemory result) }

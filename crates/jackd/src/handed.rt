@@ -3,6 +3,7 @@
 ghost use Rattle.std.specs.Prelude.{◌≡◌, ◌++◌, ◌∷◌, [], IfOk, OnOk, map};
 ghost use Rattle.guests.specs.Any.{any_score};
 ghost use Rattle.guests.specs.Guests.{IsPlayable};
+ghost use Rattle.guests.specs.Sounds.{numbers_of, sound_by};
 ghost use Rattle.jackd.specs.Handed.{handed_in};
 
 use guests::AnyGuest;
@@ -15,7 +16,7 @@ const TAPS: [i32; 3] = [1, 2, 1];
 // A guest more.
 fn add(alloc: Global, guests: &mut Vec<AnyGuest>, score: Score) -> Result<(), Memory>
     requires { IsPlayable score }
-    ensures { OnOk result (map any_score guests.new.items ≡ map any_score guests.old.items ++ score ∷ []) }
+    ensures { OnOk result (map any_score guests.new.items ≡ map any_score guests.old.items ++ numbers_of score ∷ []) }
 {
     let guest = AnyGuest::new(alloc, score)?;
     match guests.push(guest) {
@@ -26,7 +27,7 @@ fn add(alloc: Global, guests: &mut Vec<AnyGuest>, score: Score) -> Result<(), Me
 
 /// Guest 0 is an echo of a tenth of a second at 48,000 frames a second, guest 1 a filter, and guest 2 holds a sample.
 pub(crate) fn hand_in(alloc: Global) -> Result<Vec<AnyGuest>, Memory>
-    ensures { IfOk result (λ guests. map any_score guests.items ≡ handed_in) }
+    ensures { IfOk result (λ guests. map sound_by (map any_score guests.items) ≡ handed_in) }
 {
     let mut guests = Vec::new(alloc);
     let echo = Score::Echo {

@@ -2,12 +2,12 @@
 use Rattle.std.proofs.Common.{◌≡◌, ◌∙◌, ◌⊎◌, ℕ, ℤ, List, Some, None, inl, inr, refl, sym, ap, subst, take}
 use Rattle.std.specs.Prelude.{Option}
 use Rattle.jack_types.specs.declared.files.WaveFault.{WaveFault}
-use Rattle.jack_types.specs.declared.kinds.Score.{Score}
 use Rattle.jack_types.specs.declared.scripts.Header.{Header}
 use Rattle.jack_types.specs.declared.scripts.ScriptFault.{ScriptFault}
 use Rattle.jack_host.specs.Files.{IsThere}
 use Rattle.session_model.specs.Explanations.{Given}
 use Rattle.session_model.specs.Grammar.{Spells}
+use Rattle.session_model.specs.Kinds.{Sound}
 use Rattle.session_model.specs.Reading.{fault_of, script_fault}
 use Rattle.session_model.specs.Scripts.{Script}
 use Rattle.session_model.specs.WaveOpening.{Opened, wave_in}
@@ -84,7 +84,7 @@ one_capture bytes header other a b x y =
     x.samples_are ∙ ap wave_in same ∙ sym y.samples_are
 
 -- they give a play one thing
-pub one_input : (script_bytes capture_bytes : List ℕ) (scores : List Score) (play : Play) (a b : Given) → IsInput script_bytes capture_bytes scores play a → IsInput script_bytes capture_bytes scores play b → a ≡ b
+pub one_input : (script_bytes capture_bytes : List ℕ) (scores : List Sound) (play : Play) (a b : Given) → IsInput script_bytes capture_bytes scores play a → IsInput script_bytes capture_bytes scores play b → a ≡ b
 one_input script_bytes capture_bytes scores play a b x y =
     let scripts : a.script ≡ b.script = one_script (take 1048577 script_bytes) a.script b.script x.script.spelled y.script.spelled in
     let captures : a.capture ≡ b.capture = one_capture capture_bytes a.script.header b.script.header a.capture b.capture x.capture y.capture in
@@ -92,7 +92,7 @@ one_input script_bytes capture_bytes scores play a b x y =
     let same : a.scores ≡ b.scores = x.scores_are ∙ sym y.scores_are in
     (λ k. record { script = scripts k; capture = captures k; disks = disks k; scores = same k })
 
-module _ (files : Files) (scores : List Score) (play : Play) where
+module _ (files : Files) (scores : List Sound) (play : Play) where
   -- ---- what is known of a name's bytes
 
   -- a name has one list of bytes
@@ -235,7 +235,7 @@ module _ (files : Files) (scores : List Score) (play : Play) where
   same_refusal (Differs a) (Wrong row sight) h k = absurd h
 
 -- where the bytes have a refusal, a play that ended early ended with it
-pub exact-err : (files : Option Files) (scores : List Score) (play : Play) (fault status : Status) (reads : Type 0) → HasRefusal files scores play fault → PlayStatus files scores play status
+pub exact-err : (files : Option Files) (scores : List Sound) (play : Play) (fault status : Status) (reads : Type 0) → HasRefusal files scores play fault → PlayStatus files scores play status
     → (status ≡ ReadFault → reads ⊎ LacksInput files scores play) → (status ≡ WriteFault → IfInput files scores play) → ¬ reads
     → (status ≡ fault) ⊎ (status ≡ NoMemory)
 exact-err None scores play fault status reads h is lacks input none = absurd h
@@ -254,7 +254,7 @@ exact-err (Some files) scores play fault (Differs a) reads h is lacks input none
 exact-err (Some files) scores play fault (Wrong row sight) reads h is lacks input none = absurd is
 
 -- files that fit are played, if nothing outside fails and memory is found
-pub complete-err : (files : Option Files) (scores : List Score) (play : Play) (status : Status) (reads writes puts : Type 0) → HasInput files scores play → PlayStatus files scores play status
+pub complete-err : (files : Option Files) (scores : List Sound) (play : Play) (status : Status) (reads writes puts : Type 0) → HasInput files scores play → PlayStatus files scores play status
     → (status ≡ ReadFault → reads ⊎ LacksInput files scores play) → (status ≡ WriteFault → writes ⊎ puts) → ¬ reads → ¬ writes → ¬ puts
     → (status ≡ Ok) ⊎ (status ≡ NoMemory)
 complete-err None scores play status reads writes puts h is lacks cut no_read no_write no_put = absurd h

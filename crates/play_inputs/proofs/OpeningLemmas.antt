@@ -1,9 +1,9 @@
 -- What was read before a session or a check is made, and what a status says that ended the reading.
 use Rattle.std.proofs.Common.{◌≡◌, ◌∙◌, ℕ, ℤ, List, [], Some, None, Err, inl, inr, refl, sym, ap, length}
 use Rattle.std.specs.Prelude.{Option, Result}
-use Rattle.jack_types.specs.declared.kinds.Score.{Score}
 use Rattle.jack_host.specs.Files.{IsThere, SameFiles}
 use Rattle.session_model.specs.Explanations.{Given}
+use Rattle.session_model.specs.Kinds.{Sound}
 use Rattle.session_model.specs.Scripts.{Script}
 use Rattle.play_words.specs.Words.{Play}
 use Rattle.play_inputs.specs.declared.status.Difference.{Difference}
@@ -19,16 +19,16 @@ pub one_err : {T E : Type 0} (r : Result T E) (x y : E) → r ≡ Err x → r �
 one_err r x y e f = cc
 
 -- the first comparison that fails, with as many guests as there are scores
-abbrev pub differs : Script → List Score → Play → Option Difference
+abbrev pub differs : Script → List Sound → Play → Option Difference
 differs script scores play = first_difference script (length scores) (length play.records) (length play.disks)
 
-pub counted : (script : Script) (scores : List Score) (play : Play) (guests records disks : ℕ) (found : Option Difference) → found ≡ first_difference script guests records disks
+pub counted : (script : Script) (scores : List Sound) (play : Play) (guests records disks : ℕ) (found : Option Difference) → found ≡ first_difference script guests records disks
     → guests ≡ length scores → records ≡ length play.records → disks ≡ length play.disks → (answer : Option Difference) → found ≡ answer → differs script scores play ≡ answer
 counted script scores play guests records disks found e many named read answer is =
     sym (sym is ∙ e ∙ ap (λ n. first_difference script n records disks) many ∙ ap (λ n. first_difference script (length scores) n disks) named
     ∙ ap (λ n. first_difference script (length scores) (length play.records) n) read)
 
-module _ (files : Option Files) (scores : List Score) (play : Play) (script : Script) (is : IfBytes files play.script (λ bytes. IsScriptOf bytes script)) where
+module _ (files : Option Files) (scores : List Sound) (play : Play) (script : Script) (is : IfBytes files play.script (λ bytes. IsScriptOf bytes script)) where
   script_told : (P : Script → Type 0) → P script → IfScript files play P
   script_told P p = if_bytes_map files play.script (λ bytes. IsScriptOf bytes script) (λ bytes. (other : Script) × IsScriptOf bytes other × P other) (λ bytes of. (script, of, p)) is
 

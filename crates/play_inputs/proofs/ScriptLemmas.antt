@@ -1,13 +1,11 @@
 -- The script that was read of a file, or the status that it has.
-use Rattle.std.proofs.Common.{◌≡◌, ◌⊎◌, ℕ, List, Ok, Err, inl, inr, subst, sym, take}
+use Rattle.std.proofs.Common.{◌≡◌, ℕ, List, Ok, Err, inl, inr, subst, sym, take}
 use Rattle.std.specs.Prelude.{IfErr, IfOk, Option, Result}
-use Rattle.jack_types.specs.declared.scripts.ScriptFault.{ScriptFault}
 use Rattle.session_model.specs.Grammar.{Spells}
 use Rattle.session_model.specs.Scripts.{Script}
 use Rattle.play_inputs.specs.declared.status.Status.{Status}
-use Rattle.play_inputs.specs.declared.status.Status.TheVariants.{BadScript, NoMemory}
 use Rattle.play_inputs.specs.Inputs.{Files, IfBytes, IsBadScript, IsFaulty, IsScriptOf}
-use Rattle.play_inputs.specs.Scripts.{IsRead, ScriptStatus}
+use Rattle.play_inputs.specs.Scripts.{IsRead, RefusesBytes, ScriptStatus}
 use Rattle.play_inputs.proofs.InputLemmas.{if_bytes_map}
 
 -- what the first bytes of a file spell is the file's script
@@ -24,8 +22,7 @@ script-told (Ok script) files name bytes h is =
 script-told (Err status) files name bytes h is = tt
 
 pub fault-told : (r : Result Script Status) (files : Option Files) (name bytes : List ℕ) → IfBytes files name (λ whole. bytes ≡ take 1048577 whole)
-    → IfErr r (λ status. (status ≡ NoMemory) ⊎ ((fault : ScriptFault) × (status ≡ BadScript fault) × IsFaulty bytes fault))
-    → IfErr r (ScriptStatus files name)
+    → IfErr r (RefusesBytes bytes) → IfErr r (ScriptStatus files name)
 fault-told (Ok script) files name bytes h is = tt
 fault-told (Err status) files name bytes h (inl none) = subst (ScriptStatus files name) (sym none) tt
 fault-told (Err status) files name bytes h (inr told) =

@@ -11,11 +11,11 @@
 use Rattle.std.specs.Prelude.{◌≡◌, ◌≢◌, ◌⊎◌, ℕ, List, length, ⊤, Option, Some, None}
 use Rattle.jack_types.specs.declared.files.WaveFault.{WaveFault}
 use Rattle.jack_types.specs.declared.files.WaveFault.TheVariants.{Read}
-use Rattle.jack_types.specs.declared.kinds.Score.{Score}
 use Rattle.jack_types.specs.declared.scripts.Cause.TheVariants.{Memory}
 use Rattle.jack_types.specs.declared.scripts.ScriptFault.{ScriptFault}
 use Rattle.jack_host.specs.Files.{IsThere}
 use Rattle.session_model.specs.Explanations.{Given}
+use Rattle.session_model.specs.Kinds.{Sound}
 use Rattle.session_model.specs.Scripts.{Script}
 use Rattle.play_words.specs.Checks.{Check, IsCheck}
 use Rattle.play_words.specs.Rehearsals.{IsRehearse}
@@ -84,17 +84,17 @@ abbrev pub IfScript : Option Files → Play → (Script → Type 0) → Type 0
 IfScript files play P = IfBytes files play.script (λ bytes. (script : Script) × IsScriptOf bytes script × P script)
 
 -- nothing differs that needs no capture, and this holds of the capture's bytes
-abbrev pub IfCapture : Option Files → List Score → Play → (Script → List ℕ → Type 0) → Type 0
+abbrev pub IfCapture : Option Files → List Sound → Play → (Script → List ℕ → Type 0) → Type 0
 IfCapture files scores play P =
     IfScript files play (λ script. (first_difference script (length scores) (length play.records) (length play.disks) ≡ None) × IfBytes files play.capture (P script))
 
 -- the first comparison that fails
-abbrev pub IsFirstDifference : Option Files → List Score → Play → Difference → Type 0
+abbrev pub IsFirstDifference : Option Files → List Sound → Play → Difference → Type 0
 IsFirstDifference files scores play difference =
     IfScript files play (λ script. first_difference script (length scores) (length play.records) (length play.disks) ≡ Some difference)
     ⊎ IfCapture files scores play (λ script bytes. IsDifferent bytes script.header difference)
 
-abbrev pub PlayStatus : Option Files → List Score → Play → Status → Type 0
+abbrev pub PlayStatus : Option Files → List Sound → Play → Status → Type 0
 PlayStatus files scores play Ok = ⊥
 PlayStatus files scores play NoMemory = ⊤
 PlayStatus files scores play Words = ⊥
@@ -106,18 +106,18 @@ PlayStatus files scores play (Differs difference) = IsFirstDifference files scor
 PlayStatus files scores play (Wrong row sight) = ⊥
 
 -- the files, the guests and the names fit one another
-abbrev pub IfInput : Option Files → List Score → Play → Type 0
+abbrev pub IfInput : Option Files → List Sound → Play → Type 0
 IfInput files scores play =
     IfBytes files play.script (λ script_bytes. IfBytes files play.capture (λ capture_bytes. (given : Given) × IsInput script_bytes capture_bytes scores play given))
 
 -- the two files are a script that is played and a capture that fits it, and so do guests and names
-abbrev pub HasInput : Option Files → List Score → Play → Type 0
+abbrev pub HasInput : Option Files → List Sound → Play → Type 0
 HasInput None scores play = ⊥
 HasInput (Some files) scores play =
     IfBytes (Some files) play.script (λ script_bytes. IfBytes (Some files) play.capture (λ capture_bytes. (given : Given) × IsInput script_bytes capture_bytes scores play given))
 
 -- their bytes have the refusal of this status
-abbrev pub HasRefusal : Option Files → List Score → Play → Status → Type 0
+abbrev pub HasRefusal : Option Files → List Sound → Play → Status → Type 0
 HasRefusal None scores play status = ⊥
 HasRefusal (Some files) scores play Ok = ⊥
 HasRefusal (Some files) scores play NoMemory = ⊥
@@ -130,7 +130,7 @@ HasRefusal (Some files) scores play (Differs difference) = PlayStatus (Some file
 HasRefusal (Some files) scores play (Wrong row sight) = ⊥
 
 -- the script is not there, or it is played, nothing differs that needs no capture, and the capture is not there
-abbrev pub LacksInput : Option Files → List Score → Play → Type 0
+abbrev pub LacksInput : Option Files → List Sound → Play → Type 0
 LacksInput files scores play =
     (¬ IsThere files play.script)
     ⊎ (IfScript files play (λ script. first_difference script (length scores) (length play.records) (length play.disks) ≡ None) × (¬ IsThere files play.capture))

@@ -9,13 +9,13 @@
 use Rattle.std.specs.Prelude.{◌≡◌, ◌<◌, ◌⊎◌, ℕ, ◌==◌, nat_lt, not, List, [], length, map, slice_index_or, take, ⊤, ℤ, Option, Some, None, Ok, Err, if◌then◌else◌}
 use Rattle.jack_types.specs.declared.files.Format.{Format}
 use Rattle.jack_types.specs.declared.files.WaveFault.{WaveFault}
-use Rattle.jack_types.specs.declared.kinds.Score.{Score}
 use Rattle.jack_types.specs.declared.scripts.Cause.TheVariants.{Choice}
 use Rattle.jack_types.specs.declared.scripts.Header.{Header}
 use Rattle.jack_types.specs.declared.scripts.ScriptFault.{ScriptFault}
 use Rattle.jack_host.specs.Files.{bytes_under}
 use Rattle.session_model.specs.Explanations.{Given}
 use Rattle.session_model.specs.Grammar.{Spells}
+use Rattle.session_model.specs.Kinds.{Sound}
 use Rattle.session_model.specs.Reading.{script_fault}
 use Rattle.session_model.specs.Scripts.{Script}
 use Rattle.session_model.specs.Texts.{said}
@@ -84,7 +84,7 @@ pub record IsCapture (bytes : List ℕ) (header : Header) (samples : List ℤ) :
   pub fits : difference_in header told.format ≡ None
 
 -- the two files, the guests and the names fit one another; there is no disk
-pub record IsInput (script_bytes capture_bytes : List ℕ) (scores : List Score) (play : Play) (given : Given) : Type 0 where
+pub record IsInput (script_bytes capture_bytes : List ℕ) (scores : List Sound) (play : Play) (given : Given) : Type 0 where
   pub script : IsScriptOf script_bytes given.script
   pub fits : first_difference given.script (length scores) (length play.records) (length play.disks) ≡ None
   pub capture : IsCapture capture_bytes given.script.header given.capture

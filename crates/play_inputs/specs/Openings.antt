@@ -2,8 +2,8 @@
 --     GivesInput files scores play script left      the two files give a play this script, and a capture with these samples
 --     OpeningStatus files scores play status      what a status says that ended the reading
 use Rattle.std.specs.Prelude.{◌≡◌, ℤ, List, ⊤, Option, Some}
-use Rattle.jack_types.specs.declared.kinds.Score.{Score}
 use Rattle.session_model.specs.Explanations.{Given}
+use Rattle.session_model.specs.Kinds.{Sound}
 use Rattle.session_model.specs.Scripts.{Script}
 use Rattle.play_words.specs.Words.{Play}
 use Rattle.play_inputs.specs.declared.status.Status.{Status}
@@ -12,12 +12,12 @@ use Rattle.play_inputs.specs.Answers.{PlayStatus}
 use Rattle.play_inputs.specs.Inputs.{Files, IfBytes, IsInput}
 
 -- where they are told
-abbrev pub GivesInput : Option Files → List Score → Play → Script → Option (List ℤ) → Type 0
+abbrev pub GivesInput : Option Files → List Sound → Play → Script → Option (List ℤ) → Type 0
 GivesInput files scores play script left =
     IfBytes files play.script (λ script_bytes. IfBytes files play.capture (λ capture_bytes.
     (given : Given) × IsInput script_bytes capture_bytes scores play given × (given.script ≡ script) × (left ≡ Some given.capture)))
 
-abbrev pub OpeningStatus : Option Files → List Score → Play → Status → Type 0
+abbrev pub OpeningStatus : Option Files → List Sound → Play → Status → Type 0
 OpeningStatus files scores play Ok = ⊥
 OpeningStatus files scores play NoMemory = ⊤
 OpeningStatus files scores play Words = ⊥

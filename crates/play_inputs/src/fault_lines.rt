@@ -164,7 +164,8 @@ pub fn put_fault<K: Sink>(out: &mut K, status: Status)
 
 /// Puts out the line of a fault, where the status has one: of `NoMemory` and `WriteFault` nothing is put.
 pub fn put_line<K: Sink>(out: &mut K, status: Status)
-    ensures line { HasLine status → PutsFault (K.content out.old) (K.content out.new) (K.faults out.old) (K.faults out.new) status }
+    ensures line { HasLine status →
+        PutsFault (K.content out.old) (K.content out.new) (K.faults out.old) (K.faults out.new) status }
     ensures silent { (status ≡ Status.NoMemory) ⊎ (status ≡ Status.WriteFault) → out.new ≡ out.old }
     ensures later { K.faults out.old ≤ K.faults out.new }
 {

@@ -3,9 +3,9 @@
 ghost use Rattle.std.specs.Prelude.{◌≡◌, ◌+◌, ◌<◌, ◌≤◌, ◌⊎◌, List, IfErr, IfOk, IsErrOf, OnErr, OnOk, false, length};
 ghost use Rattle.jack_host.specs.Causes.{Rose};
 ghost use Rattle.jack_host.specs.Files.{SameFiles};
-ghost use Rattle.jack_types.specs.declared.kinds.Score.{Score as ScoreValue};
 ghost use Rattle.task_laws.specs.Calls.{guests_needed};
 ghost use Rattle.session_model.specs.Grammar.{IsScript};
+ghost use Rattle.session_model.specs.Kinds.{Sound};
 ghost use Rattle.play_inputs.specs.Answers.{HasOwnFault, LacksInput};
 ghost use Rattle.play_inputs.specs.Inputs.{IsPlayed};
 ghost use Rattle.play_inputs.specs.Openings.{GivesInput, OpeningStatus};
@@ -36,17 +36,18 @@ pub fn open_inputs<H: Host>(
     guests: usize,
 ) -> Result<Inputs<H::In>, Status>
     requires { H.lent host.old < 900 }
-    ensures opened { IfOk result (λ inputs. (scores : List ScoreValue) → length scores ≡ guests →
+    ensures opened { IfOk result (λ inputs. (scores : List Sound) → length scores ≡ guests →
         GivesInput (H.files host.old) scores names.now inputs.script inputs.capture.left) }
     ensures played { IfOk result (λ inputs. IsScript inputs.script × IsPlayed inputs.script) }
     ensures fits { IfOk result (λ inputs. (guests_needed inputs.script ≤ guests)
         × (length inputs.script.header.recorders ≡ length names.now.records)
         × (length inputs.script.header.disks ≡ length names.now.disks)) }
-    ensures format { IfOk result (λ inputs. (inputs.capture.format.channels ≡ inputs.script.header.capture) × (inputs.capture.failed ≡ false)) }
-    ensures fault { IfErr result (λ status. (scores : List ScoreValue) → length scores ≡ guests →
+    ensures format { IfOk result (λ inputs.
+        (inputs.capture.format.channels ≡ inputs.script.header.capture) × (inputs.capture.failed ≡ false)) }
+    ensures fault { IfErr result (λ status. (scores : List Sound) → length scores ≡ guests →
         OpeningStatus (H.files host.old) scores names.now status) }
     ensures own { IfErr result HasOwnFault }
-    ensures read { IsErrOf result Status.ReadFault → (scores : List ScoreValue) → length scores ≡ guests →
+    ensures read { IsErrOf result Status.ReadFault → (scores : List Sound) → length scores ≡ guests →
         Rose (H.read_faults host.old) (H.read_faults host.new) ⊎ LacksInput (H.files host.old) scores names.now }
 
     ensures later { H.read_faults host.old ≤ H.read_faults host.new }

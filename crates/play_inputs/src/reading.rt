@@ -10,7 +10,7 @@ use std::alloc::{AllocError, Global};
 
 /// Why a file could not be read.
 #[derive(Clone, Copy, Debug, PartialEq, Eq)]
-pub enum LoadFault {
+pub(crate) enum LoadFault {
     Memory,
     Read,
 }
@@ -57,7 +57,7 @@ fn read_all<S: Source>(alloc: Global, source: &mut S, limit: usize) -> Result<Ve
 }
 
 /// The bytes of a file, or its first `limit` bytes.
-pub fn load<H: Host>(
+pub(crate) fn load<H: Host>(
     alloc: Global,
     host: &mut H,
     name: &str,

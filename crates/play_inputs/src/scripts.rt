@@ -3,11 +3,10 @@
 ghost use Rattle.std.specs.Prelude.{◌≡◌, ◌<◌, ◌≤◌, ◌⊎◌, IfErr, IfOk, IsErrOf, IsTrue, OnOk, length, ◌↔◌};
 ghost use Rattle.jack_host.specs.Causes.{Rose};
 ghost use Rattle.jack_host.specs.Files.{IsThere, SameFiles};
-ghost use Rattle.jack_types.specs.declared.scripts.ScriptFault.{ScriptFault as FaultValue};
 ghost use Rattle.session_model.specs.Grammar.{IsScript};
 ghost use Rattle.play_inputs.specs.Answers.{HasOwnFault, IsScriptFault};
-ghost use Rattle.play_inputs.specs.Inputs.{IfBytes, IsFaulty, IsPlayed, IsScriptOf, line_at, unplayable};
-ghost use Rattle.play_inputs.specs.Scripts.{IsRead, ScriptStatus, status_of_script};
+ghost use Rattle.play_inputs.specs.Inputs.{IfBytes, IsPlayed, IsScriptOf, line_at, unplayable};
+ghost use Rattle.play_inputs.specs.Scripts.{IsRead, RefusesBytes, ScriptStatus, status_of_script};
 
 use crate::Status;
 use crate::reading::{LoadFault, load};
@@ -72,7 +71,7 @@ fn status_of(fault: ScriptFault) -> Status
 // The script that these bytes spell, if it is played.
 fn script_in(alloc: Global, bytes: &[u8]) -> Result<Script, Status>
     ensures script { IfOk result (λ script. IsRead bytes.now script) }
-    ensures fault { IfErr result (λ status. (status ≡ Status.NoMemory) ⊎ ((fault : FaultValue) × (status ≡ Status.BadScript fault) × IsFaulty bytes.now fault)) }
+    ensures fault { IfErr result (RefusesBytes bytes.now) }
     ensures own { IfErr result HasOwnFault }
     ensures lawful { IfOk result (λ script. IsScript script) }
 {

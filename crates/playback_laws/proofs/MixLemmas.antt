@@ -3,9 +3,9 @@
 --     channels-mixed      so is each
 use Rattle.std.proofs.Common.{◌≡◌, ℕ, ◌<◌, ◌==◌, List, [], length, map, get_or, Contains, ℤ, refl, sym, ◌∙◌, ap, subst}
 use Rattle.jack_types.specs.declared.kinds.Kind.TheVariants.{Pass}
-use Rattle.jack_types.specs.declared.kinds.Score.{Score}
 use Rattle.session_model.specs.Benches.{Bench, outputs_of}
 use Rattle.session_model.specs.Cycles.{Settled, edges_into}
+use Rattle.session_model.specs.Kinds.{Sound as GuestSound}
 use Rattle.session_model.specs.Samples.{below, mix, sample}
 use Rattle.session_model.specs.State.{Connection, playback_port}
 use Rattle.session_laws.proofs.PlaceLemmas.{map-after, mix-same}
@@ -22,7 +22,7 @@ use Rattle.playback_mix.specs.Mixes.{channel_mix, sound_in}
 use Rattle.playback_laws.proofs.BoundLemmas.{heard-within}
 use Rattle.playback_laws.proofs.ListLemmas.{sample-lacking}
 
-module _ (plan : Planned) (planned : IsPlanned plan) (scores : List Score) (benches : List Seen) (channels : List (List ℤ)) (at : Settled) (graph : at.graph ≡ state_of_plan plan) (as_many : length channels ≡ plan.base.capture) (captured : (c : ℕ) → c < length channels → at.capture c ≡ get_or channels c []) where
+module _ (plan : Planned) (planned : IsPlanned plan) (scores : List GuestSound) (benches : List Seen) (channels : List (List ℤ)) (at : Settled) (graph : at.graph ≡ state_of_plan plan) (as_many : length channels ≡ plan.base.capture) (captured : (c : ℕ) → c < length channels → at.capture c ≡ get_or channels c []) where
   abbrev played : ℕ → Bench
   played n = bench_in scores (get_or benches n (new_bench Pass 0)).kept
 

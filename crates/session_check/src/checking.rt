@@ -8,8 +8,8 @@ ghost use Rattle.check_sights.specs.declared.sights.Sight.{Sight as SightValue};
 ghost use Rattle.task_laws.specs.Calls.{guests_needed};
 ghost use Rattle.check_walk.specs.Walkings.{IsServed};
 ghost use Rattle.session_check.specs.Cases.{IsCase, IsUntouched, left_of};
-ghost use Rattle.session_check.specs.Counts.{Counted, NoneFell, OneRose, counts_of};
-ghost use Rattle.session_check.specs.Passes.{AreTold, IsUnderway, IsWrongBehind, MayPlay, RightUpTo, pass_of};
+ghost use Rattle.session_check.specs.Counts.{NoneFell, OneRose, counts_of};
+ghost use Rattle.session_check.specs.Passes.{AreTold, CountsFaults, IsUnderway, IsWrongBehind, MayPlay, RightUpTo, passing_of};
 ghost use Rattle.session_check.specs.Verdicts.{is_read, of_calls as verdict_on_calls, of_report as verdict_on_report};
 ghost use Rattle.script_segments.specs.Segments.{segments as the_segments};
 ghost use Rattle.told_reports.specs.Kept.{report_kept};
@@ -88,13 +88,17 @@ fn judged<S: Source, G: Guest + Send, T: Threads + Sync, K: Gate>(
 ) -> Result<Verdict, CheckFault>
     requires told { AreTold script.now told.now }
     requires segments { segments.now ≡ the_segments script.now }
-    requires underway { IsUnderway script.now told.now (pass_of pass.old.calls pass.old.walk pass.old.takings.items pass.old.playback pass.old.records.items pass.old.done pass.old.last) }
+    requires underway { IsUnderway script.now told.now (passing_of pass.old) }
     requires set { pass.old.walk.gear.set ≡ script.now.header.period }
     requires first { pass.old.done ≡ 0 }
     requires fresh { IsUntouched pass.old.playback × All IsUntouched pass.old.records.items }
-    ensures explained { result ≡ Ok Verdict.Explained → (given : Given) (written : Written) → MayPlay script.now given written (report_kept told.now) (pass_of pass.old.calls pass.old.walk pass.old.takings.items pass.old.playback pass.old.records.items pass.old.done pass.old.last) → RightUpTo given written (report_kept told.now) 10 }
-    ensures wrong { (row : RowValue) (sight : SightValue) → result ≡ Ok (Verdict.Wrong row sight) → (given : Given) (written : Written) → MayPlay script.now given written (report_kept told.now) (pass_of pass.old.calls pass.old.walk pass.old.takings.items pass.old.playback pass.old.records.items pass.old.done pass.old.last) → IsWrongBehind given written (report_kept told.now) row }
-    ensures counted { (report : ℕ) → Counted (counts_of pass.old.walk.gear.capture.reading.faults report pass.old.playback pass.old.records.items) (counts_of pass.new.walk.gear.capture.reading.faults report pass.new.playback pass.new.records.items) (is_read result) }
+    ensures explained { result ≡ Ok Verdict.Explained → (given : Given) (written : Written)
+        → MayPlay G.sound script.now given written (report_kept told.now) (passing_of pass.old)
+        → RightUpTo given written (report_kept told.now) 10 }
+    ensures wrong { (row : RowValue) (sight : SightValue) → result ≡ Ok (Verdict.Wrong row sight) → (given : Given) (written : Written)
+        → MayPlay G.sound script.now given written (report_kept told.now) (passing_of pass.old)
+        → IsWrongBehind given written (report_kept told.now) row }
+    ensures counted { CountsFaults (passing_of pass.old) (passing_of pass.new) (is_read result) }
 {
     rows_are_a_report();
     rows_are_in_place();
@@ -144,13 +148,20 @@ pub fn check<S: Source, G: Guest + Send, T: Threads + Sync, K: Gate>(
     requires guests { guests_needed script.now ≤ length guests.items }
     requires records { length records.items ≡ length script.now.header.recorders }
     requires fresh { IsUntouched playback × All IsUntouched records.items }
-    ensures explained { (given : Given) (written : Written) → IsCase script.now capture.left (map G.score guests.items) report.left playback.left (map left_of records.items) given written
+    ensures explained { (given : Given) (written : Written)
+        → IsCase script.now capture.left (map G.sound (map G.score guests.items)) report.left playback.left (map left_of records.items) given written
         → result.verdict ≡ Ok Verdict.Explained → (printed : Printed) × Explained given printed written }
-    ensures wrong { (given : Given) (written : Written) → IsCase script.now capture.left (map G.score guests.items) report.left playback.left (map left_of records.items) given written
+    ensures wrong { (given : Given) (written : Written)
+        → IsCase script.now capture.left (map G.sound (map G.score guests.items)) report.left playback.left (map left_of records.items) given written
         → (row : RowValue) (sight : SightValue) → result.verdict ≡ Ok (Verdict.Wrong row sight) → IsFirstWrong given written row }
-    ensures read { IsErrOf result.verdict CheckFault.Read → OneRose (counts_of capture.faults report.faults playback records.items) (counts_of result.capture.faults result.report.faults result.playback result.records.items) }
-    ensures later { NoneFell (counts_of capture.faults report.faults playback records.items) (counts_of result.capture.faults result.report.faults result.playback result.records.items) }
-    ensures kept { OnOk result.verdict (counts_of result.capture.faults result.report.faults result.playback result.records.items ≡ counts_of capture.faults report.faults playback records.items) }
+    ensures read { IsErrOf result.verdict CheckFault.Read
+        → OneRose (counts_of capture.faults report.faults playback records.items)
+        (counts_of result.capture.faults result.report.faults result.playback result.records.items) }
+    ensures later { NoneFell (counts_of capture.faults report.faults playback records.items)
+        (counts_of result.capture.faults result.report.faults result.playback result.records.items) }
+    ensures kept { OnOk result.verdict
+        (counts_of result.capture.faults result.report.faults result.playback result.records.items
+        ≡ counts_of capture.faults report.faults playback records.items) }
 {
     rows_are_a_report();
     rows_are_in_place();

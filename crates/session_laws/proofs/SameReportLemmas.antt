@@ -13,7 +13,6 @@ use Rattle.jack_types.specs.declared.commands.Command.{Command}
 use Rattle.jack_types.specs.declared.commands.Command.TheVariants.{Open}
 use Rattle.jack_types.specs.declared.events.Logged.{Logged}
 use Rattle.jack_types.specs.declared.kinds.Kind.TheVariants.{Meter, Midilog}
-use Rattle.jack_types.specs.declared.kinds.Score.{Score}
 use Rattle.jack_types.specs.declared.replies.Entry.{Entry}
 use Rattle.jack_types.specs.declared.replies.Overrun.{Overrun}
 use Rattle.jack_types.specs.declared.replies.Reply.{Reply}
@@ -26,6 +25,7 @@ use Rattle.session_model.specs.Disks.{Played, IsMissed}
 use Rattle.session_model.specs.Explanations.{Given, Printed, Written, Explained, course_of, overruns_of}
 use Rattle.session_model.specs.Grammar.{IsScript, IsCommand, is_call, all_cycles}
 use Rattle.session_model.specs.Histories.{Legal, Cycles, KeepsReplies, accepted, accepted_below, calls_of, change_of, plan_of, stage_of, state_after}
+use Rattle.session_model.specs.Kinds.{Sound}
 use Rattle.session_model.specs.Recorders.{Lost, IsOverrun, kept_before, is_taping, is_lost}
 use Rattle.session_model.specs.Replies.{reply}
 use Rattle.session_model.specs.Reports.{PrintedCycle, PrintedMeter, PrintedEvent, PrintedRecorder, PrintedDisk, Report, report_of, report_text, printed_call, printed_cycle, printed_recorder, printed_disk, meters_by, events_by, last_log}
@@ -488,10 +488,10 @@ places-same f xs n d long h =
     ext_get_or d (map f (below n)) xs (length-map_below f n ∙ sym long)
     (λ i b. get_or-map_below f n i d (omega (arith, b, length-map_below f n)) ∙ h i)
 
-abbrev pub given_by : Script → List ℤ → List DiskFile → List Score → Given
+abbrev pub given_by : Script → List ℤ → List DiskFile → List Sound → Given
 given_by script capture disks scores = record { script = script; capture = capture; disks = disks; scores = scores }
 
-pub Printed-same : (script : Script) → IsScript script → (capture capture' : List ℤ) (disks disks' : List DiskFile) (scores scores' : List Score) (a b : Printed)
+pub Printed-same : (script : Script) → IsScript script → (capture capture' : List ℤ) (disks disks' : List DiskFile) (scores scores' : List Sound) (a b : Printed)
     → IsPrintedOf (given_by script capture disks scores) a → IsPrintedOf (given_by script capture' disks' scores') b
     → report_text (course_of (given_by script capture disks scores) a) a.history a.overruns ≡ report_text (course_of (given_by script capture' disks' scores') b) b.history b.overruns
     → a ≡ b

@@ -6,11 +6,11 @@ use native.Mathlib.Nat.{min-le_left, le-min}
 use Rattle.std.specs.List.{list_any}
 use Rattle.std.specs.List.Sorted.{IsStrictlyIncreasing}
 use Rattle.std.proofs.lemmas.List.Sums.{sum_by_push, sum_by-cons}
-use Rattle.jack_types.specs.declared.kinds.Score.{Score}
 use Rattle.jack_types.specs.declared.replies.Overrun.{Overrun}
 use Rattle.jack_types.specs.declared.replies.Underrun.{Underrun}
 use Rattle.session_model.specs.Courses.{Course, DiskFile, turn}
 use Rattle.session_model.specs.Grammar.{IsScript}
+use Rattle.session_model.specs.Kinds.{Sound}
 use Rattle.session_model.specs.Recorders.{Lost, IsOverrun, kept_before, is_taping, is_lost}
 use Rattle.session_model.specs.Samples.{below}
 use Rattle.session_model.specs.Scripts.{Script, turns}
@@ -248,13 +248,13 @@ module _ (course : Course) (recorder : ℕ) (ring_some : 1 ≤ course.script.hea
       }
 
 -- the counts rest on the accepted changes and the numbers alone
-counts-same : (script : Script) (capture : List ℤ) (disks : List DiskFile) (scores : List Score) (underruns : List (List Underrun)) (recorder k : ℕ)
+counts-same : (script : Script) (capture : List ℤ) (disks : List DiskFile) (scores : List Sound) (underruns : List (List Underrun)) (recorder k : ℕ)
     → counts (serial_course script) recorder k ≡ counts (course_in_serial script capture disks scores underruns) recorder k
 counts-same script capture disks scores underruns recorder zero = refl
 counts-same script capture disks scores underruns recorder (suc k) = ap (counted_in (serial_course script) recorder (suc k)) (counts-same script capture disks scores underruns recorder k)
 
 pub Lost-serial : (script : Script) → IsScript script → script.header.threads ≡ None
-    → (capture : List ℤ) (disks : List DiskFile) (scores : List Score) (underruns : List (List Underrun)) (recorder : ℕ) → recorder < length script.header.recorders
+    → (capture : List ℤ) (disks : List DiskFile) (scores : List Sound) (underruns : List (List Underrun)) (recorder : ℕ) → recorder < length script.header.recorders
     → Lost (course_in_serial script capture disks scores underruns) (slice_index_or (serial script).overruns recorder []) recorder
 Lost-serial script is no_threads capture disks scores underruns recorder h =
     let course : Course = course_in_serial script capture disks scores underruns in

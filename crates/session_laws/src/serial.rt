@@ -1,12 +1,12 @@
 //! Laws of serial mode.
 
 ghost use Rattle.std.specs.Prelude.{◌≡◌, ℕ, ◌<◌, ℤ, List, [], length, slice_index_or, None};
-ghost use Rattle.jack_types.specs.declared.kinds.Score.{Score as ScoreValue};
 ghost use Rattle.jack_types.specs.declared.replies.Underrun.{Underrun as UnderrunValue};
 ghost use Rattle.session_model.specs.Courses.{DiskFile};
 ghost use Rattle.session_model.specs.Explanations.{Explained, Given, written_of};
 ghost use Rattle.session_model.specs.Grammar.{IsScript};
 ghost use Rattle.session_model.specs.Histories.{Cycles, Legal};
+ghost use Rattle.session_model.specs.Kinds.{Sound};
 ghost use Rattle.session_model.specs.Recorders.{Lost};
 ghost use Rattle.session_model.specs.Scripts.{Script};
 ghost use Rattle.session_model.specs.Serial.{course_in_serial, serial, serial_printed};
@@ -16,7 +16,7 @@ pub fn serial_meaning_is_legal()
     ensures history { (script : Script) → IsScript script → Legal script (serial script).history }
     ensures numbers { (script : Script) → IsScript script → Cycles script (serial script).history (serial script).numbers }
     ensures overruns { (script : Script) → IsScript script → script.header.threads ≡ None
-        → (capture : List ℤ) (disks : List DiskFile) (scores : List ScoreValue) (underruns : List (List UnderrunValue)) (recorder : ℕ) → recorder < length script.header.recorders
+        → (capture : List ℤ) (disks : List DiskFile) (scores : List Sound) (underruns : List (List UnderrunValue)) (recorder : ℕ) → recorder < length script.header.recorders
         → Lost (course_in_serial script capture disks scores underruns) (slice_index_or (serial script).overruns recorder []) recorder }
 {}
 

@@ -11,7 +11,9 @@ use Rattle.std.proofs.lemmas.Option.{get_or_from_slice_get, slice_get_within}
 use Rattle.jack_types.specs.Recorders.{no_format}
 use Rattle.jack_types.specs.declared.files.Format.{Format}
 use Rattle.session_model.specs.Grammar.{IsBits, IsFormat as IsRecorderFormat, widths}
+use Rattle.session_model.specs.Kinds.{Sound}
 use Rattle.session_model.specs.WaveFiles.{IsFormat, is_width}
+use Rattle.client_kinds.specs.Scores.{Score}
 use Rattle.graph_word.proofs.Fronts.{got_else, got_here}
 use Rattle.run_laws.proofs.PlaceLemmas.{mapped_there, some_at}
 use Rattle.run_laws.specs.Told.{IsNew}
@@ -89,7 +91,7 @@ width-bits bits h = width_at bits h.0 h.1 h.2
 
 -- ---- a session whose stores are attached
 
-module _ (parts : Parts) (is : IsAttaching parts) where
+module _ (sounding : Score → Sound) (parts : Parts) (is : IsAttaching sounding parts) where
   abbrev places : List (Option Stored)
   places = held_or parts.playback parts.gear.playback ∷ map held_in parts.recorders
 
@@ -143,7 +145,7 @@ module _ (parts : Parts) (is : IsAttaching parts) where
 
   module _ (given : Stored) where
     module _ (first : parts.attached ≡ 0) where
-      pub next-playback : (tape : Tape) → Starts (playback_format parts.gear.script) given tape → StartsNext given parts true (record parts { gear = record parts.gear { playback = Some tape } })
+      pub next-playback : (tape : Tape) → Starts (playback_format parts.gear.script) given tape → StartsNext sounding given parts true (record parts { gear = record parts.gear { playback = Some tape } })
       next-playback tape starts = record {
         attaching = λ e. record {
           served = is.served;
@@ -168,7 +170,7 @@ module _ (parts : Parts) (is : IsAttaching parts) where
         attached = refl;
       }
 
-      pub next-playback-refused : (back : Stored) → Refuses (playback_format parts.gear.script) given back → StartsNext given parts false (record parts { playback = Some back })
+      pub next-playback-refused : (back : Stored) → Refuses (playback_format parts.gear.script) given back → StartsNext sounding given parts false (record parts { playback = Some back })
       next-playback-refused back refuses = record {
         attaching = λ e. absurd (true≢false (sym e));
         back = back;
@@ -206,11 +208,11 @@ module _ (parts : Parts) (is : IsAttaching parts) where
         getting_same : map (λ (q : Recording). q.getting) recorders ≡ map (λ (q : Recording). q.getting) parts.recorders
         getting_same = map-kept (λ (q : Recording). q.getting) parts.recorders i r started here refl
 
-        new_still : IsNew (bare (session_of (record parts { recorders = recorders })))
+        new_still : IsNew (bare (session_of sounding (record parts { recorders = recorders })))
         new_still =
-            subst (λ (getting : List Getting). IsNew (record (bare (session_of parts)) { getting = getting; counts = map (λ (q : Recording). q.blocks) recorders; record_files = map (λ (q : Recording). bytes_of q.store) recorders })) (sym getting_same)
-            (subst (λ (counts : List ℕ). IsNew (record (bare (session_of parts)) { counts = counts; record_files = map (λ (q : Recording). bytes_of q.store) recorders })) (sym (map-kept (λ (q : Recording). q.blocks) parts.recorders i r started here refl))
-            (subst (λ (files : List (Option (List ℕ))). IsNew (record (bare (session_of parts)) { record_files = files })) (sym (map-kept (λ (q : Recording). bytes_of q.store) parts.recorders i r started here refl)) is.new))
+            subst (λ (getting : List Getting). IsNew (record (bare (session_of sounding parts)) { getting = getting; counts = map (λ (q : Recording). q.blocks) recorders; record_files = map (λ (q : Recording). bytes_of q.store) recorders })) (sym getting_same)
+            (subst (λ (counts : List ℕ). IsNew (record (bare (session_of sounding parts)) { counts = counts; record_files = map (λ (q : Recording). bytes_of q.store) recorders })) (sym (map-kept (λ (q : Recording). q.blocks) parts.recorders i r started here refl))
+            (subst (λ (files : List (Option (List ℕ))). IsNew (record (bare (session_of sounding parts)) { record_files = files })) (sym (map-kept (λ (q : Recording). bytes_of q.store) parts.recorders i r started here refl)) is.new))
 
         -- a recorder behind it
         file-at : (j : ℕ) (q : Recording) → slice_get recorders j ≡ Some q → (i ≡ j) ⊎ (j ≡ i → ⊥) → HasFile (suc j) (suc parts.attached) q.format q.tape
@@ -232,7 +234,7 @@ module _ (parts : Parts) (is : IsAttaching parts) where
                 go (inl e) = absurd (other (sym e))
                 go (inr ne) = omega (arith, h, next, ne)
 
-        pub next-recorder : StartsNext given parts true (record parts { recorders = recorders })
+        pub next-recorder : StartsNext sounding given parts true (record parts { recorders = recorders })
         next-recorder = record {
           attaching = λ e. record {
             served = is.served;
@@ -257,7 +259,7 @@ module _ (parts : Parts) (is : IsAttaching parts) where
           attached = refl;
         }
 
-      pub next-recorder-refused : (back : Stored) → Refuses r.format given back → StartsNext given parts false (record parts { recorders = set parts.recorders i (record r { store = Some back }) })
+      pub next-recorder-refused : (back : Stored) → Refuses r.format given back → StartsNext sounding given parts false (record parts { recorders = set parts.recorders i (record r { store = Some back }) })
       next-recorder-refused back refuses = record {
         attaching = λ e. absurd (true≢false (sym e));
         back = back;
@@ -275,22 +277,22 @@ module _ (parts : Parts) (is : IsAttaching parts) where
 
 -- ---- what attaching at the next place leaves, from what its one call leaves
 
-pub from-playback : (given : Stored) (parts : Parts) → IsAttaching parts → parts.attached ≡ 0 → (begun : Bool) (after : Parts)
+pub from-playback : (sounding : Score → Sound) (given : Stored) (parts : Parts) → IsAttaching sounding parts → parts.attached ≡ 0 → (begun : Bool) (after : Parts)
     → (begun ≡ true → (tape : Tape) × Starts (playback_format parts.gear.script) given tape × (after ≡ record parts { gear = record parts.gear { playback = Some tape } }))
     → (begun ≡ false → (back : Stored) × Refuses (playback_format parts.gear.script) given back × (after ≡ record parts { playback = Some back }))
-    → StartsNext given parts begun after
-from-playback given parts is first true after put_in kept = let put = put_in refl in subst (StartsNext given parts true) (sym put.2) (next-playback parts is given first put.0 put.1)
-from-playback given parts is first false after put_in kept = let back = kept refl in subst (StartsNext given parts false) (sym back.2) (next-playback-refused parts is given first back.0 back.1)
+    → StartsNext sounding given parts begun after
+from-playback sounding given parts is first true after put_in kept = let put = put_in refl in subst (StartsNext sounding given parts true) (sym put.2) (next-playback sounding parts is given first put.0 put.1)
+from-playback sounding given parts is first false after put_in kept = let back = kept refl in subst (StartsNext sounding given parts false) (sym back.2) (next-playback-refused sounding parts is given first back.0 back.1)
 
-pub from-recorder : (given : Stored) (parts : Parts) → IsAttaching parts → (i : ℕ) → parts.attached ≡ suc i → parts.attached ≤ length parts.recorders → (begun : Bool) (after : Parts)
+pub from-recorder : (sounding : Score → Sound) (given : Stored) (parts : Parts) → IsAttaching sounding parts → (i : ℕ) → parts.attached ≡ suc i → parts.attached ≤ length parts.recorders → (begun : Bool) (after : Parts)
     → (begun ≡ true → (r : Recording) → slice_get parts.recorders i ≡ Some r → (tape : Tape) × Starts r.format given tape × (after ≡ record parts { recorders = set parts.recorders i (record r { tape = Some tape }) }))
     → (begun ≡ false → (r : Recording) → slice_get parts.recorders i ≡ Some r → (back : Stored) × Refuses r.format given back × (after ≡ record parts { recorders = set parts.recorders i (record r { store = Some back }) }))
-    → StartsNext given parts begun after
-from-recorder given parts is i next fewer true after put_in kept =
-    let one = may-attach parts is i next fewer in
+    → StartsNext sounding given parts begun after
+from-recorder sounding given parts is i next fewer true after put_in kept =
+    let one = may-attach sounding parts is i next fewer in
     let put = put_in refl one.0 one.1 in
-    subst (StartsNext given parts true) (sym put.2) (next-recorder parts is given i next one.0 one.1 put.0 put.1)
-from-recorder given parts is i next fewer false after put_in kept =
-    let one = may-attach parts is i next fewer in
+    subst (StartsNext sounding given parts true) (sym put.2) (next-recorder sounding parts is given i next one.0 one.1 put.0 put.1)
+from-recorder sounding given parts is i next fewer false after put_in kept =
+    let one = may-attach sounding parts is i next fewer in
     let back = kept refl one.0 one.1 in
-    subst (StartsNext given parts false) (sym back.2) (next-recorder-refused parts is given i next one.0 one.1 back.0 back.1)
+    subst (StartsNext sounding given parts false) (sym back.2) (next-recorder-refused sounding parts is given i next one.0 one.1 back.0 back.1)

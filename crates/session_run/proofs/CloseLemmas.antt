@@ -10,6 +10,8 @@ use Rattle.std.proofs.lemmas.Bool.{cases_lt}
 use Rattle.std.proofs.lemmas.List.{length-map}
 use Rattle.std.proofs.lemmas.Option.{slice_get_within}
 use Rattle.jack_host.specs.Causes.{HasCause, Rose}
+use Rattle.session_model.specs.Kinds.{Sound}
+use Rattle.client_kinds.specs.Scores.{Score}
 use Rattle.record_ring.specs.Rings.{IsPair, Sending}
 use Rattle.wave_write.specs.Tapes.{Tape}
 use Rattle.recorder_files.specs.Recorders.{BreaksOff, GivesUp, Recording, Reel, Stored, held_or, stored_of}
@@ -154,17 +156,17 @@ closed-failed capacity place rings recordings rings_met recordings_met ring ring
     })
     are
 
-pub as-many-rings : (parts : Parts) → IsSound (session_of parts) → length parts.gear.rings.rings ≡ length parts.recorders
-as-many-rings parts sound = sound.one.rings.recorders ∙ sym sound.one.recorder_ends ∙ length-map parts.recorders (λ (r : Recording). r.getting)
+pub as-many-rings : (sounding : Score → Sound) (parts : Parts) → IsSound (session_of sounding parts) → length parts.gear.rings.rings ≡ length parts.recorders
+as-many-rings sounding parts sound = sound.one.rings.recorders ∙ sym sound.one.recorder_ends ∙ length-map parts.recorders (λ (r : Recording). r.getting)
 
-pub may-close : (capacity place : ℕ) (parts : Parts) (rings : List Sending) (recordings : List Recording) (ring : Sending) (recording : Recording) → IsSound (session_of parts) → HasOpenFiles parts
+pub may-close : (sounding : Score → Sound) (capacity place : ℕ) (parts : Parts) (rings : List Sending) (recordings : List Recording) (ring : Sending) (recording : Recording) → IsSound (session_of sounding parts) → HasOpenFiles parts
     → AreEach (ClosedUpTo capacity place) parts.gear.rings.rings parts.recorders rings recordings → slice_get rings place ≡ Some ring → slice_get recordings place ≡ Some recording
     → IsPair ring recording.getting × ((tape : Tape) × (recording.tape ≡ Some tape) × MayWrite recording.getting tape)
-may-close capacity place parts rings recordings ring recording sound files are ring_there there =
+may-close sounding capacity place parts rings recordings ring recording sound files are ring_there there =
     let before = some_at parts.gear.rings.rings place (subst (λ n. place < n) are.rings_same (slice_get_within rings place ring ring_there)) in
     let was = some_at parts.recorders place (subst (λ n. place < n) are.recordings_same (slice_get_within recordings place recording there)) in
     let left : IsLeft before.0 was.0 ring recording = left-of capacity place before.0 was.0 ring recording (are.each place before.0 was.0 ring recording before.1 was.1 ring_there there) in
-    let may = may-give parts place ring recording sound files (before.1 ∙ ap Some (sym left.0)) (was.1 ∙ ap Some (sym left.1)) in
+    let may = may-give sounding parts place ring recording sound files (before.1 ∙ ap Some (sym left.0)) (was.1 ∙ ap Some (sym left.1)) in
     (may.0, may.1)
 
 pub closes-all : (capacity place : ℕ) (parts after : Parts) → capacity ≡ parts.gear.script.header.ring → length parts.recorders ≤ place

@@ -15,6 +15,7 @@ use Rattle.std.proofs.lemmas.Bool.{cases_lt}
 use Rattle.std.proofs.lemmas.List.{length-map}
 use Rattle.std.proofs.lemmas.Option.{same_Some, slice_get_within}
 use Rattle.jack_host.specs.Causes.{Rose}
+use Rattle.session_model.specs.Kinds.{Sound}
 use Rattle.session_model.specs.Scripts.{Script, phases}
 use Rattle.record_ring.specs.Rings.{Getting, Sending}
 use Rattle.wave_write.specs.Tapes.{Tape}
@@ -23,6 +24,7 @@ use Rattle.session_threads.specs.Drivers.{Gear, IsServed, driver_of}
 use Rattle.control_desk.specs.Desks.{Desk}
 use Rattle.recorder_files.specs.Recorders.{Recording, Reel, Stored, held_in, held_or, stored_of}
 use Rattle.session_laws.proofs.ListLemmas.{slice_get-map}
+use Rattle.client_kinds.specs.Scores.{Score}
 use Rattle.run_laws.specs.Runs.{RanPhases}
 use Rattle.run_laws.proofs.PlaceLemmas.{mapped_there, some_at}
 use Rattle.serial_laws.specs.Endings.{EndFails, EndTried, EndsAll, EndsOne, Finished, IsBroken, IsFinished, Left}
@@ -55,57 +57,57 @@ record Placed (parts after : Parts) (recorder : ℕ) (new : Recording) : Type 0 
   ring_after_there : slice_get after.gear.rings.rings recorder ≡ Some ring_after
   was : slice_get parts.recorders recorder ≡ Some old
 
-placed : (parts after : Parts) → IsSound (session_of parts) → length after.recorders ≡ length parts.recorders → length after.gear.rings.rings ≡ length parts.gear.rings.rings
+placed : (sounding : Score → Sound) (parts after : Parts) → IsSound (session_of sounding parts) → length after.recorders ≡ length parts.recorders → length after.gear.rings.rings ≡ length parts.gear.rings.rings
     → (recorder : ℕ) (new : Recording) → slice_get after.recorders recorder ≡ Some new → Placed parts after recorder new
-placed parts after sound as_many rings recorder new is =
+placed sounding parts after sound as_many rings recorder new is =
     let low : recorder < length parts.recorders = subst (λ n. recorder < n) as_many (slice_get_within after.recorders recorder new is) in
-    let low_ring : recorder < length parts.gear.rings.rings = subst (λ n. recorder < n) (sym (as-many-rings parts sound)) low in
+    let low_ring : recorder < length parts.gear.rings.rings = subst (λ n. recorder < n) (sym (as-many-rings sounding parts sound)) low in
     let ring = some_at parts.gear.rings.rings recorder low_ring in
     let ring_after = some_at after.gear.rings.rings recorder (subst (λ n. recorder < n) (sym rings) low_ring) in
     let old = some_at parts.recorders recorder low in
     record { ring = ring.0; ring_after = ring_after.0; old = old.0; ring_there = ring.1; ring_after_there = ring_after.1; was = old.1 }
 
-closed-at : (parts after : Parts) → IsSound (session_of parts) → (closes : ClosesAll parts after) → (recorder : ℕ) (new : Recording) → slice_get after.recorders recorder ≡ Some new
+closed-at : (sounding : Score → Sound) (parts after : Parts) → IsSound (session_of sounding parts) → (closes : ClosesAll parts after) → (recorder : ℕ) (new : Recording) → slice_get after.recorders recorder ≡ Some new
     → (p : Placed parts after recorder new) × Closed parts.gear.script.header.ring p.ring p.old p.ring_after new
-closed-at parts after sound closes recorder new is =
-    let p = placed parts after sound closes.as_many closes.rings recorder new is in
+closed-at sounding parts after sound closes recorder new is =
+    let p = placed sounding parts after sound closes.as_many closes.rings recorder new is in
     (p, closes.each recorder p.ring p.old p.ring_after new p.ring_there p.was p.ring_after_there is)
 
 -- behind a close, as the reel before it and the lists behind it say
-whole-reel : (capacity recorder : ℕ) (parts : Parts) (reel : Reel) (ring : Sending) (new : Recording) (files : HasOpenFiles parts) (is : IsReel (session_of parts) recorder reel)
-    → Closed capacity reel.ring (recording-of parts recorder reel files is).0 ring new → EndsOne capacity reel ring new.getting new.blocks (bytes_of new.store)
-whole-reel capacity recorder parts reel ring new files is closed =
-    let old = recording-of parts recorder reel files is in
+whole-reel : (sounding : Score → Sound) (capacity recorder : ℕ) (parts : Parts) (reel : Reel) (ring : Sending) (new : Recording) (files : HasOpenFiles parts) (is : IsReel (session_of sounding parts) recorder reel)
+    → Closed capacity reel.ring (recording-of sounding parts recorder reel files is).0 ring new → EndsOne capacity reel ring new.getting new.blocks (bytes_of new.store)
+whole-reel sounding capacity recorder parts reel ring new files is closed =
+    let old = recording-of sounding parts recorder reel files is in
     let tape : closed.finishes.tape ≡ reel.tape = same_Some closed.finishes.tape reel.tape (sym closed.finishes.was ∙ old.2) in
     subst (λ (r : Reel). EndsOne capacity r ring new.getting new.blocks (bytes_of new.store)) (ap (reel_of reel.ring old.0) tape ∙ old.3)
     (subst (λ (bytes : Option (List ℕ)). EndsOne capacity (reel_of reel.ring old.0 closed.finishes.tape) ring new.getting new.blocks bytes) (sym (ap bytes_of closed.finishes.store)) closed.finishes.ends)
 
-pub ends-all : (parts after : Parts) (tape : Tape) (back : Stored) → IsSound (session_of parts) → HasOpenFiles parts → ClosesAll parts after → after.gear ≡ geared parts.gear after.gear.rings.rings None → after.desk ≡ parts.desk
-    → parts.gear.playback ≡ Some tape → after.playback ≡ Some back → IsFinished tape back.bytes → EndsAll (session_of parts) (session_of after)
-ends-all parts after tape back sound files closes gear desk attached kept finished = record {
+pub ends-all : (sounding : Score → Sound) (parts after : Parts) (tape : Tape) (back : Stored) → IsSound (session_of sounding parts) → HasOpenFiles parts → ClosesAll parts after → after.gear ≡ geared parts.gear after.gear.rings.rings None → after.desk ≡ parts.desk
+    → parts.gear.playback ≡ Some tape → after.playback ≡ Some back → IsFinished tape back.bytes → EndsAll (session_of sounding parts) (session_of sounding after)
+ends-all sounding parts after tape back sound files closes gear desk attached kept finished = record {
   each = each;
   playback = λ other is. subst (λ (bytes : Option (List ℕ)). IsFinished other bytes) (sym (ap bytes_of kept)) (subst (λ (t : Tape). IsFinished t back.bytes) (same_Some tape other (sym attached ∙ is)) finished);
   rings = closes.rings;
   getting = length-map after.recorders (λ (r : Recording). r.getting) ∙ closes.as_many ∙ sym (length-map parts.recorders (λ (r : Recording). r.getting));
   counts = length-map after.recorders (λ (r : Recording). r.blocks) ∙ closes.as_many ∙ sym (length-map parts.recorders (λ (r : Recording). r.blocks));
   records = length-map after.recorders (λ (r : Recording). bytes_of r.store) ∙ closes.as_many ∙ sym (length-map parts.recorders (λ (r : Recording). r.getting));
-  same = ap (λ (g : Gear). record (session_of after) { script = g.script; driver = driver_of g }) gear
-      ∙ ap (λ (d : Desk). record (session_of after) { script = parts.gear.script; desk = d; driver = driver_of (geared parts.gear after.gear.rings.rings None) }) desk
-      ∙ ap (λ (tapes : List Tape). record (session_of after) { script = parts.gear.script; desk = parts.desk; driver = driver_of (geared parts.gear after.gear.rings.rings None); tapes = tapes }) none;
+  same = ap (λ (g : Gear). record (session_of sounding after) { script = g.script; driver = driver_of sounding g }) gear
+      ∙ ap (λ (d : Desk). record (session_of sounding after) { script = parts.gear.script; desk = d; driver = driver_of sounding (geared parts.gear after.gear.rings.rings None) }) desk
+      ∙ ap (λ (tapes : List Tape). record (session_of sounding after) { script = parts.gear.script; desk = parts.desk; driver = driver_of sounding (geared parts.gear after.gear.rings.rings None); tapes = tapes }) none;
 }
   where
     none : filter_map (λ (r : Recording). r.tape) after.recorders ≡ []
-    none = picked-none (λ (r : Recording). r.tape) after.recorders (λ i r is. (closed-at parts after sound closes i r is).1.finishes.none)
+    none = picked-none (λ (r : Recording). r.tape) after.recorders (λ i r is. (closed-at sounding parts after sound closes i r is).1.finishes.none)
 
-    each : (recorder : ℕ) (reel : Reel) (ring : Sending) (getting : Getting) (blocks : ℕ) (bytes : Option (List ℕ)) → IsReel (session_of parts) recorder reel
+    each : (recorder : ℕ) (reel : Reel) (ring : Sending) (getting : Getting) (blocks : ℕ) (bytes : Option (List ℕ)) → IsReel (session_of sounding parts) recorder reel
         → slice_get after.gear.rings.rings recorder ≡ Some ring → slice_get (map (λ (r : Recording). r.getting) after.recorders) recorder ≡ Some getting → slice_get (map (λ (r : Recording). r.blocks) after.recorders) recorder ≡ Some blocks
         → slice_get (map (λ (r : Recording). bytes_of r.store) after.recorders) recorder ≡ Some bytes → EndsOne parts.gear.script.header.ring reel ring getting blocks bytes
     each recorder reel ring getting blocks bytes is ring_there getting_there blocks_there bytes_there =
-        let old = recording-of parts recorder reel files is in
+        let old = recording-of sounding parts recorder reel files is in
         let new = slice_get-map (λ (r : Recording). r.getting) after.recorders recorder getting getting_there in
         let count : new.0.blocks ≡ blocks = same_Some new.0.blocks blocks (sym (mapped_there (λ (r : Recording). r.blocks) after.recorders recorder new.0 new.1) ∙ blocks_there) in
         let told : bytes_of new.0.store ≡ bytes = same_Some (bytes_of new.0.store) bytes (sym (mapped_there (λ (r : Recording). bytes_of r.store) after.recorders recorder new.0 new.1) ∙ bytes_there) in
-        let whole = whole-reel parts.gear.script.header.ring recorder parts reel ring new.0 files is (closes.each recorder reel.ring old.0 ring new.0 is.ring old.1 ring_there new.1) in
+        let whole = whole-reel sounding parts.gear.script.header.ring recorder parts reel ring new.0 files is (closes.each recorder reel.ring old.0 ring new.0 is.ring old.1 ring_there new.1) in
         subst (λ (g : Getting). EndsOne parts.gear.script.header.ring reel ring g blocks bytes) new.2
         (subst (λ n. EndsOne parts.gear.script.header.ring reel ring new.0.getting n bytes) count
         (subst (λ (told : Option (List ℕ)). EndsOne parts.gear.script.header.ring reel ring new.0.getting new.0.blocks told) told whole))
@@ -115,15 +117,15 @@ told-each : (recordings : List Recording) → ((i : ℕ) (r : Recording) → sli
 told-each [] none = refl
 told-each (r ∷ others) none = ap₂ (λ (b : Option (List ℕ)) (bs : List (Option (List ℕ))). b ∷ bs) (ap (λ (t : Option Tape). bytes_of (held_or r.store t)) (none 0 r refl)) (told-each others (λ i x e. none (suc i) x e))
 
-pub told-closed : (parts after : Parts) → IsSound (session_of parts) → ClosesAll parts after → after.gear.playback ≡ None → told_of after ≡ session_of after
-told-closed parts after sound closes none =
-    ap₂ (λ (playback : Option (List ℕ)) (files : List (Option (List ℕ))). record (session_of after) { playback_file = playback; record_files = files })
-    (ap (λ (t : Option Tape). bytes_of (held_or after.playback t)) none) (told-each after.recorders (λ i r is. (closed-at parts after sound closes i r is).1.finishes.none))
+pub told-closed : (sounding : Score → Sound) (parts after : Parts) → IsSound (session_of sounding parts) → ClosesAll parts after → after.gear.playback ≡ None → told_of sounding after ≡ session_of sounding after
+told-closed sounding parts after sound closes none =
+    ap₂ (λ (playback : Option (List ℕ)) (files : List (Option (List ℕ))). record (session_of sounding after) { playback_file = playback; record_files = files })
+    (ap (λ (t : Option Tape). bytes_of (held_or after.playback t)) none) (told-each after.recorders (λ i r is. (closed-at sounding parts after sound closes i r is).1.finishes.none))
 
-pub has-ended : (parts after : Parts) → IsServed parts.gear.script → parts.gear.failed ≡ false → after.gear.script ≡ parts.gear.script → after.gear.failed ≡ parts.gear.failed → RanPhases (session_of after) (length (phases parts.gear.script)) → HasEnded after
-has-ended parts after served sound script failed ran = record {
+pub has-ended : (sounding : Score → Sound) (parts after : Parts) → IsServed parts.gear.script → parts.gear.failed ≡ false → after.gear.script ≡ parts.gear.script → after.gear.failed ≡ parts.gear.failed → RanPhases (session_of sounding after) (length (phases parts.gear.script)) → HasEnded sounding after
+has-ended sounding parts after served sound script failed ran = record {
   served = subst (λ (s : Script). IsServed s) (sym script) served;
-  ran = subst (λ (s : Script). RanPhases (session_of after) (length (phases s))) (sym script) ran;
+  ran = subst (λ (s : Script). RanPhases (session_of sounding after) (length (phases s))) (sym script) ran;
   sound = failed ∙ sound;
 }
 
@@ -155,10 +157,10 @@ all-tried capacity place recorder ring ring_after old new reel was is tried = go
     go (inr x) (inl above) = Left (ap (λ (r : Recording). bytes_of (held_in r)) (tried.behind above) ∙ ap (λ (t : Option Tape). bytes_of (held_or old.store t)) was)
     go (inr x) (inr y) = failed-tried capacity ring old new reel was is (tried.here (omega (arith, x, y)))
 
-end-fails : (parts after : Parts) (playback : Option Tape) → HasOpenFiles parts → after.gear ≡ geared parts.gear after.gear.rings.rings playback → after.desk ≡ parts.desk → length after.recorders ≡ length parts.recorders
-    → ((recorder : ℕ) (reel : Reel) (new : Recording) → IsReel (session_of parts) recorder reel → slice_get after.recorders recorder ≡ Some new → EndTried parts.gear.script.header.ring reel (bytes_of (held_in new)))
-    → ((tape : Tape) → parts.gear.playback ≡ Some tape → IsBroken tape (bytes_of (held_or after.playback after.gear.playback))) → EndFails (session_of parts) (told_of after)
-end-fails parts after playback files gear desk as_many tried broken = record {
+end-fails : (sounding : Score → Sound) (parts after : Parts) (playback : Option Tape) → HasOpenFiles parts → after.gear ≡ geared parts.gear after.gear.rings.rings playback → after.desk ≡ parts.desk → length after.recorders ≡ length parts.recorders
+    → ((recorder : ℕ) (reel : Reel) (new : Recording) → IsReel (session_of sounding parts) recorder reel → slice_get after.recorders recorder ≡ Some new → EndTried parts.gear.script.header.ring reel (bytes_of (held_in new)))
+    → ((tape : Tape) → parts.gear.playback ≡ Some tape → IsBroken tape (bytes_of (held_or after.playback after.gear.playback))) → EndFails (session_of sounding parts) (told_of sounding after)
+end-fails sounding parts after playback files gear desk as_many tried broken = record {
   each = λ recorder reel bytes is bytes_there.
       let new = slice_get-map (λ (r : Recording). bytes_of (held_in r)) after.recorders recorder bytes bytes_there in
       subst (λ (told : Option (List ℕ)). EndTried parts.gear.script.header.ring reel told) new.2 (tried recorder reel new.0 is new.1);
@@ -169,23 +171,23 @@ end-fails parts after playback files gear desk as_many tried broken = record {
   numbers = ap (λ (g : Gear). g.numbers) gear;
   overruns = ap (λ (g : Gear). g.rings.overruns) gear;
   underruns = refl;
-  scores = ap (λ (g : Gear). g.stage.staged.owned.scores) gear;
+  scores = ap (λ (g : Gear). (driver_of sounding g).scores) gear;
 }
 
-pub closing-fails : (parts after : Parts) → IsSound (session_of parts) → HasOpenFiles parts → CloseFails parts after → after.gear ≡ geared parts.gear after.gear.rings.rings parts.gear.playback → after.desk ≡ parts.desk → EndFails (session_of parts) (told_of after)
-closing-fails parts after sound files fails gear desk = end-fails parts after parts.gear.playback files gear desk fails.as_many
+pub closing-fails : (sounding : Score → Sound) (parts after : Parts) → IsSound (session_of sounding parts) → HasOpenFiles parts → CloseFails parts after → after.gear ≡ geared parts.gear after.gear.rings.rings parts.gear.playback → after.desk ≡ parts.desk → EndFails (session_of sounding parts) (told_of sounding after)
+closing-fails sounding parts after sound files fails gear desk = end-fails sounding parts after parts.gear.playback files gear desk fails.as_many
     (λ recorder reel new is there.
-    let old = recording-of parts recorder reel files is in
-    let p = placed parts after sound fails.as_many fails.rings recorder new there in
+    let old = recording-of sounding parts recorder reel files is in
+    let p = placed sounding parts after sound fails.as_many fails.rings recorder new there in
     all-tried parts.gear.script.header.ring fails.place recorder reel.ring p.ring_after old.0 new reel old.2 old.3 (fails.each recorder reel.ring old.0 p.ring_after new is.ring old.1 p.ring_after_there there))
     (λ tape attached. subst (λ (t : Option Tape). IsBroken tape (bytes_of (held_or after.playback t))) (sym (ap (λ (g : Gear). g.playback) gear ∙ attached)) (left-broken tape))
 
-pub playback-fails : (parts after : Parts) (tape : Tape) (back : Stored) → IsSound (session_of parts) → HasOpenFiles parts → ClosesAll parts after → after.gear ≡ geared parts.gear after.gear.rings.rings None → after.desk ≡ parts.desk
-    → parts.gear.playback ≡ Some tape → after.playback ≡ Some back → IsBroken tape back.bytes → EndFails (session_of parts) (told_of after)
-playback-fails parts after tape back sound files closes gear desk attached kept broken = end-fails parts after None files gear desk closes.as_many
+pub playback-fails : (sounding : Score → Sound) (parts after : Parts) (tape : Tape) (back : Stored) → IsSound (session_of sounding parts) → HasOpenFiles parts → ClosesAll parts after → after.gear ≡ geared parts.gear after.gear.rings.rings None → after.desk ≡ parts.desk
+    → parts.gear.playback ≡ Some tape → after.playback ≡ Some back → IsBroken tape back.bytes → EndFails (session_of sounding parts) (told_of sounding after)
+playback-fails sounding parts after tape back sound files closes gear desk attached kept broken = end-fails sounding parts after None files gear desk closes.as_many
     (λ recorder reel new is there.
-    let old = recording-of parts recorder reel files is in
-    let p = placed parts after sound closes.as_many closes.rings recorder new there in
+    let old = recording-of sounding parts recorder reel files is in
+    let p = placed sounding parts after sound closes.as_many closes.rings recorder new there in
     closed-tried parts.gear.script.header.ring reel.ring p.ring_after old.0 new reel old.2 old.3 (closes.each recorder reel.ring old.0 p.ring_after new is.ring old.1 p.ring_after_there there))
     (λ other is. subst (λ (h : Option Stored). IsBroken other (bytes_of h)) (sym (ap₂ held_or kept (ap (λ (g : Gear). g.playback) gear)))
     (subst (λ (t : Tape). IsBroken t back.bytes) (same_Some tape other (sym attached ∙ is)) broken))
@@ -208,14 +210,14 @@ held-tried capacity place recorder ring ring_after old new tried = go (cases_lt 
     go (inr x) (inl above) = subst (λ (r : Recording). HeldLater (held_in old) (held_in r)) (sym (tried.behind above)) (held_same (held_in old))
     go (inr x) (inr y) = let failed = tried.here (omega (arith, x, y)) in held-back old new failed.tape failed.back failed.was failed.held failed.later
 
-recorders-closed : (parts after : Parts) → IsSound (session_of parts) → ClosesAll parts after → RecordersLater parts after
-recorders-closed parts after sound closes recorder old new was is =
-    let p = placed parts after sound closes.as_many closes.rings recorder new is in
+recorders-closed : (sounding : Score → Sound) (parts after : Parts) → IsSound (session_of sounding parts) → ClosesAll parts after → RecordersLater parts after
+recorders-closed sounding parts after sound closes recorder old new was is =
+    let p = placed sounding parts after sound closes.as_many closes.rings recorder new is in
     held-closed parts.gear.script.header.ring p.ring p.ring_after old new (closes.each recorder p.ring old p.ring_after new p.ring_there was p.ring_after_there is)
 
-recorders-tried : (parts after : Parts) → IsSound (session_of parts) → CloseFails parts after → RecordersLater parts after
-recorders-tried parts after sound fails recorder old new was is =
-    let p = placed parts after sound fails.as_many fails.rings recorder new is in
+recorders-tried : (sounding : Score → Sound) (parts after : Parts) → IsSound (session_of sounding parts) → CloseFails parts after → RecordersLater parts after
+recorders-tried sounding parts after sound fails recorder old new was is =
+    let p = placed sounding parts after sound fails.as_many fails.rings recorder new is in
     held-tried parts.gear.script.header.ring fails.place recorder p.ring p.ring_after old new (fails.each recorder p.ring old p.ring_after new p.ring_there was p.ring_after_there is)
 
 playback-left : (parts after : Parts) → after.gear.playback ≡ parts.gear.playback → after.playback ≡ parts.playback → HeldLater (held_or parts.playback parts.gear.playback) (held_or after.playback after.gear.playback)
@@ -228,44 +230,44 @@ playback-back parts after tape back attached gear kept later =
     subst (λ (t : Option Tape). HeldLater (held_or parts.playback t) (held_or after.playback after.gear.playback)) (sym attached)
     (subst (λ (h : Option Stored). HeldLater (Some (stored_of tape)) h) (sym (ap₂ held_or kept gear)) later)
 
-pub stores-closed : (parts after : Parts) (tape : Tape) (back : Stored) → IsSound (session_of parts) → ClosesAll parts after → parts.gear.playback ≡ Some tape → after.gear.playback ≡ None → after.playback ≡ Some back → IsLater (stored_of tape) back
+pub stores-closed : (sounding : Score → Sound) (parts after : Parts) (tape : Tape) (back : Stored) → IsSound (session_of sounding parts) → ClosesAll parts after → parts.gear.playback ≡ Some tape → after.gear.playback ≡ None → after.playback ≡ Some back → IsLater (stored_of tape) back
     → AreLater (stores_in parts) (stores_in after)
-stores-closed parts after tape back sound closes attached gear kept later =
-    parts-later parts after (playback-back parts after tape back attached gear kept later) closes.as_many (recorders-closed parts after sound closes)
+stores-closed sounding parts after tape back sound closes attached gear kept later =
+    parts-later parts after (playback-back parts after tape back attached gear kept later) closes.as_many (recorders-closed sounding parts after sound closes)
 
-pub rose-playback : (parts after : Parts) (tape : Tape) (back : Stored) → IsSound (session_of parts) → ClosesAll parts after → parts.gear.playback ≡ Some tape → after.gear.playback ≡ None → after.playback ≡ Some back → IsLater (stored_of tape) back
+pub rose-playback : (sounding : Score → Sound) (parts after : Parts) (tape : Tape) (back : Stored) → IsSound (session_of sounding parts) → ClosesAll parts after → parts.gear.playback ≡ Some tape → after.gear.playback ≡ None → after.playback ≡ Some back → IsLater (stored_of tape) back
     → Rose tape.faults back.faults → OneRose (stores_in parts) (stores_in after)
-rose-playback parts after tape back sound closes attached gear kept later rose =
-    playback-rose parts after (stored_of tape) back (playback-back parts after tape back attached gear kept later) (recorders-closed parts after sound closes)
+rose-playback sounding parts after tape back sound closes attached gear kept later rose =
+    playback-rose parts after (stored_of tape) back (playback-back parts after tape back attached gear kept later) (recorders-closed sounding parts after sound closes)
     (ap (held_or parts.playback) attached) (ap₂ held_or kept gear) rose
 
-pub stores-tried : (parts after : Parts) → IsSound (session_of parts) → CloseFails parts after → after.gear.playback ≡ parts.gear.playback → after.playback ≡ parts.playback → AreLater (stores_in parts) (stores_in after)
-stores-tried parts after sound fails gear kept = parts-later parts after (playback-left parts after gear kept) fails.as_many (recorders-tried parts after sound fails)
+pub stores-tried : (sounding : Score → Sound) (parts after : Parts) → IsSound (session_of sounding parts) → CloseFails parts after → after.gear.playback ≡ parts.gear.playback → after.playback ≡ parts.playback → AreLater (stores_in parts) (stores_in after)
+stores-tried sounding parts after sound fails gear kept = parts-later parts after (playback-left parts after gear kept) fails.as_many (recorders-tried sounding parts after sound fails)
 
-pub rose-tried : (parts after : Parts) → IsSound (session_of parts) → CloseFails parts after → after.gear.playback ≡ parts.gear.playback → after.playback ≡ parts.playback → OneRose (stores_in parts) (stores_in after)
-rose-tried parts after sound fails gear kept =
+pub rose-tried : (sounding : Score → Sound) (parts after : Parts) → IsSound (session_of sounding parts) → CloseFails parts after → after.gear.playback ≡ parts.gear.playback → after.playback ≡ parts.playback → OneRose (stores_in parts) (stores_in after)
+rose-tried sounding parts after sound fails gear kept =
     let new = some_at after.recorders fails.place (subst (λ n. fails.place < n) (sym fails.as_many) fails.there) in
-    go new.0 new.1 (placed parts after sound fails.as_many fails.rings fails.place new.0 new.1)
+    go new.0 new.1 (placed sounding parts after sound fails.as_many fails.rings fails.place new.0 new.1)
   where
     go : (new : Recording) → slice_get after.recorders fails.place ≡ Some new → Placed parts after fails.place new → OneRose (stores_in parts) (stores_in after)
     go new is p = rose ((fails.each fails.place p.ring p.old p.ring_after new p.ring_there p.was p.ring_after_there is).here refl)
       where
         rose : Failed parts.gear.script.header.ring p.ring p.old new → OneRose (stores_in parts) (stores_in after)
         rose failed =
-            parts-rose parts after fails.place p.old new (stored_of failed.tape) failed.back (playback-left parts after gear kept) (recorders-tried parts after sound fails) p.was is
+            parts-rose parts after fails.place p.old new (stored_of failed.tape) failed.back (playback-left parts after gear kept) (recorders-tried sounding parts after sound fails) p.was is
             (ap (held_or p.old.store) failed.was) failed.held failed.rose
 
 -- ---- in order
 
-pub stops-recorder : (parts after : Parts) → IsSound (session_of parts) → CloseFails parts after → after.gear.playback ≡ parts.gear.playback → after.playback ≡ parts.playback → StopsInOrder parts after
-stops-recorder parts after sound fails gear kept = record {
+pub stops-recorder : (sounding : Score → Sound) (parts after : Parts) → IsSound (session_of sounding parts) → CloseFails parts after → after.gear.playback ≡ parts.gear.playback → after.playback ≡ parts.playback → StopsInOrder parts after
+stops-recorder sounding parts after sound fails gear kept = record {
   place = fails.place;
   within = omega (arith, fails.there);
   as_many = fails.as_many;
   rings = fails.rings;
   finished = λ i ring recording ring_after recording_after low a b c d. ((fails.each i ring recording ring_after recording_after a b c d).before low).finishes;
   left = λ i recording recording_after high was is.
-      let p = placed parts after sound fails.as_many fails.rings i recording_after is in
+      let p = placed sounding parts after sound fails.as_many fails.rings i recording_after is in
       (fails.each i p.ring recording p.ring_after recording_after p.ring_there was p.ring_after_there is).behind high;
   making = λ low. gear;
   playback = λ low. kept;
@@ -325,10 +327,10 @@ pub record PlaybackEnded {T E : Type 0} (finished : Result T E) (parts after : P
   pub kept : after.playback ≡ Some back
   pub ends : PlaybackCloses finished tape back
 
-pub playback-ended : {T E : Type 0} (finished : Result T E) (parts inside closed : Parts) (driver : Gear) (playback : Option Stored) (attached : ℕ) → HasRun parts → inside.gear ≡ parts.gear → inside.recorders ≡ parts.recorders → inside.desk ≡ parts.desk → ClosesAll inside closed
+pub playback-ended : (sounding : Score → Sound) {T E : Type 0} (finished : Result T E) (parts inside closed : Parts) (driver : Gear) (playback : Option Stored) (attached : ℕ) → HasRun sounding parts → inside.gear ≡ parts.gear → inside.recorders ≡ parts.recorders → inside.desk ≡ parts.desk → ClosesAll inside closed
     → closed.gear ≡ record inside.gear { rings = record inside.gear.rings { rings = closed.gear.rings.rings } } → closed.desk ≡ inside.desk → driver ≡ record closed.gear { playback = None }
     → ((tape : Tape) → closed.gear.playback ≡ Some tape → (back : Stored) × (playback ≡ Some back) × PlaybackCloses finished tape back) → PlaybackEnded finished parts (record closed { gear = driver; playback = playback; attached = attached })
-playback-ended finished parts inside closed driver playback attached run gear recorders desk closes was closed_desk is back = record {
+playback-ended sounding finished parts inside closed driver playback attached run gear recorders desk closes was closed_desk is back = record {
   tape = run.sound.files.playback.tape;
   back = kept.0;
   closes = record {

@@ -1,5 +1,5 @@
 -- A session before its first phase.
---     IsOpened script scores desk gear made      its parts are new
+--     IsOpened sounding script scores desk gear made      its parts are new
 --     IsAttaching-opened, no-stores      it is attaching, and has no store yet
 --     passed-on      what holds of an error that is passed on
 --     none-is      whether there are no threads
@@ -8,9 +8,10 @@ use Rattle.std.specs.Prelude.{IfErr, IsErrAnd, is_none, is_some, not, slice_inde
 use Rattle.std.proofs.lemmas.List.{length-map}
 use Rattle.std.proofs.lemmas.List.Elements.{All-from_get_or, All-head, All-tail}
 use Rattle.std.proofs.lemmas.Option.{get_or_from_slice_get, slice_get-get_or, slice_get_within}
-use Rattle.jack_types.specs.declared.kinds.Score.{Score}
+use Rattle.session_model.specs.Kinds.{Sound}
 use Rattle.session_model.specs.Samples.{below}
 use Rattle.session_model.specs.Scripts.{Script}
+use Rattle.client_kinds.specs.Scores.{Score}
 use Rattle.graph_word.specs.declared.view.TakenRow.{TakenRow}
 use Rattle.graph_word.specs.Publications.{IsOpening as IsPublication, Publishing, Reading}
 use Rattle.record_ring.specs.Rings.{Getting, IsOpening, IsPair, Sending}
@@ -38,12 +39,12 @@ none-is None false is = absurd (true≢false (sym is))
 none-is (Some x) true is = absurd (true≢false is)
 none-is (Some x) false is = refl
 
-pub record IsOpened (script : Script) (scores : List Score) (desk : Desk) (gear : Gear) (made : List Recording) : Type 0 where
+pub record IsOpened (sounding : Score → Sound) (script : Script) (scores : List Sound) (desk : Desk) (gear : Gear) (made : List Recording) : Type 0 where
   pub served : IsServed script
   pub desk_is : IsNewDesk script desk.publishing desk
   pub desk_kept : IsDesk desk
   pub opening : IsPublication (base_of script) desk.publishing gear.reading
-  pub new : IsNewDriver script scores (driver_of gear)
+  pub new : IsNewDriver script scores (driver_of sounding gear)
   pub period : ℕ
   pub losses : ℕ
   pub rings : AreNew script.header.recorders script.header.ring period losses gear.rings
@@ -75,7 +76,7 @@ none-held (r ∷ made) all =
     let none : held_in r ≡ None = ap (λ (tape : Option Tape). held_or r.store tape) first.0 ∙ first.1 in
     ap (λ (held : Option Stored). filter_map (λ (held : Option Stored). held) (held ∷ map held_in made)) none ∙ none-held made (All-tail IsBare r made all)
 
-module _ (scores : List Score) (desk : Desk) (gear : Gear) (made : List Recording) (out : List (Option Getting)) (is : IsOpened gear.script scores desk gear made) where
+module _ (sounding : Score → Sound) (scores : List Sound) (desk : Desk) (gear : Gear) (made : List Recording) (out : List (Option Getting)) (is : IsOpened sounding gear.script scores desk gear made) where
   -- behind the recorders' making their ends are out
   abbrev parts : Parts
   parts = record { desk = desk; gear = record gear { rings = record gear.rings { out = out } }; recorders = made; playback = None; attached = 0 }
@@ -85,11 +86,11 @@ module _ (scores : List Score) (desk : Desk) (gear : Gear) (made : List Recordin
 
   -- the driver without its file
   abbrev bare_driver : Driver
-  bare_driver = record (driver_of gear) { playback = None }
+  bare_driver = record (driver_of sounding gear) { playback = None }
 
   own_ring : (i : ℕ) (ring : Sending) → slice_get gear.rings.rings i ≡ Some ring → IsOwnRing bare_driver i ring
   own_ring i ring here =
-      let own : IsOwnRing (driver_of gear) i ring = is.new.own_rings i ring here in
+      let own : IsOwnRing (driver_of sounding gear) i ring = is.new.own_rings i ring here in
       record { samples = own.samples; most = own.most; items = own.items }
 
   own_rows : HasOwnRows bare_driver
@@ -107,6 +108,7 @@ module _ (scores : List Score) (desk : Desk) (gear : Gear) (made : List Recordin
     disks = is.new.as_many_disks;
     puts = zeros (λ (ring : Sending). length ring.put) gear.rings.rings gear.script.header.recorders is.new.as_many (λ i d h. ap length (is.new.rings i d h).put) ∙ sym is.new.sent;
     gets = refl;
+    own_disks = is.new.own_disks;
     own = own_ring;
   }
 
@@ -142,7 +144,7 @@ module _ (scores : List Score) (desk : Desk) (gear : Gear) (made : List Recordin
       let opened = opened-at (slice_index_or gear.rings.out i None) (IsOpening gear.script.header.ring (is.period * slice_index gear.rings.channels i) 500000000 (ring_at gear.rings i)) (is.rings.opened.each i (omega (arith, h, long))) in
       ap (λ (s : Sending). s.least) opened.2.sending_is
 
-  one : IsOne (bare (session_of parts))
+  one : IsOne (bare (session_of sounding parts))
   one = record {
     lawful = is.served.lawful;
     desk_script = ap (λ (d : Desk). d.script) is.desk_is;
@@ -161,7 +163,7 @@ module _ (scores : List Score) (desk : Desk) (gear : Gear) (made : List Recordin
     disk_pairs = λ i ring got here there. absurd cc;
   }
 
-  pub IsAttaching-opened : IsAttaching parts
+  pub IsAttaching-opened : IsAttaching sounding parts
   IsAttaching-opened = record {
     served = is.served;
     new = record {
@@ -184,6 +186,7 @@ module _ (scores : List Score) (desk : Desk) (gear : Gear) (made : List Recordin
         sent = is.new.sent;
         as_many_disks = is.new.as_many_disks;
         disks = is.new.disks;
+        own_disks = is.new.own_disks;
         played = is.new.played;
         playback = refl;
         set = is.new.set;
@@ -192,7 +195,7 @@ module _ (scores : List Score) (desk : Desk) (gear : Gear) (made : List Recordin
         memories = is.new.memories;
       };
       no_gets = all-ends (λ (got : Getting). got.got ≡ []) (λ capacity samples most ring got opening. ap (λ (g : Getting). g.got) opening.getting_is);
-      no_puts = λ i d h. absurd (none_below h);
+      new_players = λ i player here. absurd cc;
       counts = zeros (λ (r : Recording). r.blocks) made gear.script.header.recorders as-many (λ i d h. (is.bare_made i d h).2);
       no_tapes = refl;
     };

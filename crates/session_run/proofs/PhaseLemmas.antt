@@ -1,7 +1,7 @@
 -- A phase of a session's run in serial mode.
 --     sound_set, at_set, kept_set      what holds of a session whatever period is set
 --     stays-set      setting the period leaves the works
---     InPhase works segment done t      in a phase, before one of its cycles or behind the last, with its period set
+--     InPhase sounding works segment done t      in a phase, before one of its cycles or behind the last, with its period set
 --     phase-begins, phase-keeps      the front of the phase, and what is kept there
 --     next-in      the next cycle
 --     turned-on, turned-keeps      a cycle of the phase
@@ -10,7 +10,9 @@
 use Rattle.std.proofs.Common.{◌≡◌, ℕ, suc, ◌+◌, ◌<◌, ◌≤◌, length, slice_get, Bool, Option, Some, None, sym, ◌∙◌, ap, subst, arith}
 use Rattle.session_model.specs.Courses.{Course}
 use Rattle.session_model.specs.Explanations.{Given}
+use Rattle.session_model.specs.Kinds.{Sound}
 use Rattle.session_model.specs.Scripts.{Phase, Script, ScriptCycle, phases, turns}
+use Rattle.client_kinds.specs.Scores.{Score}
 use Rattle.control_desk.specs.Desks.{IsDone, cycles_before}
 use Rattle.record_ring.specs.Rings.{Getting, Sending}
 use Rattle.wave_pcm.specs.Readings.{Reading, SameReading}
@@ -57,6 +59,7 @@ module _ (session : Session) (period : ℕ) where
         disks = sound.one.rings.disks;
         puts = sound.one.rings.puts;
         gets = sound.one.rings.gets;
+        own_disks = sound.one.rings.own_disks;
         own = λ recorder ring there. let own = sound.one.rings.own recorder ring there in record { samples = own.samples; most = own.most; items = own.items };
       };
       own_recorders = sound.one.own_recorders;
@@ -96,7 +99,7 @@ module _ (session : Session) (period : ℕ) where
     keeps = λ course over fits. let keeps = kept.keeps course over (before course fits) in
         record { moments = keeps.moments; transport = keeps.transport; rings = keeps.rings; disks = keeps.disks; left = keeps.left; playback = keeps.playback; driven = keeps.driven };
     rings = λ recorder ring got there here. let serial = kept.rings recorder ring got there here in record { counted = serial.counted; losses = serial.losses };
-    disks = kept.disks;
+    plays = kept.plays;
     turned = λ course over fits disk ring there. let turned = kept.turned course over (before course fits) disk ring there in record { put = turned.put; missed = turned.missed };
   }
     where
@@ -163,48 +166,48 @@ BehindLastCycle = (session : Session) (done : ℕ) (phase : Phase) → slice_get
 
 -- ---- the steps of a phase
 
-module _ {S W G : Type 0} where
+module _ (sounding : Score → Sound) {S W G : Type 0} where
   pub record InPhase (works : Works S W G) (segment : Segment) (done t : ℕ) : Type 0 where
-    pub at : SerialAt (seen works) done t (suc t)
-    pub sound : IsSound (seen works)
+    pub at : SerialAt (seen sounding works) done t (suc t)
+    pub sound : IsSound (seen sounding works)
     pub group : IsDone works.desk 0
     pub period : works.driver.set ≡ segment.period
 
   -- the works behind setting the period
-  seen-set : (works : Works S W G) (driver : Gear) (period : ℕ) → driver ≡ record works.driver { set = period } → seen (with_driver works driver) ≡ with_set (seen works) period
-  seen-set works driver period = ap (λ (g : Gear). session_of (record { desk = works.desk; gear = g; recorders = works.recorders.items; playback = None; attached = 0 }))
+  seen-set : (works : Works S W G) (driver : Gear) (period : ℕ) → driver ≡ record works.driver { set = period } → seen sounding (with_driver works driver) ≡ with_set (seen sounding works) period
+  seen-set works driver period = ap (λ (g : Gear). session_of sounding (record { desk = works.desk; gear = g; recorders = works.recorders.items; playback = None; attached = 0 }))
 
-  pub stays-set : (works : Works S W G) (driver : Gear) (period : ℕ) → HasOpenFiles (parts_of works) → driver ≡ record works.driver { set = period } → Stays (parts_of works) (parts_of (with_driver works driver))
+  pub stays-set : (works : Works S W G) (driver : Gear) (period : ℕ) → HasOpenFiles (parts_of works) → driver ≡ record works.driver { set = period } → Stays sounding (parts_of works) (parts_of (with_driver works driver))
   stays-set works driver period files same =
-      stays-cycled works driver files (ap (λ (g : Gear). g.script) same) (ap (λ (g : Gear). g.stage.staged.owned.scores) same)
+      stays-cycled sounding works driver files (ap (λ (g : Gear). g.script) same) (ap (λ (g : Gear). (driver_of sounding g).scores) same)
       (subst (λ (file : Option Tape). HeldLater (held_or None works.driver.playback) (held_or None file)) (sym (ap (λ (g : Gear). g.playback) same)) (held_same (held_or None works.driver.playback)))
       (subst (λ (r : Reading). SameReading works.driver.capture.reading r) (sym (ap (λ (g : Gear). g.capture.reading) same)) (reading_same works.driver.capture.reading))
 
   pub stays-begun : (before begun : Works S W G) (driver : Gear) (period : ℕ) → HasOpenFiles (parts_of before) → begun.driver ≡ record before.driver { reading = begun.driver.reading } → begun.recorders ≡ before.recorders
-      → driver ≡ record begun.driver { set = period } → Stays (parts_of before) (parts_of (with_driver begun driver))
+      → driver ≡ record begun.driver { set = period } → Stays sounding (parts_of before) (parts_of (with_driver begun driver))
   stays-begun before begun driver period files same recorders set =
-      let stays = stays-met before begun same recorders files in
-      stays-trans before begun (with_driver begun driver) stays (stays-set begun driver period stays.files set)
+      let stays = stays-met sounding before begun same recorders files in
+      stays-trans sounding before begun (with_driver begun driver) stays (stays-set begun driver period stays.files set)
 
-  pub phase-begins : AtFront → SoundBegun → (before begun : Works S W G) (driver : Gear) (done : ℕ) (segment : Segment) → IsOfPhase before.driver.script done segment → IsSound (seen before) → SerialBehind (seen before) done
-      → Begun done (seen before) (seen begun) → IsDone begun.desk 0 → driver ≡ record begun.driver { set = segment.period } → InPhase (with_driver begun driver) segment done 0
+  pub phase-begins : AtFront → SoundBegun → (before begun : Works S W G) (driver : Gear) (done : ℕ) (segment : Segment) → IsOfPhase before.driver.script done segment → IsSound (seen sounding before) → SerialBehind (seen sounding before) done
+      → Begun done (seen sounding before) (seen sounding begun) → IsDone begun.desk 0 → driver ≡ record begun.driver { set = segment.period } → InPhase (with_driver begun driver) segment done 0
   phase-begins front begins before begun driver done segment of sound behind is group same =
-      let now = begins done (seen before) (seen begun) sound is in
+      let now = begins done (seen sounding before) (seen sounding begun) sound is in
       record {
         at = subst (λ (s : Session). SerialAt s done 0 1) (sym (seen-set begun driver segment.period same))
-            (at_set (seen begun) segment.period done 0 1 now (front (seen before) (seen begun) done of.phase of.there sound behind is));
-        sound = subst (λ (s : Session). IsSound s) (sym (seen-set begun driver segment.period same)) (sound_set (seen begun) segment.period now);
+            (at_set (seen sounding begun) segment.period done 0 1 now (front (seen sounding before) (seen sounding begun) done of.phase of.there sound behind is));
+        sound = subst (λ (s : Session). IsSound s) (sym (seen-set begun driver segment.period same)) (sound_set (seen sounding begun) segment.period now);
         group = group;
         period = ap (λ (g : Gear). g.set) same;
       }
 
-  pub phase-keeps : KeptAtFront → (before begun : Works S W G) (driver : Gear) (done : ℕ) (segment : Segment) → IsOfPhase before.driver.script done segment → IsSound (seen before) → SerialBehind (seen before) done
-      → Begun done (seen before) (seen begun) → driver ≡ record begun.driver { set = segment.period } → (given : Given) → SerialKept given (seen before) → SerialKept given (seen (with_driver begun driver))
+  pub phase-keeps : KeptAtFront → (before begun : Works S W G) (driver : Gear) (done : ℕ) (segment : Segment) → IsOfPhase before.driver.script done segment → IsSound (seen sounding before) → SerialBehind (seen sounding before) done
+      → Begun done (seen sounding before) (seen sounding begun) → driver ≡ record begun.driver { set = segment.period } → (given : Given) → SerialKept given (seen sounding before) → SerialKept given (seen sounding (with_driver begun driver))
   phase-keeps front before begun driver done segment of sound behind is same given kept =
       subst (λ (s : Session). SerialKept given s) (sym (seen-set begun driver segment.period same))
-      (kept_set (seen begun) segment.period given (front given (seen before) (seen begun) done of.phase of.there sound behind is kept))
+      (kept_set (seen sounding begun) segment.period given (front given (seen sounding before) (seen sounding begun) done of.phase of.there sound behind is kept))
 
-  pub next-in : CycleThere → CycleIs → (works : Works S W G) (segment : Segment) (done t : ℕ) → InPhase works segment done t → IsOfPhase works.driver.script done segment → t < segment.cycles → IsNext works.driver segment.is_freewheel
+  pub next-in : CycleThere → CycleIs → (works : Works S W G) (segment : Segment) (done t : ℕ) → InPhase works segment done t → IsOfPhase works.driver.script done segment → t < segment.cycles → IsNext sounding works.driver segment.is_freewheel
   next-in there is works segment done t inside of low = record {
     left = subst (λ n. n < length (turns works.driver.script)) (sym inside.at.cycles_are) (there works.driver.script done t of.phase of.there within);
     kind = ap (λ (turn : ScriptCycle). turn.is_freewheel) turn ∙ sym (ap (λ (s : Segment). s.is_freewheel) of.is);
@@ -214,39 +217,39 @@ module _ {S W G : Type 0} where
       within : t < of.phase.cycles
       within = low-in works.driver.script done t segment of low
 
-      turn : turn_of works.driver.script (run (driver_of works.driver) + 1) ≡ record { period = of.phase.period; is_freewheel = of.phase.is_freewheel; phase = done }
+      turn : turn_of works.driver.script (run (driver_of sounding works.driver) + 1) ≡ record { period = of.phase.period; is_freewheel = of.phase.is_freewheel; phase = done }
       turn = ap (λ n. turn_of works.driver.script (n + 1)) inside.at.cycles_are ∙ is works.driver.script done t of.phase of.there within
 
   pub turned-on : CycleThere → CycleIs → AtNext → SoundTurned → (works after : Works S W G) (segment : Segment) (done t : ℕ) → InPhase works segment done t → IsOfPhase works.driver.script done segment → t < segment.cycles
-      → Turned segment.is_freewheel (seen works) (seen after) → IsDone after.desk 0 → after.driver.set ≡ works.driver.set → InPhase after segment done (t + 1)
+      → Turned segment.is_freewheel (seen sounding works) (seen sounding after) → IsDone after.desk 0 → after.driver.set ≡ works.driver.set → InPhase after segment done (t + 1)
   turned-on there is at sound works after segment done t inside of low turned group set =
       let next = next-in there is works segment done t inside of low in
       let more : suc t ≡ t + 1 = omega arith in
       record {
-        at = subst (λ n. SerialAt (seen after) done n (suc n)) more
-            (at (seen works) (seen after) done t of.phase of.there (low-in works.driver.script done t segment of low) inside.sound inside.at (turned-in works.driver.script done segment of (seen works) (seen after) turned));
-        sound = sound segment.is_freewheel (seen works) (seen after) inside.sound next.left next.kind turned;
+        at = subst (λ n. SerialAt (seen sounding after) done n (suc n)) more
+            (at (seen sounding works) (seen sounding after) done t of.phase of.there (low-in works.driver.script done t segment of low) inside.sound inside.at (turned-in works.driver.script done segment of (seen sounding works) (seen sounding after) turned));
+        sound = sound segment.is_freewheel (seen sounding works) (seen sounding after) inside.sound next.left next.kind turned;
         group = group;
         period = set ∙ inside.period;
       }
 
   pub turned-keeps : KeptNext → (works after : Works S W G) (segment : Segment) (done t : ℕ) → InPhase works segment done t → IsOfPhase works.driver.script done segment → t < segment.cycles
-      → Turned segment.is_freewheel (seen works) (seen after) → (given : Given) → SerialKept given (seen works) → SerialKept given (seen after)
+      → Turned segment.is_freewheel (seen sounding works) (seen sounding after) → (given : Given) → SerialKept given (seen sounding works) → SerialKept given (seen sounding after)
   turned-keeps keeps works after segment done t inside of low turned given =
-      keeps given (seen works) (seen after) done t of.phase of.there (low-in works.driver.script done t segment of low) inside.sound inside.at (turned-in works.driver.script done segment of (seen works) (seen after) turned)
+      keeps given (seen sounding works) (seen sounding after) done t of.phase of.there (low-in works.driver.script done t segment of low) inside.sound inside.at (turned-in works.driver.script done segment of (seen sounding works) (seen sounding after) turned)
 
   pub phase-fails : FrontsWhereFailed → CycleThere → CycleIs → (works after : Works S W G) (segment : Segment) (done t : ℕ) → InPhase works segment done t → IsOfPhase works.driver.script done segment → t < segment.cycles
-      → TurnFails segment.is_freewheel (seen works) (seen after) → HasOpenFiles (parts_of after) → (given : Given) → SerialKept given (seen works) → StandsInSerial given (told_of (parts_of after))
+      → TurnFails segment.is_freewheel (seen sounding works) (seen sounding after) → HasOpenFiles (parts_of after) → (given : Given) → SerialKept given (seen sounding works) → StandsInSerial given (told_of sounding (parts_of after))
   phase-fails fronts there is works after segment done t inside of low fails files given kept =
       let next = next-in there is works segment done t inside of low in
-      subst (λ (s : Session). StandsInSerial given s) (told-agrees (parts_of after) files)
-      (fronts given segment.is_freewheel (seen works) (seen after) done t of.phase of.there (low-in works.driver.script done t segment of low) inside.at.cycles_are inside.sound inside.at.desk
+      subst (λ (s : Session). StandsInSerial given s) (told-agrees sounding (parts_of after) files)
+      (fronts given segment.is_freewheel (seen sounding works) (seen sounding after) done t of.phase of.there (low-in works.driver.script done t segment of low) inside.at.cycles_are inside.sound inside.at.desk
       (record { numbers = inside.at.so_far.numbers; rows = inside.at.so_far.rows; met = inside.at.so_far.met }) (record { own = kept.own; keeps = kept.keeps }) next.kind kept.rings fails)
 
-  pub phase-ends : BehindLastCycle → (works : Works S W G) (segment : Segment) (done t : ℕ) → InPhase works segment done t → IsOfPhase works.driver.script done segment → t ≤ segment.cycles → segment.cycles ≤ t → SerialBehind (seen works) (suc done)
+  pub phase-ends : BehindLastCycle → (works : Works S W G) (segment : Segment) (done t : ℕ) → InPhase works segment done t → IsOfPhase works.driver.script done segment → t ≤ segment.cycles → segment.cycles ≤ t → SerialBehind (seen sounding works) (suc done)
   phase-ends ends works segment done t inside of low high =
       let cycles : segment.cycles ≡ of.phase.cycles = ap (λ (s : Segment). s.cycles) of.is in
       let last : t ≡ of.phase.cycles = omega (arith, cycles, low, high) in
       let next : suc of.phase.cycles ≡ of.phase.cycles + 1 = omega arith in
-      ends (seen works) done of.phase of.there
-      (subst (λ n. SerialAt (seen works) done of.phase.cycles n) next (subst (λ n. SerialAt (seen works) done n (suc n)) last inside.at))
+      ends (seen sounding works) done of.phase of.there
+      (subst (λ n. SerialAt (seen sounding works) done of.phase.cycles n) next (subst (λ n. SerialAt (seen sounding works) done n (suc n)) last inside.at))

@@ -15,9 +15,11 @@ use Rattle.jack_types.specs.declared.replies.Entry.{Entry}
 use Rattle.jack_types.specs.declared.replies.Overrun.{Overrun}
 use Rattle.session_model.specs.Grammar.{IsScript}
 use Rattle.session_model.specs.Histories.{accepted}
+use Rattle.session_model.specs.Kinds.{Sound}
 use Rattle.session_model.specs.Reports.{Report, PrintedCycle, PrintedDisk, PrintedEvent, call_line, cycle_line, disk_lines, event_line, line, meter_line, printed_call, recorder_lines, report_lines}
 use Rattle.session_model.specs.Samples.{below}
 use Rattle.session_model.specs.Scripts.{Script}
+use Rattle.client_kinds.specs.Scores.{Score}
 use Rattle.control_desk.specs.Laws.{AreOfCalls, OfCallsAccepted}
 use Rattle.session_threads.specs.Drivers.{IsServed, driver_of}
 use Rattle.run_laws.specs.Sessions.{IsOne, Session}
@@ -91,30 +93,30 @@ text-served session one served of_calls old =
     text-report (report_in session) (no-events session.script session.driver (accepted session.desk.history) calls old) (ap (λ (disks : List ℕ). map (disk_in session) (below (length disks))) none)
 
 -- the first line, and what is put behind it
-pub text-put : {S W G T E : Type 0} (works : Works S W G) (whole : Result T E) (a b c : Option (List ℕ)) → IsOne (seen works) → IsServed works.driver.script → OfCallsAccepted
-    → ((script : Script) → IsScript script → script.header.version < 3 → All IsOldKind (open_kinds script)) → Gains a b title → Puts b c whole (behind_title (report_in (seen works))) → Puts a c whole (text_in (seen works))
-text-put {T = T} {E = E} works whole a b c one served of_calls old first rest =
-    subst (λ (t : List ℕ). Puts {T = T} {E = E} a c whole t) (sym (text-served (seen works) one served of_calls (old works.driver.script served.lawful served.version)))
-    (first_last whole a b c title title (behind_title (report_in (seen works))) refl first rest)
+pub text-put : (sounding : Score → Sound) {S W G T E : Type 0} (works : Works S W G) (whole : Result T E) (a b c : Option (List ℕ)) → IsOne (seen sounding works) → IsServed works.driver.script → OfCallsAccepted
+    → ((script : Script) → IsScript script → script.header.version < 3 → All IsOldKind (open_kinds script)) → Gains a b title → Puts b c whole (behind_title (report_in (seen sounding works))) → Puts a c whole (text_in (seen sounding works))
+text-put sounding {T = T} {E = E} works whole a b c one served of_calls old first rest =
+    subst (λ (t : List ℕ). Puts {T = T} {E = E} a c whole t) (sym (text-served (seen sounding works) one served of_calls (old works.driver.script served.lawful served.version)))
+    (first_last whole a b c title title (behind_title (report_in (seen sounding works))) refl first rest)
 
-pub calls-put : {S W G : Type 0} (works : Works S W G) (history : List Entry) → history ≡ works.desk.history → text_of (map call_line (map printed_call history)) ≡ calls_text (report_in (seen works))
-calls-put works history own = ap (λ (h : List Entry). text_of (map call_line (map printed_call h))) own
+pub calls-put : (sounding : Score → Sound) {S W G : Type 0} (works : Works S W G) (history : List Entry) → history ≡ works.desk.history → text_of (map call_line (map printed_call history)) ≡ calls_text (report_in (seen sounding works))
+calls-put sounding works history own = ap (λ (h : List Entry). text_of (map call_line (map printed_call h))) own
 
-pub meters-put : {S W G : Type 0} (works : Works S W G) (history : List Entry) → history ≡ works.desk.history
-    → text_of (map meter_line (flat_map (λ (change : Change). meters_from (driver_of works.driver) change.number change.command) (accepted history))) ≡ meters_text (report_in (seen works))
-meters-put works history own = ap (λ (h : List Entry). text_of (map meter_line (flat_map (λ (change : Change). meters_from (driver_of works.driver) change.number change.command) (accepted h)))) own
+pub meters-put : (sounding : Score → Sound) {S W G : Type 0} (works : Works S W G) (history : List Entry) → history ≡ works.desk.history
+    → text_of (map meter_line (flat_map (λ (change : Change). meters_from (driver_of sounding works.driver) change.number change.command) (accepted history))) ≡ meters_text (report_in (seen sounding works))
+meters-put sounding works history own = ap (λ (h : List Entry). text_of (map meter_line (flat_map (λ (change : Change). meters_from (driver_of sounding works.driver) change.number change.command) (accepted h)))) own
 
-pub cycles-put : {S W G : Type 0} (works : Works S W G) (numbers : List ℕ) (moments : List Moment) → numbers ≡ works.driver.numbers → moments ≡ works.driver.moments → length works.driver.moments ≡ length works.driver.numbers
-    → text_of (map cycle_line (cycles_of numbers moments)) ≡ cycles_text (report_in (seen works))
-cycles-put works numbers moments own_numbers own_moments as_many =
-    ap₂ (λ (ns : List ℕ) (ms : List Moment). text_of (map cycle_line (cycles_of ns ms))) own_numbers own_moments ∙ ap (λ (cycles : List PrintedCycle). text_of (map cycle_line cycles)) (sym (cycles-below (driver_of works.driver) as_many))
+pub cycles-put : (sounding : Score → Sound) {S W G : Type 0} (works : Works S W G) (numbers : List ℕ) (moments : List Moment) → numbers ≡ works.driver.numbers → moments ≡ works.driver.moments → length works.driver.moments ≡ length works.driver.numbers
+    → text_of (map cycle_line (cycles_of numbers moments)) ≡ cycles_text (report_in (seen sounding works))
+cycles-put sounding works numbers moments own_numbers own_moments as_many =
+    ap₂ (λ (ns : List ℕ) (ms : List Moment). text_of (map cycle_line (cycles_of ns ms))) own_numbers own_moments ∙ ap (λ (cycles : List PrintedCycle). text_of (map cycle_line cycles)) (sym (cycles-below (driver_of sounding works.driver) as_many))
 
-pub recorders-put : {S W G : Type 0} (works : Works S W G) (recorders : List Recording) (overruns : List Overrun) → IsOne (seen works) → recorders ≡ works.recorders.items → overruns ≡ works.driver.rings.overruns
-    → text_of (flat_map recorder_lines (map (recorder_item recorders overruns) (below (length recorders)))) ≡ recorders_text (report_in (seen works))
-recorders-put works recorders overruns one own_recorders own_overruns =
+pub recorders-put : (sounding : Score → Sound) {S W G : Type 0} (works : Works S W G) (recorders : List Recording) (overruns : List Overrun) → IsOne (seen sounding works) → recorders ≡ works.recorders.items → overruns ≡ works.driver.rings.overruns
+    → text_of (flat_map recorder_lines (map (recorder_item recorders overruns) (below (length recorders)))) ≡ recorders_text (report_in (seen sounding works))
+recorders-put sounding works recorders overruns one own_recorders own_overruns =
     let as_many : length works.recorders.items ≡ length works.driver.script.header.recorders = sym (length-map works.recorders.items (λ (r : Recording). r.getting)) ∙ one.recorder_ends in
     ap₂ (λ (rs : List Recording) (os : List Overrun). text_of (flat_map recorder_lines (map (recorder_item rs os) (below (length rs))))) own_recorders own_overruns
-    ∙ ap (λ (n : ℕ). text_of (flat_map recorder_lines (map (recorder_in (seen works)) (below n)))) as_many
+    ∙ ap (λ (n : ℕ). text_of (flat_map recorder_lines (map (recorder_in (seen sounding works)) (below n)))) as_many
 
 -- a call behind others that left the count
 pub cause-later : {T E : Type 0} (r : Result T E) (a b c : ℕ) → b ≡ a → HasCause b c r → HasCause a c r

@@ -19,9 +19,11 @@ use Rattle.jack_types.specs.declared.commands.Command.{Command}
 use Rattle.jack_types.specs.declared.commands.Command.TheVariants.{Open}
 use Rattle.jack_types.specs.declared.kinds.Kind.TheVariants.{Meter, Midilog}
 use Rattle.session_model.specs.Histories.{accepted}
+use Rattle.session_model.specs.Kinds.{Sound}
 use Rattle.session_model.specs.Reports.{Report, report_lines}
 use Rattle.session_model.specs.Scripts.{phases}
 use Rattle.session_laws.proofs.ListLemmas.{flat_map-same}
+use Rattle.client_kinds.specs.Scores.{Score}
 use Rattle.record_ring.specs.Rings.{Getting}
 use Rattle.wave_write.specs.Tapes.{Tape}
 use Rattle.control_desk.specs.Desks.{Desk}
@@ -137,6 +139,7 @@ module _ (session : Session) (playback : Option Tape) (tapes : List Tape) (playb
       disks = one.rings.disks;
       puts = one.rings.puts;
       gets = one.rings.gets;
+      own_disks = one.rings.own_disks;
       own = λ recorder ring there. let own = one.rings.own recorder ring there in record { samples = own.samples; most = own.most; items = own.items };
     };
     own_recorders = one.own_recorders;
@@ -162,23 +165,23 @@ module _ (session : Session) (playback : Option Tape) (tapes : List Tape) (playb
 
 -- ---- of its parts the playback and the recorders' files and stores were taken
 
-module _ (parts after : Parts) (gear : after.gear ≡ record parts.gear { playback = None }) (desk : after.desk ≡ parts.desk)
+module _ (sounding : Score → Sound) (parts after : Parts) (gear : after.gear ≡ record parts.gear { playback = None }) (desk : after.desk ≡ parts.desk)
     (getting : map (λ (r : Recording). r.getting) after.recorders ≡ map (λ (r : Recording). r.getting) parts.recorders)
     (blocks : map (λ (r : Recording). r.blocks) after.recorders ≡ map (λ (r : Recording). r.blocks) parts.recorders) where
-  pub session-taken : session_of after ≡ taken (session_of parts) None (session_of after).tapes (session_of after).playback_file (session_of after).record_files
+  pub session-taken : session_of sounding after ≡ taken (session_of sounding parts) None (session_of sounding after).tapes (session_of sounding after).playback_file (session_of sounding after).record_files
   session-taken =
-      ap (λ (g : Gear). record (session_of after) { script = g.script; driver = driver_of g }) gear
-      ∙ ap (λ (d : Desk). record (session_of after) { script = parts.gear.script; driver = driver_of (record parts.gear { playback = None }); desk = d }) desk
-      ∙ ap₂ (λ (got : List Getting) (counts : List ℕ). record (session_of after) { script = parts.gear.script; driver = driver_of (record parts.gear { playback = None }); desk = parts.desk; getting = got; counts = counts }) getting blocks
+      ap (λ (g : Gear). record (session_of sounding after) { script = g.script; driver = driver_of sounding g }) gear
+      ∙ ap (λ (d : Desk). record (session_of sounding after) { script = parts.gear.script; driver = driver_of sounding (record parts.gear { playback = None }); desk = d }) desk
+      ∙ ap₂ (λ (got : List Getting) (counts : List ℕ). record (session_of sounding after) { script = parts.gear.script; driver = driver_of sounding (record parts.gear { playback = None }); desk = parts.desk; getting = got; counts = counts }) getting blocks
 
-  pub report-stays : text_in (session_of after) ≡ text_in (session_of parts)
-  report-stays = ap text_in session-taken ∙ text-taken (session_of parts) None (session_of after).tapes (session_of after).playback_file (session_of after).record_files
+  pub report-stays : text_in (session_of sounding after) ≡ text_in (session_of sounding parts)
+  report-stays = ap text_in session-taken ∙ text-taken (session_of sounding parts) None (session_of sounding after).tapes (session_of sounding after).playback_file (session_of sounding after).record_files
 
-  pub ended-stays : HasEnded parts → HasEnded after
+  pub ended-stays : HasEnded sounding parts → HasEnded sounding after
   ended-stays ended =
-      has-ended parts after ended.served ended.sound (ap (λ (g : Gear). g.script) gear) (ap (λ (g : Gear). g.failed) gear)
+      has-ended sounding parts after ended.served ended.sound (ap (λ (g : Gear). g.script) gear) (ap (λ (g : Gear). g.failed) gear)
       (subst (λ (s : Session). RanPhases s (length (phases parts.gear.script))) (sym session-taken)
-      (ran-taken (session_of parts) None (session_of after).tapes (session_of after).playback_file (session_of after).record_files (length (phases parts.gear.script)) ended.ran))
+      (ran-taken (session_of sounding parts) None (session_of sounding after).tapes (session_of sounding after).playback_file (session_of sounding after).record_files (length (phases parts.gear.script)) ended.ran))
 
 pub stores-rest : (parts : Parts) → parts.playback ≡ None → parts.gear.playback ≡ None → stores_in parts ≡ stores_of parts.recorders
 stores-rest parts kept gear = ap (λ (h : Option Stored). cons_option h (stores_of parts.recorders)) (ap₂ held_or kept gear)

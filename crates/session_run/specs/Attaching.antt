@@ -1,10 +1,12 @@
 -- How a store is attached. No public clause cites this module.
 --     Starts format given tape      a file was begun in the store that was given
 --     Refuses format given back      the store came back
---     StartsNext given before begun after      the file of the next place was begun, or its store came back
+--     StartsNext sounding given before begun after      the file of the next place was begun, or its store came back
 use Rattle.std.specs.Prelude.{◌≡◌, suc, ◌≤◌, Bool, true, false, [], ◌∷◌, ◌++◌, length, IfSome, is_some}
 use Rattle.jack_types.specs.declared.files.Format.{Format}
 use Rattle.jack_host.specs.Causes.{Rose}
+use Rattle.session_model.specs.Kinds.{Sound}
+use Rattle.client_kinds.specs.Scores.{Score}
 use Rattle.wave_write.specs.Tapes.{IsCut, Tape}
 use Rattle.recorder_files.specs.Recorders.{Stored}
 use Rattle.session_threads.specs.Parts.{Parts, stores_in}
@@ -25,8 +27,8 @@ pub record Refuses (format : Format) (given back : Stored) : Type 0 where
   pub cut : IfSome back.bytes (IsCut format)
 
 -- there is one store more, and nothing else changed
-pub record StartsNext (given : Stored) (before : Parts) (begun : Bool) (after : Parts) : Type 0 where
-  pub attaching : begun ≡ true → IsAttaching (record after { attached = suc before.attached })
+pub record StartsNext (sounding : Score → Sound) (given : Stored) (before : Parts) (begun : Bool) (after : Parts) : Type 0 where
+  pub attaching : begun ≡ true → IsAttaching sounding (record after { attached = suc before.attached })
   pub back : Stored
   pub stores : stores_in after ≡ stores_in before ++ back ∷ []
   pub name : back.name ≡ given.name

@@ -1,12 +1,14 @@
 -- Where a session stands between its calls.
---     IsAttaching parts      it is new but for its stores, of which so many are attached
---     IsReady parts      all are attached
---     HasRun parts      it was run, with Ok
---     HasEnded parts      it was ended, with Ok
+--     IsAttaching sounding parts      it is new but for its stores, of which so many are attached
+--     IsReady sounding parts      all are attached
+--     HasRun sounding parts      it was run, with Ok
+--     HasEnded sounding parts      it was ended, with Ok
 use Rattle.std.specs.Prelude.{◌≡◌, ℕ, suc, ◌<◌, ◌≤◌, false, List, [], length, map, slice_get, slice_index_or, zero, All, Option, None, Some, IsNone}
 use Rattle.jack_types.specs.Recorders.{no_format}
 use Rattle.jack_types.specs.declared.files.Format.{Format}
+use Rattle.session_model.specs.Kinds.{Sound}
 use Rattle.session_model.specs.Scripts.{phases}
+use Rattle.client_kinds.specs.Scores.{Score}
 use Rattle.wave_write.specs.Tapes.{HasSamples, Tape}
 use Rattle.session_threads.specs.Drivers.{playback_format}
 use Rattle.session_threads.specs.Drivers.{IsServed}
@@ -31,10 +33,10 @@ pub record HasFile (place attached : ℕ) (format : Format) (file : Option Tape)
   pub none : attached ≤ place → file ≡ None
 
 -- the playback is at place 0, and recorder i at place i + 1
-pub record IsAttaching (parts : Parts) : Type 0 where
+pub record IsAttaching (sounding : Score → Sound) (parts : Parts) : Type 0 where
   pub served : IsServed parts.gear.script
-  pub new : IsNew (bare (session_of parts))
-  pub fresh : AreFresh (session_of parts)
+  pub new : IsNew (bare (session_of sounding parts))
+  pub fresh : AreFresh (session_of sounding parts)
   pub formats : map (λ (r : Recording). r.format) parts.recorders ≡ parts.gear.script.header.recorders
   pub playback : HasFile 0 parts.attached (playback_format parts.gear.script) parts.gear.playback
   pub records : (i : ℕ) (r : Recording) → slice_get parts.recorders i ≡ Some r → HasFile (suc i) parts.attached r.format r.tape
@@ -50,17 +52,17 @@ abbrev pub format_next : Parts → Format
 format_next parts = format_at parts.attached parts
 
 -- the playback and each recorder have their stores
-abbrev pub IsReady : Parts → Type 0
-IsReady parts = IsAttaching parts × (parts.attached ≡ suc (length parts.recorders))
+abbrev pub IsReady : (sounding : Score → Sound) → Parts → Type 0
+IsReady sounding parts = IsAttaching sounding parts × (parts.attached ≡ suc (length parts.recorders))
 
-pub record HasRun (parts : Parts) : Type 0 where
+pub record HasRun (sounding : Score → Sound) (parts : Parts) : Type 0 where
   pub served : IsServed parts.gear.script
-  pub sound : IsSound (session_of parts)
-  pub ran : RanPhases (session_of parts) (length (phases parts.gear.script))
-  pub serial : IsNone parts.gear.script.header.threads → SerialBehind (session_of parts) (length (phases parts.gear.script))
+  pub sound : IsSound (session_of sounding parts)
+  pub ran : RanPhases (session_of sounding parts) (length (phases parts.gear.script))
+  pub serial : IsNone parts.gear.script.header.threads → SerialBehind (session_of sounding parts) (length (phases parts.gear.script))
   pub files : HasOpenFiles parts
 
-pub record HasEnded (parts : Parts) : Type 0 where
+pub record HasEnded (sounding : Score → Sound) (parts : Parts) : Type 0 where
   pub served : IsServed parts.gear.script
-  pub ran : RanPhases (session_of parts) (length (phases parts.gear.script))
+  pub ran : RanPhases (session_of sounding parts) (length (phases parts.gear.script))
   pub sound : parts.gear.failed ≡ false

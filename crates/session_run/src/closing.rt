@@ -37,7 +37,7 @@ pub(crate) fn close_recorders<S: Source, W: Store, G: Guest>(
     works: &mut Works<S, W, G>,
     ring: u32,
 ) -> Result<(), WriteFailed>
-    requires sound { IsSound (seen works.old) }
+    requires sound { IsSound (seen G.sound works.old) }
     requires files { HasOpenFiles (parts_of works.old) }
     requires ring { ring ≡ works.old.driver.script.header.ring }
     ensures closed { OnOk result (ClosesAll (parts_of works.old) (parts_of works.new)) }

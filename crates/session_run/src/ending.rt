@@ -28,12 +28,12 @@ impl<S: Source, W: Store, G: Guest> Session<S, W, G> {
     /// Empties the rings and finishes the files: the recorders' in order, and then the playback's. Behind a fault, which is
     /// always `Write`, each store has a front of its file, and only `take_store` and `into_capture` may be called.
     pub fn end(&mut self) -> Result<(), SessionFault>
-        requires { HasRun self.old }
-        ensures ends { OnOk result ((given : Given) → AtPhase (session_of self.old) given (length (phases self.old.gear.script)) → Ends given (session_of self.old) (session_of self.new)) }
-        ensures ended { OnOk result (HasEnded self.new) }
-        ensures told { OnOk result (told_of self.new ≡ session_of self.new) }
-        ensures fault { IsNone self.old.gear.script.header.threads → OnErr result ((given : Given) → SerialKept given (session_of self.old) → StandsInSerial given (told_of self.new)) }
-        ensures so_far { IsSome self.old.gear.script.header.threads → OnErr result ((given : Given) → AtPhase (session_of self.old) given (length (phases self.old.gear.script)) → StandsSoFar (run (driver_of self.old.gear)) (told_of self.new) given) }
+        requires { HasRun G.sound self.old }
+        ensures ends { OnOk result ((given : Given) → AtPhase (session_of G.sound self.old) given (length (phases self.old.gear.script)) → Ends given (session_of G.sound self.old) (session_of G.sound self.new)) }
+        ensures ended { OnOk result (HasEnded G.sound self.new) }
+        ensures told { OnOk result (told_of G.sound self.new ≡ session_of G.sound self.new) }
+        ensures fault { IsNone self.old.gear.script.header.threads → OnErr result ((given : Given) → SerialKept given (session_of G.sound self.old) → StandsInSerial given (told_of G.sound self.new)) }
+        ensures so_far { IsSome self.old.gear.script.header.threads → OnErr result ((given : Given) → AtPhase (session_of G.sound self.old) given (length (phases self.old.gear.script)) → StandsSoFar (run (driver_of G.sound self.old.gear)) (told_of G.sound self.new) given) }
         ensures stores { AreLater (stores_in self.old) (stores_in self.new) }
         ensures write { OnErr result (result ≡ Err Write) }
         ensures cause { OnErr result (OneRose (stores_in self.old) (stores_in self.new)) }
@@ -74,8 +74,8 @@ impl<S: Source, W: Store, G: Guest> Session<S, W, G> {
     pub fn take_store(&mut self) -> Option<W>
         ensures taken { IfSome result (λ w. stores_in self.old ≡ record { name = W.name w; bytes = W.content w; faults = W.faults w } ∷ stores_in self.new) }
         ensures none { IfNone result ((stores_in self.old ≡ []) × (stores_in self.new ≡ [])) }
-        ensures report { text_in (session_of self.new) ≡ text_in (session_of self.old) }
-        ensures ended { HasEnded self.old → HasEnded self.new }
+        ensures report { text_in (session_of G.sound self.new) ≡ text_in (session_of G.sound self.old) }
+        ensures ended { HasEnded G.sound self.old → HasEnded G.sound self.new }
         ensures capture { self.new.gear.capture ≡ self.old.gear.capture }
     {
         let file = self.rig.works.driver.close();

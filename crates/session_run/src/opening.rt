@@ -121,7 +121,7 @@ impl<S: Source, W: Store, G: Guest> Session<S, W, G> {
     ghost use Rattle.std.specs.Prelude.{◌≡◌, ◌≤◌, ◌++◌, ◌∷◌, [], Err, IfErr, IfOk, IfSome, IsFalse, IsTrue, None, OnErr, OnOk, Some, false, is_some, length, map, slice_get, slice_set, suc};
     ghost use Rattle.std.specs.Option.{ForSome};
     ghost use Rattle.jack_host.specs.Causes.{Rose};
-    ghost use Rattle.session_threads.specs.Drivers.{IsServed};
+    ghost use Rattle.session_threads.specs.Drivers.{IsServed, driver_of};
     ghost use Rattle.task_laws.specs.Calls.{guests_needed};
     ghost use Rattle.recorder_files.specs.Recorders.{Recording, Stored};
     ghost use Rattle.wave_write.specs.Tapes.{IsCut, Tape};
@@ -142,9 +142,9 @@ impl<S: Source, W: Store, G: Guest> Session<S, W, G> {
         requires served { IsServed script.now }
         requires capture { (capture.format.channels ≡ script.now.header.capture) × (capture.failed ≡ false) }
         requires guests { guests_needed script.now ≤ length guests.items }
-        ensures new { IfOk result (λ session. IsAttaching session × (session.attached ≡ 0) × (stores_in session ≡ [])) }
+        ensures new { IfOk result (λ session. IsAttaching G.sound session × (session.attached ≡ 0) × (stores_in session ≡ [])) }
         ensures script { IfOk result (λ session. session.gear.script ≡ script.now) }
-        ensures scores { IfOk result (λ session. session.gear.stage.staged.owned.scores ≡ map G.score guests.items) }
+        ensures scores { IfOk result (λ session. (driver_of G.sound session.gear).scores ≡ map G.sound (map G.score guests.items)) }
         ensures capture { IfOk result (λ session. session.gear.capture.reading ≡ capture) }
         ensures recorders { IfOk result (λ session. length session.recorders ≡ length script.now.header.recorders) }
         ensures back { IfErr result (λ refused. refused.0 ≡ capture) }
@@ -186,10 +186,10 @@ impl<S: Source, W: Store, G: Guest> Session<S, W, G> {
     /// Starts a file in an empty store: the playback's first, and then the recorders' in order. On a fault the store is kept
     /// for `take_store`, and only that and `into_capture` may be called.
     pub fn attach(&mut self, store: W) -> Result<(), SessionFault>
-        requires attaching { IsAttaching self.old }
+        requires attaching { IsAttaching G.sound self.old }
         requires fewer { self.old.attached ≤ length self.old.recorders }
         requires empty { ForSome (W.content store) (λ bytes. bytes ≡ []) }
-        ensures attached { OnOk result (IsAttaching self.new × (self.new.attached ≡ suc self.old.attached)) }
+        ensures attached { OnOk result (IsAttaching G.sound self.new × (self.new.attached ≡ suc self.old.attached)) }
         ensures store { (back : Stored) × (stores_in self.new ≡ stores_in self.old ++ back ∷ []) × (back.name ≡ W.name store) × (is_some back.bytes ≡ is_some (W.content store)) × (W.faults store ≤ back.faults)
             × OnErr result (Rose (W.faults store) back.faults × IfSome back.bytes (IsCut (format_next self.old))) }
         ensures write { OnErr result (result ≡ Err SessionFault.Write) }
@@ -204,10 +204,10 @@ impl<S: Source, W: Store, G: Guest> Session<S, W, G> {
 
     /// Starts the file of the next place. Where that fails, the store is kept.
     fn start_next(&mut self, store: W) -> bool
-        requires attaching { IsAttaching self.old }
+        requires attaching { IsAttaching G.sound self.old }
         requires fewer { self.old.attached ≤ length self.old.recorders }
         requires empty { ForSome (W.content store) (λ bytes. bytes ≡ []) }
-        ensures { StartsNext (record { name = W.name store; bytes = W.content store; faults = W.faults store }) self.old result self.new }
+        ensures { StartsNext G.sound (record { name = W.name store; bytes = W.content store; faults = W.faults store }) self.old result self.new }
     {
         if self.attached == 0 {
             return self.attach_playback(store);

@@ -35,16 +35,16 @@ pub(crate) fn run_phase<S: Source, W: Store, G: Guest + Send, T: Threads + Sync,
     limits: Limits,
 ) -> Result<(), SessionFault>
     requires there { slice_get (the_segments works.old.driver.script) phase ≡ Some segment }
-    requires sound { IsSound (seen works.old) }
-    requires behind { SerialBehind (seen works.old) phase }
+    requires sound { IsSound (seen G.sound works.old) }
+    requires behind { SerialBehind (seen G.sound works.old) phase }
     requires files { HasOpenFiles (parts_of works.old) }
     requires ring { limits.ring ≡ works.old.driver.script.header.ring }
     requires drain { limits.drain ≡ works.old.driver.script.header.drain }
-    ensures sound { OnOk result (IsSound (seen works.new)) }
-    ensures behind { OnOk result (SerialBehind (seen works.new) (suc phase)) }
-    ensures kept { OnOk result ((given : Given) → SerialKept given (seen works.old) → SerialKept given (seen works.new)) }
-    ensures fault { OnErr result ((given : Given) → SerialKept given (seen works.old) → StandsInSerial given (told_of (parts_of works.new))) }
-    ensures stays { Stays (parts_of works.old) (parts_of works.new) }
+    ensures sound { OnOk result (IsSound (seen G.sound works.new)) }
+    ensures behind { OnOk result (SerialBehind (seen G.sound works.new) (suc phase)) }
+    ensures kept { OnOk result ((given : Given) → SerialKept given (seen G.sound works.old) → SerialKept given (seen G.sound works.new)) }
+    ensures fault { OnErr result ((given : Given) → SerialKept given (seen G.sound works.old) → StandsInSerial given (told_of G.sound (parts_of works.new))) }
+    ensures stays { Stays G.sound (parts_of works.old) (parts_of works.new) }
     ensures read { IsErrOf result SessionFault.Read → Rose works.old.driver.capture.reading.faults works.new.driver.capture.reading.faults }
     ensures write { IsErrOf result SessionFault.Write → OneRose (held works.old) (held works.new) }
 {
@@ -73,16 +73,16 @@ fn run_phases<S: Source, W: Store, G: Guest + Send, T: Threads + Sync, K: Gate>(
     limits: Limits,
 ) -> Result<(), SessionFault>
     requires segments { segments.now ≡ the_segments works.old.driver.script }
-    requires sound { IsSound (seen works.old) }
-    requires behind { SerialBehind (seen works.old) 0 }
+    requires sound { IsSound (seen G.sound works.old) }
+    requires behind { SerialBehind (seen G.sound works.old) 0 }
     requires files { HasOpenFiles (parts_of works.old) }
     requires ring { limits.ring ≡ works.old.driver.script.header.ring }
     requires drain { limits.drain ≡ works.old.driver.script.header.drain }
-    ensures sound { OnOk result (IsSound (seen works.new)) }
-    ensures behind { OnOk result (SerialBehind (seen works.new) (length (the_phases works.new.driver.script))) }
-    ensures kept { OnOk result ((given : Given) → SerialKept given (seen works.old) → SerialKept given (seen works.new)) }
-    ensures fault { OnErr result ((given : Given) → SerialKept given (seen works.old) → StandsInSerial given (told_of (parts_of works.new))) }
-    ensures stays { Stays (parts_of works.old) (parts_of works.new) }
+    ensures sound { OnOk result (IsSound (seen G.sound works.new)) }
+    ensures behind { OnOk result (SerialBehind (seen G.sound works.new) (length (the_phases works.new.driver.script))) }
+    ensures kept { OnOk result ((given : Given) → SerialKept given (seen G.sound works.old) → SerialKept given (seen G.sound works.new)) }
+    ensures fault { OnErr result ((given : Given) → SerialKept given (seen G.sound works.old) → StandsInSerial given (told_of G.sound (parts_of works.new))) }
+    ensures stays { Stays G.sound (parts_of works.old) (parts_of works.new) }
     ensures read { IsErrOf result SessionFault.Read → Rose works.old.driver.capture.reading.faults works.new.driver.capture.reading.faults }
     ensures write { IsErrOf result SessionFault.Write → OneRose (held works.old) (held works.new) }
 {
@@ -103,16 +103,16 @@ pub(crate) fn run_serial<S: Source, W: Store, G: Guest + Send, T: Threads + Sync
     limits: Limits,
 ) -> (Rig<S, W, G>, Result<(), SessionFault>)
     requires segments { segments.now ≡ the_segments rig.works.driver.script }
-    requires sound { IsSound (seen rig.works) }
-    requires behind { SerialBehind (seen rig.works) 0 }
+    requires sound { IsSound (seen G.sound rig.works) }
+    requires behind { SerialBehind (seen G.sound rig.works) 0 }
     requires files { HasOpenFiles (parts_of rig.works) }
     requires ring { limits.ring ≡ rig.works.driver.script.header.ring }
     requires drain { limits.drain ≡ rig.works.driver.script.header.drain }
-    ensures sound { OnOk result.1 (IsSound (seen result.0.works)) }
-    ensures behind { OnOk result.1 (SerialBehind (seen result.0.works) (length (the_phases result.0.works.driver.script))) }
-    ensures kept { OnOk result.1 ((given : Given) → SerialKept given (seen rig.works) → SerialKept given (seen result.0.works)) }
-    ensures fault { OnErr result.1 ((given : Given) → SerialKept given (seen rig.works) → StandsInSerial given (told_of (parts_of result.0.works))) }
-    ensures stays { Stays (parts_of rig.works) (parts_of result.0.works) }
+    ensures sound { OnOk result.1 (IsSound (seen G.sound result.0.works)) }
+    ensures behind { OnOk result.1 (SerialBehind (seen G.sound result.0.works) (length (the_phases result.0.works.driver.script))) }
+    ensures kept { OnOk result.1 ((given : Given) → SerialKept given (seen G.sound rig.works) → SerialKept given (seen G.sound result.0.works)) }
+    ensures fault { OnErr result.1 ((given : Given) → SerialKept given (seen G.sound rig.works) → StandsInSerial given (told_of G.sound (parts_of result.0.works))) }
+    ensures stays { Stays G.sound (parts_of rig.works) (parts_of result.0.works) }
     ensures read { IsErrOf result.1 SessionFault.Read → Rose rig.works.driver.capture.reading.faults result.0.works.driver.capture.reading.faults }
     ensures write { IsErrOf result.1 SessionFault.Write → OneRose (held rig.works) (held result.0.works) }
 {

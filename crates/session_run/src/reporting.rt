@@ -30,7 +30,7 @@ fn put_meter_of<K: Sink, S: Source, W: Store, G: Guest>(
     entry: &Entry,
     driver: &Driver<S, W, G>,
 ) -> Result<(), Failed>
-    ensures puts { Puts (K.content out.old) (K.content out.new) result (text_of (map meter_line (flat_map (λ (change : ChangeValue). meters_from (driver_of driver.now) change.number change.command) (accepted (entry.now ∷ []))))) }
+    ensures puts { Puts (K.content out.old) (K.content out.new) result (text_of (map meter_line (flat_map (λ (change : ChangeValue). meters_from (driver_of G.sound driver.now) change.number change.command) (accepted (entry.now ∷ []))))) }
     ensures cause { HasCause (K.faults out.old) (K.faults out.new) result }
 {
     let Reply::Accepted(number) = entry.reply else {
@@ -51,7 +51,7 @@ fn put_meters<K: Sink, S: Source, W: Store, G: Guest>(
     history: &[Entry],
     driver: &Driver<S, W, G>,
 ) -> Result<(), Failed>
-    ensures puts { Puts (K.content out.old) (K.content out.new) result (text_of (map meter_line (flat_map (λ (change : ChangeValue). meters_from (driver_of driver.now) change.number change.command) (accepted history.now)))) }
+    ensures puts { Puts (K.content out.old) (K.content out.new) result (text_of (map meter_line (flat_map (λ (change : ChangeValue). meters_from (driver_of G.sound driver.now) change.number change.command) (accepted history.now)))) }
     ensures cause { HasCause (K.faults out.old) (K.faults out.new) result }
 {
     for entry in history {
@@ -82,9 +82,9 @@ fn put_report<K: Sink, S: Source, W: Store, G: Guest>(
     works: &Works<S, W, G>,
 ) -> Result<(), Failed>
     requires served { IsServed works.now.driver.script }
-    requires one { IsOne (seen works.now) }
+    requires one { IsOne (seen G.sound works.now) }
     requires sound { works.now.driver.failed ≡ false }
-    ensures puts { Puts (K.content out.old) (K.content out.new) result (text_in (seen works.now)) }
+    ensures puts { Puts (K.content out.old) (K.content out.new) result (text_in (seen G.sound works.now)) }
     ensures cause { HasCause (K.faults out.old) (K.faults out.new) result }
 {
     accepted_of_legal();
@@ -109,8 +109,8 @@ impl<S: Source, W: Store, G: Guest> Session<S, W, G> {
     /// Puts the report: the calls with their replies, the cycles with the number of changes that each used and the transport,
     /// the meters with their peaks, and the recorders with their overruns.
     pub fn report<K: Sink>(&self, out: &mut K) -> Result<(), WriteFailed>
-        requires { HasEnded self.now }
-        ensures puts { Puts (K.content out.old) (K.content out.new) result (text_in (session_of self.now)) }
+        requires { HasEnded G.sound self.now }
+        ensures puts { Puts (K.content out.old) (K.content out.new) result (text_in (session_of G.sound self.now)) }
         ensures cause { HasCause (K.faults out.old) (K.faults out.new) result }
     {
         match put_report(out, &self.rig.works) {

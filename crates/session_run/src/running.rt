@@ -36,12 +36,12 @@ impl<S: Source, W: Store + Send, G: Guest + Send> Session<S, W, G> {
         wait: &R,
         gate: &K,
     ) -> (Session<S, W, G>, Result<(), SessionFault>)
-        requires { IsReady self }
-        ensures runs { OnOk result.1 (Runs (session_of self) (session_of result.0)) }
-        ensures ran { OnOk result.1 (HasRun result.0) }
-        ensures kept { IsNone self.gear.script.header.threads → OnOk result.1 ((given : Given) → IsGiven (session_of self) given → SerialKept given (session_of result.0)) }
-        ensures fault { IsNone self.gear.script.header.threads → OnErr result.1 ((given : Given) → IsGiven (session_of self) given → StandsInSerial given (told_of result.0)) }
-        ensures so_far { IsSome self.gear.script.header.threads → OnErr result.1 ((kept : ℕ) × ((given : Given) → IsGiven (session_of self) given → StandsSoFar kept (told_of result.0) given)) }
+        requires { IsReady G.sound self }
+        ensures runs { OnOk result.1 (Runs (session_of G.sound self) (session_of G.sound result.0)) }
+        ensures ran { OnOk result.1 (HasRun G.sound result.0) }
+        ensures kept { IsNone self.gear.script.header.threads → OnOk result.1 ((given : Given) → IsGiven (session_of G.sound self) given → SerialKept given (session_of G.sound result.0)) }
+        ensures fault { IsNone self.gear.script.header.threads → OnErr result.1 ((given : Given) → IsGiven (session_of G.sound self) given → StandsInSerial given (told_of G.sound result.0)) }
+        ensures so_far { IsSome self.gear.script.header.threads → OnErr result.1 ((kept : ℕ) × ((given : Given) → IsGiven (session_of G.sound self) given → StandsSoFar kept (told_of G.sound result.0) given)) }
         ensures come { IsSome self.gear.script.header.threads → OnErr result.1 (HasCome result.0.gear.script result.0.desk.history result.0.gear.numbers) }
         ensures script { result.0.gear.script ≡ self.gear.script }
         ensures stores { AreLater (stores_in self) (stores_in result.0) }

@@ -20,7 +20,7 @@ pub(crate) fn go_round<S: Source, W: Store, G: Guest>(works: &mut Works<S, W, G>
     requires table { works.old.desk.publishing.table ≡ works.old.driver.reading.table }
     requires begun { 1 ≤ works.old.desk.phase }
     requires group { IsDone works.old.desk 0 }
-    ensures round { (met : SessionValue) × (rounded : SessionValue) × Met (seen works.old) met × Rounded met rounded × Met rounded (seen works.new) }
+    ensures round { (met : SessionValue) × (rounded : SessionValue) × Met (seen G.sound works.old) met × Rounded met rounded × Met rounded (seen G.sound works.new) }
     ensures group { IsDone works.new.desk 0 }
     ensures phase { works.new.desk.phase ≡ works.old.desk.phase }
     ensures driver { works.new.driver ≡ record works.old.driver { reading = works.new.driver.reading } }
@@ -38,7 +38,7 @@ pub(crate) fn begin<S: Source, W: Store, G: Guest>(works: &mut Works<S, W, G>, p
     requires table { works.old.desk.publishing.table ≡ works.old.driver.reading.table }
     requires behind { BehindPhases works.old.desk phase }
     requires there { phase < length (phases works.old.desk.script) }
-    ensures begun { Begun phase (seen works.old) (seen works.new) }
+    ensures begun { Begun phase (seen G.sound works.old) (seen G.sound works.new) }
     ensures group { IsDone works.new.desk 0 }
     ensures phase { 1 ≤ works.new.desk.phase }
     ensures driver { works.new.driver ≡ record works.old.driver { reading = works.new.driver.reading } }

@@ -28,18 +28,18 @@ pub(crate) fn turn<S: Source, W: Store, G: Guest + Send, T: Threads + Sync, K: G
     freewheel: bool,
     limits: Limits,
 ) -> Result<(), SessionFault>
-    requires sound { IsSound (seen works.old) }
+    requires sound { IsSound (seen G.sound works.old) }
     requires files { HasOpenFiles (parts_of works.old) }
     requires begun { 1 ≤ works.old.desk.phase }
     requires group { IsDone works.old.desk 0 }
-    requires left { run (driver_of works.old.driver) < length (turns works.old.driver.script) }
-    requires kind { (turn_of works.old.driver.script (run (driver_of works.old.driver) + 1)).is_freewheel ≡ freewheel }
-    requires period { (turn_of works.old.driver.script (run (driver_of works.old.driver) + 1)).period ≡ works.old.driver.set }
+    requires left { run (driver_of G.sound works.old.driver) < length (turns works.old.driver.script) }
+    requires kind { (turn_of works.old.driver.script (run (driver_of G.sound works.old.driver) + 1)).is_freewheel ≡ freewheel }
+    requires period { (turn_of works.old.driver.script (run (driver_of G.sound works.old.driver) + 1)).period ≡ works.old.driver.set }
     requires ring { limits.ring ≡ works.old.driver.script.header.ring }
     requires drain { limits.drain ≡ works.old.driver.script.header.drain }
-    ensures turned { OnOk result (Turned freewheel (seen works.old) (seen works.new)) }
-    ensures failed { OnErr result (TurnFails freewheel (seen works.old) (seen works.new)) }
-    ensures stays { Stays (parts_of works.old) (parts_of works.new) }
+    ensures turned { OnOk result (Turned freewheel (seen G.sound works.old) (seen G.sound works.new)) }
+    ensures failed { OnErr result (TurnFails freewheel (seen G.sound works.old) (seen G.sound works.new)) }
+    ensures stays { Stays G.sound (parts_of works.old) (parts_of works.new) }
     ensures set { works.new.driver.set ≡ works.old.driver.set }
     ensures begun { OnOk result (works.new.desk.phase ≡ works.old.desk.phase) }
     ensures group { OnOk result (IsDone works.new.desk 0) }

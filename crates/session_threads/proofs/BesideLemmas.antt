@@ -2,6 +2,8 @@
 --     files-same      the files of the same recorders
 --     files-beside, stays-beside, stays-given_back      their files, and what stays
 use Rattle.std.proofs.Common.{◌≡◌, List, sym, subst}
+use Rattle.session_model.specs.Kinds.{Sound}
+use Rattle.client_kinds.specs.Scores.{Score}
 use Rattle.control_desk.specs.Desks.{Desk}
 use Rattle.cycle_driver.specs.Gears.{Gear}
 use Rattle.recorder_files.specs.Recorders.{Recording}
@@ -15,9 +17,9 @@ pub files-same : (desk other : Desk) (gear gear_after : Gear) (recordings record
 files-same desk other gear gear_after recordings recordings_after same files =
     subst (λ (l : List Recording). HasOpenFiles (parts_with other gear_after l)) (sym same) (record { tapes = files.tapes; no_playback = files.no_playback; no_stores = files.no_stores })
 
-pub stays-beside : (desk other : Desk) (gear : Gear) (recordings : List Recording) (gear_after : Gear) (recordings_after : List Recording)
-    → Stays (parts_with desk gear recordings) (parts_with desk gear_after recordings_after) → Stays (parts_with other gear recordings) (parts_with other gear_after recordings_after)
-stays-beside desk other gear recordings gear_after recordings_after stays = record {
+pub stays-beside : (sounding : Score → Sound) (desk other : Desk) (gear : Gear) (recordings : List Recording) (gear_after : Gear) (recordings_after : List Recording)
+    → Stays sounding (parts_with desk gear recordings) (parts_with desk gear_after recordings_after) → Stays sounding (parts_with other gear recordings) (parts_with other gear_after recordings_after)
+stays-beside sounding desk other gear recordings gear_after recordings_after stays = record {
   script = stays.script;
   scores = stays.scores;
   files = files-beside desk other gear_after recordings_after stays.files;
@@ -27,8 +29,8 @@ stays-beside desk other gear recordings gear_after recordings_after stays = reco
 }
 
 -- another desk came back
-pub stays-given_back : (before : Parts) (desk other : Desk) (gear_after : Gear) (recordings_after : List Recording) → Stays before (parts_with desk gear_after recordings_after) → Stays before (parts_with other gear_after recordings_after)
-stays-given_back before desk other gear_after recordings_after stays = record {
+pub stays-given_back : (sounding : Score → Sound) (before : Parts) (desk other : Desk) (gear_after : Gear) (recordings_after : List Recording) → Stays sounding before (parts_with desk gear_after recordings_after) → Stays sounding before (parts_with other gear_after recordings_after)
+stays-given_back sounding before desk other gear_after recordings_after stays = record {
   script = stays.script;
   scores = stays.scores;
   files = files-beside desk other gear_after recordings_after stays.files;

@@ -9,7 +9,9 @@ use Rattle.std.proofs.lemmas.List.{length-map}
 use Rattle.std.proofs.lemmas.Option.{same_Some, slice_get_within}
 use Rattle.jack_host.specs.Causes.{Rose}
 use Rattle.session_model.specs.Grammar.{IsScript}
+use Rattle.session_model.specs.Kinds.{Sound}
 use Rattle.session_model.specs.Scripts.{Script}
+use Rattle.client_kinds.specs.Scores.{Score}
 use Rattle.record_ring.specs.Rings.{IsPair, Sending}
 use Rattle.wave_pcm.specs.Readings.{SameReading}
 use Rattle.wave_write.specs.Tapes.{Tape}
@@ -47,19 +49,20 @@ going-of session sound = record {
     disks = sound.one.rings.disks;
     puts = sound.one.rings.puts;
     gets = sound.one.rings.gets;
+    own_disks = sound.one.rings.own_disks;
     own = λ recorder ring there. let own = sound.one.rings.own recorder ring there in record { samples = own.samples; most = own.most; items = own.items };
   };
   no_end = sound.no_end;
 }
 
-pub may-serve-all : (parts : Parts) → IsSound (session_of parts) → HasOpenFiles parts → All MayServe parts.recorders
-may-serve-all parts sound files = all-from_places MayServe parts.recorders (λ i recording is.
-    let ring = some_at parts.gear.rings.rings i (subst (λ n. i < n) (sym (ends-many parts sound)) (slice_get_within parts.recorders i recording is)) in
-    let it = may-give parts i ring.0 recording sound files ring.1 is in
+pub may-serve-all : (sounding : Score → Sound) (parts : Parts) → IsSound (session_of sounding parts) → HasOpenFiles parts → All MayServe parts.recorders
+may-serve-all sounding parts sound files = all-from_places MayServe parts.recorders (λ i recording is.
+    let ring = some_at parts.gear.rings.rings i (subst (λ n. i < n) (sym (ends-many sounding parts sound)) (slice_get_within parts.recorders i recording is)) in
+    let it = may-give sounding parts i ring.0 recording sound files ring.1 is in
     record { tape = it.1.0; there = it.1.1; may = it.1.2 })
 
-pub few-recorders : (parts : Parts) → IsSound (session_of parts) → length parts.recorders < 256
-few-recorders parts sound =
+pub few-recorders : (sounding : Score → Sound) (parts : Parts) → IsSound (session_of sounding parts) → length parts.recorders < 256
+few-recorders sounding parts sound =
     let many : length parts.recorders ≡ length parts.gear.script.header.recorders = sym (length-map parts.recorders (λ (r : Recording). r.getting)) ∙ sound.one.recorder_ends in
     let few = sound.one.lawful.header.few_recorders in
     omega (arith, many, few)
@@ -71,55 +74,55 @@ group-behind law session after sound is goes = law session.desk after (subst IsS
 
 -- ---- what its threads left
 
-pub seen-driven : (desk : Desk) (gear gear_after : Gear) (recordings : List Recording) → gear_after.script ≡ gear.script → seen_with desk gear_after recordings ≡ record (seen_with desk gear recordings) { driver = driver_of gear_after }
-seen-driven desk gear gear_after recordings script = ap (λ (s : Script). record (seen_with desk gear_after recordings) { script = s }) script
+pub seen-driven : (sounding : Score → Sound) (desk : Desk) (gear gear_after : Gear) (recordings : List Recording) → gear_after.script ≡ gear.script → seen_with sounding desk gear_after recordings ≡ record (seen_with sounding desk gear recordings) { driver = driver_of sounding gear_after }
+seen-driven sounding desk gear gear_after recordings script = ap (λ (s : Script). record (seen_with sounding desk gear_after recordings) { script = s }) script
 
-module _ (m : ℕ) (desk : Desk) (gear driven : Gear) (recordings recordings_after : List Recording) (desk_after : Desk) (sound : IsSound (seen_with desk gear recordings)) (files : HasOpenFiles (parts_with desk gear recordings))
-    (stays : StaysInRun (driver_of gear) (driver_of driven)) (many : length recordings_after ≡ length recordings) (served : AreServed recordings recordings_after) (goes : GoesOn desk desk_after) (is : IsDesk desk_after) where
+module _ (sounding : Score → Sound) (m : ℕ) (desk : Desk) (gear driven : Gear) (recordings recordings_after : List Recording) (desk_after : Desk) (sound : IsSound (seen_with sounding desk gear recordings)) (files : HasOpenFiles (parts_with desk gear recordings))
+    (stays : StaysInRun (driver_of sounding gear) (driver_of sounding driven)) (many : length recordings_after ≡ length recordings) (served : AreServed recordings recordings_after) (goes : GoesOn desk desk_after) (is : IsDesk desk_after) where
   abbrev ended : Parts
   ended = parts_with desk (with_ends driven) recordings
 
-  ends : RingsEnded (seen_with desk driven recordings) (session_of ended)
+  ends : RingsEnded (seen_with sounding desk driven recordings) (session_of sounding ended)
   ends = record { same = refl }
 
-  went : WentOn (seen_with desk (with_ends driven) recordings_after) (seen_with desk_after (with_ends driven) recordings_after)
+  went : WentOn (seen_with sounding desk (with_ends driven) recordings_after) (seen_with sounding desk_after (with_ends driven) recordings_after)
   went = record { goes = goes; desk = is; same = refl }
 
   open_files : HasOpenFiles ended
   open_files = record { tapes = files.tapes; no_playback = files.no_playback; no_stores = files.no_stores }
 
-  pub bound-whole : CyclesMany m (driver_of gear) (driver_of driven) → All IsUntorn recordings_after
-      → Segmented m false (seen_with desk gear recordings) (seen_with desk_after (with_ends driven) recordings_after)
+  pub bound-whole : CyclesMany m (driver_of sounding gear) (driver_of sounding driven) → All IsUntorn recordings_after
+      → Segmented m false (seen_with sounding desk gear recordings) (seen_with sounding desk_after (with_ends driven) recordings_after)
   bound-whole cycles going = record {
-    served = seen_with desk (with_ends driven) recordings_after;
-    joins = Runs (seen_with desk driven recordings) (session_of ended) refl (record { cycles = cycles; same = seen-driven desk gear driven recordings stays.script }) ends (serves-all ended recordings_after open_files many served going);
+    served = seen_with sounding desk (with_ends driven) recordings_after;
+    joins = Runs (seen_with sounding desk driven recordings) (session_of sounding ended) refl (record { cycles = cycles; same = seen-driven sounding desk gear driven recordings stays.script }) ends (serves-all sounding ended recordings_after open_files many served going);
     goes = went;
   }
 
-  fails-with : (kept : ℕ) → Drove m kept (seen_with desk gear recordings) (seen_with desk driven recordings) → SegmentFails m false kept (seen_with desk gear recordings) (seen_with desk_after (with_ends driven) recordings_after)
+  fails-with : (kept : ℕ) → Drove m kept (seen_with sounding desk gear recordings) (seen_with sounding desk driven recordings) → SegmentFails m false kept (seen_with sounding desk gear recordings) (seen_with sounding desk_after (with_ends driven) recordings_after)
   fails-with kept drove = record {
-    served = seen_with desk (with_ends driven) recordings_after;
-    joins = InRun (seen_with desk driven recordings) (session_of ended) refl drove ends (serves-some ended recordings_after open_files many served);
+    served = seen_with sounding desk (with_ends driven) recordings_after;
+    joins = InRun (seen_with sounding desk driven recordings) (session_of sounding ended) refl drove ends (serves-some sounding ended recordings_after open_files many served);
     goes = went;
   }
 
   -- the session when its driver was there
   abbrev before : Driver → Session
-  before driver = record (seen_with desk gear recordings) { driver = driver }
+  before driver = record (seen_with sounding desk gear recordings) { driver = driver }
 
-  pub bound-read : RunsInto FailsAtRead m (driver_of gear) (driver_of driven) → (kept : ℕ) × SegmentFails m false kept (seen_with desk gear recordings) (seen_with desk_after (with_ends driven) recordings_after)
+  pub bound-read : RunsInto FailsAtRead m (driver_of sounding gear) (driver_of sounding driven) → (kept : ℕ) × SegmentFails m false kept (seen_with sounding desk gear recordings) (seen_with sounding desk_after (with_ends driven) recordings_after)
   bound-read into =
-      (run into.2, fails-with (run into.2) (AtCapture into.0 (before into.2) into.1 refl (record { cycles = into.3; same = refl }) into.4 (seen-driven desk gear driven recordings stays.script)))
+      (run into.2, fails-with (run into.2) (AtCapture into.0 (before into.2) into.1 refl (record { cycles = into.3; same = refl }) into.4 (seen-driven sounding desk gear driven recordings stays.script)))
 
-  pub bound-write : RunsInto BreaksAtWrite m (driver_of gear) (driver_of driven) → (kept : ℕ) × SegmentFails m false kept (seen_with desk gear recordings) (seen_with desk_after (with_ends driven) recordings_after)
+  pub bound-write : RunsInto BreaksAtWrite m (driver_of sounding gear) (driver_of sounding driven) → (kept : ℕ) × SegmentFails m false kept (seen_with sounding desk gear recordings) (seen_with sounding desk_after (with_ends driven) recordings_after)
   bound-write into = (
-    run (driver_of driven),
-    fails-with (run (driver_of driven))
-        (AtPlayback into.0 (before into.2) into.1 refl (record { cycles = into.3; same = refl }) into.4.fails into.4.file (seen-driven desk gear driven recordings stays.script)),
+    run (driver_of sounding driven),
+    fails-with (run (driver_of sounding driven))
+        (AtPlayback into.0 (before into.2) into.1 refl (record { cycles = into.3; same = refl }) into.4.fails into.4.file (seen-driven sounding desk gear driven recordings stays.script)),
   )
 
-  pub bound-torn : CyclesMany m (driver_of gear) (driver_of driven) → (kept : ℕ) × SegmentFails m false kept (seen_with desk gear recordings) (seen_with desk_after (with_ends driven) recordings_after)
-  bound-torn cycles = (run (driver_of driven), fails-with (run (driver_of driven)) (DroveAll refl (record { cycles = cycles; same = seen-driven desk gear driven recordings stays.script })))
+  pub bound-torn : CyclesMany m (driver_of sounding gear) (driver_of sounding driven) → (kept : ℕ) × SegmentFails m false kept (seen_with sounding desk gear recordings) (seen_with sounding desk_after (with_ends driven) recordings_after)
+  bound-torn cycles = (run (driver_of sounding driven), fails-with (run (driver_of sounding driven)) (DroveAll refl (record { cycles = cycles; same = seen-driven sounding desk gear driven recordings stays.script })))
 
   -- ---- what stays
 
@@ -129,7 +132,7 @@ module _ (m : ℕ) (desk : Desk) (gear driven : Gear) (recordings recordings_aft
       let file = stays.playback tape sound.files.playback.attached in
       held-file None None gear.playback driven.playback tape file.0 sound.files.playback.attached file.1 file.2
 
-  pub bound-stays : SameReading gear.capture.reading driven.capture.reading → Stays (parts_with desk gear recordings) (parts_with desk_after (with_ends driven) recordings_after)
+  pub bound-stays : SameReading gear.capture.reading driven.capture.reading → Stays sounding (parts_with desk gear recordings) (parts_with desk_after (with_ends driven) recordings_after)
   bound-stays capture = record {
     script = stays.script;
     scores = stays.scores;
@@ -141,8 +144,8 @@ module _ (m : ℕ) (desk : Desk) (gear driven : Gear) (recordings recordings_aft
 
   pub bound-pairs : ArePaired (with_ends driven) recordings_after
   bound-pairs = record {
-    as_many = length-map driven.rings.rings with_end ∙ stays.rings.as_many ∙ ends-many (parts_with desk gear recordings) sound ∙ sym many;
-    few = let low = few-recorders (parts_with desk gear recordings) sound in omega (arith, many, low);
+    as_many = length-map driven.rings.rings with_end ∙ stays.rings.as_many ∙ ends-many sounding (parts_with desk gear recordings) sound ∙ sym many;
+    few = let low = few-recorders sounding (parts_with desk gear recordings) sound in omega (arith, many, low);
     each = each;
   }
     where
@@ -154,7 +157,7 @@ module _ (m : ℕ) (desk : Desk) (gear driven : Gear) (recordings recordings_aft
           let mid = some_at driven.rings.rings recorder low_after in
           let ring_same : with_end mid.0 ≡ ring = same_Some (with_end mid.0) ring (sym (mapped_there with_end driven.rings.rings recorder mid.0 mid.1) ∙ ring_is) in
           let same = stays.rings.each recorder old.0 mid.0 old.1 mid.1 in
-          let was = some_at recordings recorder (subst (λ n. recorder < n) (ends-many (parts_with desk gear recordings) sound) low) in
+          let was = some_at recordings recorder (subst (λ n. recorder < n) (ends-many sounding (parts_with desk gear recordings) sound) low) in
           let pair = sound.one.recorder_pairs recorder old.0 was.0.getting old.1 (mapped_there (λ (r : Recording). r.getting) recordings recorder was.0 was.1) in
           let it = served-at recordings recordings_after recorder was.0 now served was.1 now_is in
           let ends_same = ends-of was.0 now it it.keeps.tape_after.stopped refl in

@@ -5,6 +5,8 @@
 use Rattle.std.proofs.Common.{◌≡◌, ℕ, ◌<◌, ◌≤◌, ◌⊎◌, inl, inr, List, sym, ◌∙◌, ap, subst, arith}
 use Rattle.std.proofs.lemmas.Bool.{cases_lt}
 use Rattle.std.proofs.lemmas.Option.{slice_get_within}
+use Rattle.session_model.specs.Kinds.{Sound}
+use Rattle.client_kinds.specs.Scores.{Score}
 use Rattle.record_ring.specs.Rings.{Getting, IsPair, Renews, Sending}
 use Rattle.cycle_driver.specs.Gears.{Gear, driver_of}
 use Rattle.cycle_driver.specs.Runs.{KeepsRings}
@@ -18,10 +20,10 @@ use Rattle.session_threads.proofs.BoundLemmas.{few-recorders}
 use Rattle.session_threads.proofs.RingLemmas.{AreEach, BrokenAt}
 use Rattle.session_threads.proofs.StayLemmas.{ends-many}
 
-pub paired-sound : (parts : Parts) → IsSound (session_of parts) → ArePaired parts.gear parts.recorders
-paired-sound parts sound = record {
-  as_many = ends-many parts sound;
-  few = few-recorders parts sound;
+pub paired-sound : (sounding : Score → Sound) (parts : Parts) → IsSound (session_of sounding parts) → ArePaired parts.gear parts.recorders
+paired-sound sounding parts sound = record {
+  as_many = ends-many sounding parts sound;
+  few = few-recorders sounding parts sound;
   each = λ i ring recording ring_is is. sound.one.recorder_pairs i ring recording.getting ring_is (mapped_there (λ (r : Recording). r.getting) parts.recorders i recording is);
 }
 
@@ -79,8 +81,8 @@ paired-broken most place gear gear_after recordings recordings_after = paired-ea
             subst (λ (s : Sending). IsPair s after.getting) (sym left.0) (subst (λ (r : Recording). IsPair ring r.getting) (sym left.1) pair)
         go (inr x) (inr y) = broke-pair ring recording ring_after after (broken.1 (omega (arith, x, y))) pair
 
-pub paired-driven : (gear gear_after : Gear) (recordings : List Recording) → KeepsRings (driver_of gear) (driver_of gear_after) → ArePaired gear recordings → ArePaired gear_after recordings
-paired-driven gear gear_after recordings keeps pairs = record {
+pub paired-driven : (sounding : Score → Sound) (gear gear_after : Gear) (recordings : List Recording) → KeepsRings (driver_of sounding gear) (driver_of sounding gear_after) → ArePaired gear recordings → ArePaired gear_after recordings
+paired-driven sounding gear gear_after recordings keeps pairs = record {
   as_many = keeps.as_many ∙ pairs.as_many;
   few = pairs.few;
   each = λ i ring recording ring_is is.

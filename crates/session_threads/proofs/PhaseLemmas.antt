@@ -13,7 +13,9 @@ use Rattle.std.proofs.Math.Seq.{take-length}
 use Rattle.std.proofs.lemmas.Option.{slice_get_within}
 use Rattle.jack_host.specs.Causes.{Rose}
 use Rattle.session_model.specs.Explanations.{Given}
+use Rattle.session_model.specs.Kinds.{Sound}
 use Rattle.session_model.specs.Scripts.{Phase, Script, phases, turns}
+use Rattle.client_kinds.specs.Scores.{Score}
 use Rattle.control_desk.specs.Desks.{MayBegin, cycles_before}
 use Rattle.driver_laws.specs.Drivers.{Driver, run, turn_of}
 use Rattle.cycle_driver.specs.Runs.{AreNext}
@@ -128,7 +130,7 @@ PhaseAt =
 
 abbrev pub FailsWithFronts : Type 0
 FailsWithFronts =
-    (given : Given) (session after : Session) (done many kept : ℕ) (freewheel : Bool) → AtPhase session given done → IsSome session.script.header.threads → session.putting ≡ []
+    (given : Given) (session after : Session) (done many kept : ℕ) (freewheel : Bool) → AtPhase session given done → IsSome session.script.header.threads → session.players ≡ []
     → ThreadFault done many freewheel kept session after → StandsUnfinished kept (told after) given
 
 abbrev pub UnfinishedFronts : Type 0
@@ -151,10 +153,10 @@ ran-at law given session after done segment of threads sound at segmented =
     let next : suc done ≡ done + 1 = omega arith in
     subst (λ n. AtPhase after given n) next (law given session after done of.phase threads sound of.there at (as-phase session after done segment of segmented))
 
-pub stands-failed : FailsWithFronts → UnfinishedFronts → (given : Given) (session : Session) (parts : Parts) (done many kept : ℕ) (freewheel : Bool) → AtPhase session given done → IsSome session.script.header.threads → session.putting ≡ []
-    → ThreadFault done many freewheel kept session (session_of parts) → HasOpenFiles parts → StandsSoFar kept (told_of parts) given
-stands-failed law unfinished given session parts done many kept freewheel at threads no_disks fault files =
-    subst (λ (s : Session). StandsSoFar kept s given) (told-agrees parts files) (unfinished kept (told (session_of parts)) given (law given session (session_of parts) done many kept freewheel at threads no_disks fault))
+pub stands-failed : (sounding : Score → Sound) → FailsWithFronts → UnfinishedFronts → (given : Given) (session : Session) (parts : Parts) (done many kept : ℕ) (freewheel : Bool) → AtPhase session given done → IsSome session.script.header.threads → session.players ≡ []
+    → ThreadFault done many freewheel kept session (session_of sounding parts) → HasOpenFiles parts → StandsSoFar kept (told_of sounding parts) given
+stands-failed sounding law unfinished given session parts done many kept freewheel at threads no_disks fault files =
+    subst (λ (s : Session). StandsSoFar kept s given) (told-agrees sounding parts files) (unfinished kept (told (session_of sounding parts)) given (law given session (session_of sounding parts) done many kept freewheel at threads no_disks fault))
 
 pub come-failed : ComeBehindFault → (session after : Session) (done kept : ℕ) (segment : Segment) → IsOfPhase session.script done segment → RanPhases session done → ThreadFault done segment.cycles segment.is_freewheel kept session after
     → HasCome session.script after.desk.history after.driver.numbers
@@ -166,15 +168,15 @@ come-failed law session after done kept segment of ran fault =
 pub rose-between : (first before now last : ℕ) → first ≤ before → Rose before now → now ≤ last → Rose first last
 rose-between first before now last low rose high = omega (arith, low, rose, high)
 
-module _ {S W G : Type 0} where
-  pub read-between : (first before now last : Works S W G) → Stays (parts_of first) (parts_of before) → Rose before.driver.capture.reading.faults now.driver.capture.reading.faults → Stays (parts_of now) (parts_of last)
+module _ (sounding : Score → Sound) {S W G : Type 0} where
+  pub read-between : (first before now last : Works S W G) → Stays sounding (parts_of first) (parts_of before) → Rose before.driver.capture.reading.faults now.driver.capture.reading.faults → Stays sounding (parts_of now) (parts_of last)
       → Rose first.driver.capture.reading.faults last.driver.capture.reading.faults
   read-between first before now last earlier rose later = rose-between _ _ _ _ earlier.capture.later rose later.capture.later
 
-  pub write-between : (first before now last : Works S W G) → Stays (parts_of first) (parts_of before) → OneRose (held before) (held now) → Stays (parts_of now) (parts_of last) → OneRose (held first) (held last)
+  pub write-between : (first before now last : Works S W G) → Stays sounding (parts_of first) (parts_of before) → OneRose (held before) (held now) → Stays sounding (parts_of now) (parts_of last) → OneRose (held first) (held last)
   write-between first before now last earlier rose later = rose-behind (held first) (held before) (held last) earlier.later (rose-before (held before) (held now) (held last) rose later.later)
 
   -- from the front of a phase to its end
   pub stays-over : (first begun gone last : Works S W G) (period : ℕ) → begun.driver ≡ record first.driver { reading = begun.driver.reading; set = period } → begun.recorders ≡ first.recorders → HasOpenFiles (parts_of first)
-      → Stays (parts_of begun) (parts_of gone) → Stays (parts_of gone) (parts_of last) → Stays (parts_of first) (parts_of last)
-  stays-over first begun gone last period driver recorders files between later = stays-trans first begun last (stays-begun first begun period driver recorders files) (stays-trans begun gone last between later)
+      → Stays sounding (parts_of begun) (parts_of gone) → Stays sounding (parts_of gone) (parts_of last) → Stays sounding (parts_of first) (parts_of last)
+  stays-over first begun gone last period driver recorders files between later = stays-trans sounding first begun last (stays-begun sounding first begun period driver recorders files) (stays-trans sounding begun gone last between later)

@@ -15,6 +15,8 @@ use Rattle.std.proofs.lemmas.Bool.{cases_lt}
 use Rattle.std.proofs.lemmas.List.{length-map}
 use Rattle.std.proofs.lemmas.Option.{get_or_from_slice_get, none-some, same_Some, slice_get-get_or, slice_get_within}
 use Rattle.jack_host.specs.Causes.{HasCause, Rose}
+use Rattle.session_model.specs.Kinds.{Sound}
+use Rattle.client_kinds.specs.Scores.{Score}
 use Rattle.record_ring.specs.Rings.{Getting, IsPair, Sending}
 use Rattle.wave_write.specs.Tapes.{SameFile, Tape}
 use Rattle.disk_recorder.specs.Recordings.{MayWrite, SameEnds}
@@ -73,24 +75,24 @@ map-places f (x ∷ xs) (y ∷ ys) same each = ap₂ (λ a rest. a ∷ rest) (ea
 pub tapes-there : (parts : Parts) → HasOpenFiles parts → EachPicked (λ (r : Recording). r.tape) parts.recorders
 tapes-there parts files i r e = files.tapes i r e
 
-pub recording-of : (parts : Parts) (recorder : ℕ) (reel : Reel) → HasOpenFiles parts → IsReel (session_of parts) recorder reel
+pub recording-of : (sounding : Score → Sound) (parts : Parts) (recorder : ℕ) (reel : Reel) → HasOpenFiles parts → IsReel (session_of sounding parts) recorder reel
     → (recording : Recording) × (slice_get parts.recorders recorder ≡ Some recording) × (recording.tape ≡ Some reel.tape) × (reel_of reel.ring recording reel.tape ≡ reel)
-recording-of parts recorder reel files is =
+recording-of sounding parts recorder reel files is =
     let picked = picked_from (λ (r : Recording). r.tape) parts.recorders recorder reel.tape (tapes-there parts files) is.tape in
     let getting : picked.0.getting ≡ reel.getting = same_Some picked.0.getting reel.getting (sym (mapped_there (λ (r : Recording). r.getting) parts.recorders recorder picked.0 picked.1) ∙ is.getting) in
     let blocks : picked.0.blocks ≡ reel.blocks = same_Some picked.0.blocks reel.blocks (sym (mapped_there (λ (r : Recording). r.blocks) parts.recorders recorder picked.0 picked.1) ∙ is.blocks) in
     (picked.0, picked.1, picked.2, ap₂ (λ (g : Getting) (n : ℕ). record { ring = reel.ring; getting = g; tape = reel.tape; blocks = n }) getting blocks)
 
-pub may-give : (parts : Parts) (recorder : ℕ) (ring : Sending) (recording : Recording) → IsSound (session_of parts) → HasOpenFiles parts → slice_get parts.gear.rings.rings recorder ≡ Some ring → slice_get parts.recorders recorder ≡ Some recording
+pub may-give : (sounding : Score → Sound) (parts : Parts) (recorder : ℕ) (ring : Sending) (recording : Recording) → IsSound (session_of sounding parts) → HasOpenFiles parts → slice_get parts.gear.rings.rings recorder ≡ Some ring → slice_get parts.recorders recorder ≡ Some recording
     → IsPair ring recording.getting × ((tape : Tape) × (recording.tape ≡ Some tape) × MayWrite recording.getting tape) × (recording.blocks ≤ length recording.getting.got)
-may-give parts recorder ring recording sound files ring_is is =
-    let got : slice_get (session_of parts).getting recorder ≡ Some recording.getting = mapped_there (λ (r : Recording). r.getting) parts.recorders recorder recording is in
+may-give sounding parts recorder ring recording sound files ring_is is =
+    let got : slice_get (session_of sounding parts).getting recorder ≡ Some recording.getting = mapped_there (λ (r : Recording). r.getting) parts.recorders recorder recording is in
     let tape = files.tapes recorder recording is in
-    let tape_is : slice_get (session_of parts).tapes recorder ≡ Some tape.0 = picked_at (λ (r : Recording). r.tape) parts.recorders recorder recording tape.0 (tapes-there parts files) is tape.1 in
+    let tape_is : slice_get (session_of sounding parts).tapes recorder ≡ Some tape.0 = picked_at (λ (r : Recording). r.tape) parts.recorders recorder recording tape.0 (tapes-there parts files) is tape.1 in
     let counted : Some recording.blocks ≡ Some (length recording.getting.got) =
     sym (mapped_there (λ (r : Recording). r.blocks) parts.recorders recorder recording is)
     ∙ ap (λ (ns : List ℕ). slice_get ns recorder) (sym sound.files.counted)
-    ∙ mapped_there (λ (g : Getting). length g.got) (session_of parts).getting recorder recording.getting got
+    ∙ mapped_there (λ (g : Getting). length g.got) (session_of sounding parts).getting recorder recording.getting got
     in
     let same : recording.blocks ≡ length recording.getting.got = same_Some recording.blocks (length recording.getting.got) counted in
     (sound.one.recorder_pairs recorder ring recording.getting ring_is got, (tape.0, tape.1, sound.files.may recorder recording.getting tape.0 got tape_is), omega (arith, same))
@@ -224,15 +226,15 @@ record_files-keep parts after same keeps = map-places (λ (r : Recording). bytes
 abbrev pub given_up : Parts → List Sending → List Recording → Parts
 given_up parts rings recorders = record parts { gear = record parts.gear { rings = record parts.gear.rings { rings = rings } }; recorders = recorders }
 
-pub give-up : (most : ℕ) (parts : Parts) (rings : List Sending) (recorders : List Recording) → length rings ≡ length recorders → HasOpenFiles parts → AreEach (λ (i : ℕ). GaveUp most) parts.gear.rings.rings parts.recorders rings recorders
-    → GiveUp most (session_of parts) (session_of (given_up parts rings recorders))
-give-up most parts rings recorders as_many files are = record {
+pub give-up : (sounding : Score → Sound) (most : ℕ) (parts : Parts) (rings : List Sending) (recorders : List Recording) → length rings ≡ length recorders → HasOpenFiles parts → AreEach (λ (i : ℕ). GaveUp most) parts.gear.rings.rings parts.recorders rings recorders
+    → GiveUp most (session_of sounding parts) (session_of sounding (given_up parts rings recorders))
+give-up sounding most parts rings recorders as_many files are = record {
   each = each;
   rings = are.rings_same;
   getting = length-map recorders (λ (r : Recording). r.getting) ∙ are.recordings_same ∙ sym (length-map parts.recorders (λ (r : Recording). r.getting));
   tapes = picked_length (λ (r : Recording). r.tape) recorders (tapes-there after kept) ∙ are.recordings_same ∙ sym (picked_length (λ (r : Recording). r.tape) parts.recorders (tapes-there parts files));
   counts = length-map recorders (λ (r : Recording). r.blocks) ∙ are.recordings_same ∙ sym (length-map parts.recorders (λ (r : Recording). r.blocks));
-  same = ap (λ (bytes : List (Option (List ℕ))). record (session_of after) { record_files = bytes }) (record_files-keep parts after are.recordings_same keeps);
+  same = ap (λ (bytes : List (Option (List ℕ))). record (session_of sounding after) { record_files = bytes }) (record_files-keep parts after are.recordings_same keeps);
 }
   where
     after : Parts
@@ -244,25 +246,25 @@ give-up most parts rings recorders as_many files are = record {
     kept : HasOpenFiles after
     kept = files-keep parts after files refl are.recordings_same keeps
 
-    each : (recorder : ℕ) (reel reel_after : Reel) → IsReel (session_of parts) recorder reel → IsReel (session_of after) recorder reel_after → GivesUp most reel reel_after
+    each : (recorder : ℕ) (reel reel_after : Reel) → IsReel (session_of sounding parts) recorder reel → IsReel (session_of sounding after) recorder reel_after → GivesUp most reel reel_after
     each recorder reel reel_after was is =
-        let old = recording-of parts recorder reel files was in
-        let new = recording-of after recorder reel_after kept is in
+        let old = recording-of sounding parts recorder reel files was in
+        let new = recording-of sounding after recorder reel_after kept is in
         let gave = are.each recorder reel.ring old.0 reel_after.ring new.0 was.ring old.1 is.ring new.1 in
         let first : gave.keeps.tape ≡ reel.tape = same_Some gave.keeps.tape reel.tape (sym gave.keeps.was ∙ old.2) in
         let second : gave.keeps.tape_after ≡ reel_after.tape = same_Some gave.keeps.tape_after reel_after.tape (sym gave.keeps.is ∙ new.2) in
         subst (λ (r : Reel). GivesUp most r reel_after) (ap (reel_of reel.ring old.0) first ∙ old.3)
         (subst (λ (r : Reel). GivesUp most (reel_of reel.ring old.0 gave.keeps.tape) r) (ap (reel_of reel_after.ring new.0) second ∙ new.3) gave.gives)
 
-pub break-up : (most place : ℕ) (parts : Parts) (rings : List Sending) (recorders : List Recording) → length rings ≡ length recorders → HasOpenFiles parts → AreEach (BrokenAt most place) parts.gear.rings.rings parts.recorders rings recorders
-    → BreakUp most (session_of parts) (session_of (given_up parts rings recorders))
-break-up most place parts rings recorders as_many files are = record {
+pub break-up : (sounding : Score → Sound) (most place : ℕ) (parts : Parts) (rings : List Sending) (recorders : List Recording) → length rings ≡ length recorders → HasOpenFiles parts → AreEach (BrokenAt most place) parts.gear.rings.rings parts.recorders rings recorders
+    → BreakUp most (session_of sounding parts) (session_of sounding (given_up parts rings recorders))
+break-up sounding most place parts rings recorders as_many files are = record {
   each = each;
   rings = are.rings_same;
   getting = length-map recorders (λ (r : Recording). r.getting) ∙ are.recordings_same ∙ sym (length-map parts.recorders (λ (r : Recording). r.getting));
   tapes = picked_length (λ (r : Recording). r.tape) recorders (tapes-there after kept) ∙ are.recordings_same ∙ sym (picked_length (λ (r : Recording). r.tape) parts.recorders (tapes-there parts files));
   counts = length-map recorders (λ (r : Recording). r.blocks) ∙ are.recordings_same ∙ sym (length-map parts.recorders (λ (r : Recording). r.blocks));
-  same = ap (λ (bytes : List (Option (List ℕ))). record (session_of after) { record_files = bytes }) (record_files-keep parts after are.recordings_same keeps);
+  same = ap (λ (bytes : List (Option (List ℕ))). record (session_of sounding after) { record_files = bytes }) (record_files-keep parts after are.recordings_same keeps);
 }
   where
     after : Parts
@@ -274,14 +276,14 @@ break-up most place parts rings recorders as_many files are = record {
     kept : HasOpenFiles after
     kept = files-keep parts after files refl are.recordings_same keeps
 
-    each : (recorder : ℕ) (reel reel_after : Reel) → IsReel (session_of parts) recorder reel → IsReel (session_of after) recorder reel_after → Tried most reel reel_after
+    each : (recorder : ℕ) (reel reel_after : Reel) → IsReel (session_of sounding parts) recorder reel → IsReel (session_of sounding after) recorder reel_after → Tried most reel reel_after
     each recorder reel reel_after was is = go (cases_lt recorder place) (cases_lt place recorder)
       where
         old : (recording : Recording) × (slice_get parts.recorders recorder ≡ Some recording) × (recording.tape ≡ Some reel.tape) × (reel_of reel.ring recording reel.tape ≡ reel)
-        old = recording-of parts recorder reel files was
+        old = recording-of sounding parts recorder reel files was
 
         new : (recording : Recording) × (slice_get after.recorders recorder ≡ Some recording) × (recording.tape ≡ Some reel_after.tape) × (reel_of reel_after.ring recording reel_after.tape ≡ reel_after)
-        new = recording-of after recorder reel_after kept is
+        new = recording-of sounding after recorder reel_after kept is
 
         broken : BrokenAt most place recorder reel.ring old.0 reel_after.ring new.0
         broken = are.each recorder reel.ring old.0 reel_after.ring new.0 was.ring old.1 is.ring new.1

@@ -10,6 +10,8 @@ use Rattle.std.specs.List.{cons_option}
 use Rattle.std.proofs.lemmas.Bool.{cases_lt}
 use Rattle.std.proofs.lemmas.List.{length-map}
 use Rattle.std.proofs.lemmas.Option.{same_Some, slice_get_within}
+use Rattle.session_model.specs.Kinds.{Sound}
+use Rattle.client_kinds.specs.Scores.{Score}
 use Rattle.record_ring.specs.Rings.{Getting, IsPair, Renews, Sending}
 use Rattle.wave_write.specs.Tapes.{Tape}
 use Rattle.recorder_files.specs.Recorders.{Recording}
@@ -82,14 +84,14 @@ picked-places f [] (y ∷ ys) same each = absurd (omega (arith, same))
 picked-places f (x ∷ xs) [] same each = absurd (omega (arith, same))
 picked-places f (x ∷ xs) (y ∷ ys) same each = ap₂ cons_option (each zero x y refl refl) (picked-places f xs ys (omega (arith, same)) (λ i a b p q. each (suc i) a b p q))
 
-pub renewed-parts : (parts : Parts) (rings : List Sending) (recorders : List Recording) → length parts.gear.rings.rings ≡ length parts.recorders → AreEach (λ _. RenewedOne) parts.gear.rings.rings parts.recorders rings recorders
-    → Renewed (session_of parts) (session_of (given_up parts rings recorders))
-renewed-parts parts rings recorders as_many are = record {
+pub renewed-parts : (sounding : Score → Sound) (parts : Parts) (rings : List Sending) (recorders : List Recording) → length parts.gear.rings.rings ≡ length parts.recorders → AreEach (λ _. RenewedOne) parts.gear.rings.rings parts.recorders rings recorders
+    → Renewed (session_of sounding parts) (session_of sounding (given_up parts rings recorders))
+renewed-parts sounding parts rings recorders as_many are = record {
   each = each;
   rings = are.rings_same;
   getting = length-map recorders (λ (r : Recording). r.getting) ∙ are.recordings_same ∙ sym (length-map parts.recorders (λ (r : Recording). r.getting));
-  same = ap (λ (tapes : List Tape). made tapes (session_of after).counts (session_of after).record_files) (picked-places (λ (r : Recording). r.tape) parts.recorders recorders are.recordings_same (λ i x y p q. ap (λ (r : Recording). r.tape) (kept i x y p q)))
-      ∙ ap₂ (made (session_of parts).tapes) (map-places (λ (r : Recording). r.blocks) parts.recorders recorders are.recordings_same (λ i x y p q. ap (λ (r : Recording). r.blocks) (kept i x y p q)))
+  same = ap (λ (tapes : List Tape). made tapes (session_of sounding after).counts (session_of sounding after).record_files) (picked-places (λ (r : Recording). r.tape) parts.recorders recorders are.recordings_same (λ i x y p q. ap (λ (r : Recording). r.tape) (kept i x y p q)))
+      ∙ ap₂ (made (session_of sounding parts).tapes) (map-places (λ (r : Recording). r.blocks) parts.recorders recorders are.recordings_same (λ i x y p q. ap (λ (r : Recording). r.blocks) (kept i x y p q)))
       (map-places (λ (r : Recording). bytes_of r.store) parts.recorders recorders are.recordings_same (λ i x y p q. ap (λ (r : Recording). bytes_of r.store) (kept i x y p q)));
 }
   where
@@ -97,7 +99,7 @@ renewed-parts parts rings recorders as_many are = record {
     after = given_up parts rings recorders
 
     made : List Tape → List ℕ → List (Option (List ℕ)) → Session
-    made tapes counts files = record (session_of after) { tapes = tapes; counts = counts; record_files = files }
+    made tapes counts files = record (session_of sounding after) { tapes = tapes; counts = counts; record_files = files }
 
     one : (i : ℕ) (x y : Recording) → slice_get parts.recorders i ≡ Some x → slice_get recorders i ≡ Some y → (ring : Sending) × (ring_after : Sending) × (slice_get parts.gear.rings.rings i ≡ Some ring) × (slice_get rings i ≡ Some ring_after) × RenewedOne ring x ring_after y
     one i x y p q =

@@ -8,6 +8,8 @@ use Rattle.std.proofs.Common.{◌≡◌, ℕ, zero, suc, ◌+◌, ◌<◌, Bool,
 use Rattle.std.proofs.lemmas.List.{length-map}
 use Rattle.std.proofs.lemmas.Option.{get_or_from_slice_get, none-some, same_Some, slice_get_within}
 use Rattle.jack_host.specs.Causes.{HasCause}
+use Rattle.session_model.specs.Kinds.{Sound}
+use Rattle.client_kinds.specs.Scores.{Score}
 use Rattle.record_ring.specs.Rings.{Sending}
 use Rattle.wave_write.specs.Tapes.{Tape}
 use Rattle.disk_recorder.specs.Recordings.{Serves}
@@ -80,34 +82,35 @@ module _ (parts : Parts) (recorders : List Recording) (files : HasOpenFiles part
   pub files-served : HasOpenFiles (with_recorders parts recorders)
   files-served = files-keep parts (with_recorders parts recorders) files refl many recorders-keep
 
-  same : session_of (with_recorders parts recorders)
-      ≡ record (session_of parts) { getting = (session_of (with_recorders parts recorders)).getting; tapes = (session_of (with_recorders parts recorders)).tapes; counts = (session_of (with_recorders parts recorders)).counts }
-  same = ap (λ (bytes : List (Option (List ℕ))). record (session_of (with_recorders parts recorders)) { record_files = bytes }) (record_files-keep parts (with_recorders parts recorders) many recorders-keep)
+module _ (sounding : Score → Sound) (parts : Parts) (recorders : List Recording) (files : HasOpenFiles parts) (many : length recorders ≡ length parts.recorders) (served : AreServed parts.recorders recorders) where
+  same : session_of sounding (with_recorders parts recorders)
+      ≡ record (session_of sounding parts) { getting = (session_of sounding (with_recorders parts recorders)).getting; tapes = (session_of sounding (with_recorders parts recorders)).tapes; counts = (session_of sounding (with_recorders parts recorders)).counts }
+  same = ap (λ (bytes : List (Option (List ℕ))). record (session_of sounding (with_recorders parts recorders)) { record_files = bytes }) (record_files-keep parts (with_recorders parts recorders) many (recorders-keep parts recorders files many served))
 
-  getting_same : length (session_of (with_recorders parts recorders)).getting ≡ length (session_of parts).getting
+  getting_same : length (session_of sounding (with_recorders parts recorders)).getting ≡ length (session_of sounding parts).getting
   getting_same = length-map recorders (λ (r : Recording). r.getting) ∙ many ∙ sym (length-map parts.recorders (λ (r : Recording). r.getting))
 
-  counts_same : length (session_of (with_recorders parts recorders)).counts ≡ length (session_of parts).counts
+  counts_same : length (session_of sounding (with_recorders parts recorders)).counts ≡ length (session_of sounding parts).counts
   counts_same = length-map recorders (λ (r : Recording). r.blocks) ∙ many ∙ sym (length-map parts.recorders (λ (r : Recording). r.blocks))
 
-  tapes_same : length (session_of (with_recorders parts recorders)).tapes ≡ length (session_of parts).tapes
+  tapes_same : length (session_of sounding (with_recorders parts recorders)).tapes ≡ length (session_of sounding parts).tapes
   tapes_same =
-      picked_length (λ (r : Recording). r.tape) recorders (tapes-there (with_recorders parts recorders) files-served) ∙ many
+      picked_length (λ (r : Recording). r.tape) recorders (tapes-there (with_recorders parts recorders) (files-served parts recorders files many served)) ∙ many
       ∙ sym (picked_length (λ (r : Recording). r.tape) parts.recorders (tapes-there parts files))
 
   -- what one of them did is told of its reel
-  told-reel : (P : Reel → Reel → Type 0) (recorder : ℕ) (reel reel_after : Reel) → IsReel (session_of parts) recorder reel → IsReel (session_of (with_recorders parts recorders)) recorder reel_after
+  told-reel : (P : Reel → Reel → Type 0) (recorder : ℕ) (reel reel_after : Reel) → IsReel (session_of sounding parts) recorder reel → IsReel (session_of sounding (with_recorders parts recorders)) recorder reel_after
       → ((old new : Recording) (it : ServedBy old new) → slice_get recorders recorder ≡ Some new → P (reel_of reel.ring old it.keeps.tape) (reel_of reel_after.ring new it.keeps.tape_after)) → P reel reel_after
   told-reel P recorder reel reel_after was is holds =
-      let old = recording-of parts recorder reel files was in
-      let new = recording-of (with_recorders parts recorders) recorder reel_after files-served is in
+      let old = recording-of sounding parts recorder reel files was in
+      let new = recording-of sounding (with_recorders parts recorders) recorder reel_after (files-served parts recorders files many served) is in
       let it : ServedBy old.0 new.0 = served-at parts.recorders recorders recorder old.0 new.0 served old.1 new.1 in
       let first : it.keeps.tape ≡ reel.tape = same_Some it.keeps.tape reel.tape (sym it.keeps.was ∙ old.2) in
       let second : it.keeps.tape_after ≡ reel_after.tape = same_Some it.keeps.tape_after reel_after.tape (sym it.keeps.is ∙ new.2) in
       subst (λ (r : Reel). P r reel_after) (ap (reel_of reel.ring old.0) first ∙ old.3)
       (subst (λ (r : Reel). P (reel_of reel.ring old.0 it.keeps.tape) r) (ap (reel_of reel_after.ring new.0) second ∙ new.3) (holds old.0 new.0 it new.1))
 
-  pub serves-all : All IsUntorn recorders → Served (session_of parts) (session_of (with_recorders parts recorders))
+  pub serves-all : All IsUntorn recorders → Served (session_of sounding parts) (session_of sounding (with_recorders parts recorders))
   serves-all going = record {
     each = λ recorder reel reel_after was is. told-reel ServesReel recorder reel reel_after was is (λ old new it there.
         let whole = it.whole (going-of new it.keeps.tape_after it.keeps.is (all-there IsUntorn recorders recorder new going there).going) in
@@ -121,7 +124,7 @@ module _ (parts : Parts) (recorders : List Recording) (files : HasOpenFiles part
       going-of : (r : Recording) (tape : Tape) → r.tape ≡ Some tape → IfSome r.tape (λ (t : Tape). t.stopped ≡ false) → tape.stopped ≡ false
       going-of r tape is holds = subst (λ (o : Option Tape). IfSome o (λ (t : Tape). t.stopped ≡ false)) is holds
 
-  pub serves-some : ServedSome (session_of parts) (session_of (with_recorders parts recorders))
+  pub serves-some : ServedSome (session_of sounding parts) (session_of sounding (with_recorders parts recorders))
   serves-some = record {
     each = λ recorder reel reel_after was is. told-reel ReelEnds recorder reel reel_after was is (λ old new it there. ends reel.ring reel_after.ring old new it it.keeps.tape_after.stopped refl);
     getting = getting_same;

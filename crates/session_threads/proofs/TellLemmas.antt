@@ -2,6 +2,8 @@
 --     told-agrees      by the tapes of its session or by the stores that it holds, it is the same
 use Rattle.std.proofs.Common.{◌≡◌, ℕ, suc, List, [], ◌∷◌, map, filter_map, slice_get, Option, Some, None, refl, sym, ◌∙◌, ap, ap₂}
 use Rattle.std.specs.List.{cons_option}
+use Rattle.session_model.specs.Kinds.{Sound}
+use Rattle.client_kinds.specs.Scores.{Score}
 use Rattle.wave_write.specs.Tapes.{Tape}
 use Rattle.recorder_files.specs.Recorders.{Recording, Stored, held_in, held_or}
 use Rattle.serial_laws.specs.Faults.{bytes_in, told}
@@ -25,8 +27,8 @@ recorders-tell (one ∷ others) open_files =
     ap (λ (t : Option Tape). map (λ (tape : Tape). tape.bytes) (cons_option t (filter_map (λ (r : Recording). r.tape) others))) file.1
     ∙ ap₂ (λ (b : Option (List ℕ)) (bs : List (Option (List ℕ))). b ∷ bs) (sym first) rest
 
-pub told-agrees : (parts : Parts) → HasOpenFiles parts → told (session_of parts) ≡ told_of parts
-told-agrees parts files =
-    ap₂ (λ (b : Option (List ℕ)) (bs : List (Option (List ℕ))). record (session_of parts) { playback_file = b; record_files = bs })
+pub told-agrees : (sounding : Score → Sound) (parts : Parts) → HasOpenFiles parts → told (session_of sounding parts) ≡ told_of sounding parts
+told-agrees sounding parts files =
+    ap₂ (λ (b : Option (List ℕ)) (bs : List (Option (List ℕ))). record (session_of sounding parts) { playback_file = b; record_files = bs })
     (playback_tells parts.gear.playback ∙ ap (λ (s : Option Stored). bytes_of (held_or s parts.gear.playback)) (sym files.no_playback))
     (recorders-tell parts.recorders files.tapes)

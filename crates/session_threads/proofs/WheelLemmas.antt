@@ -5,7 +5,9 @@
 --     rose-later      a count that rose in it rose since the first
 use Rattle.std.proofs.Common.{◌≡◌, ℕ, ◌+◌, ◌<◌, ◌≤◌, Bool, true, length, length-append, refl, sym, ◌∙◌, ap, subst, arith}
 use Rattle.jack_host.specs.Causes.{Rose}
+use Rattle.session_model.specs.Kinds.{Sound}
 use Rattle.session_model.specs.Scripts.{Script, turns}
+use Rattle.client_kinds.specs.Scores.{Score}
 use Rattle.driver_laws.specs.Drivers.{run, turn_of}
 use Rattle.cycle_driver.specs.Gears.{Gear, driver_of}
 use Rattle.cycle_driver.specs.Runs.{AreNext}
@@ -16,12 +18,12 @@ use Rattle.thread_laws.specs.Segments.{WheeledOnce}
 use Rattle.session_threads.specs.Turnings.{AtDraining, AtEmptying, AtRead, AtWrite, Fails, Goes}
 use Rattle.session_threads.proofs.TurningLemmas.{EmptyBehindBlocks, IsNext, SoundBehindBlocks, SoundBehindCycle}
 
-pub next-wheel : (first gear : Gear) (cycles t : ℕ) (freewheel : Bool) → AreNext cycles freewheel (driver_of first) → t < cycles → run (driver_of gear) ≡ run (driver_of first) + t → gear.script ≡ first.script → gear.set ≡ first.set → IsNext gear freewheel
-next-wheel first gear cycles t freewheel next low count script set =
-    let place : run (driver_of gear) + 1 ≡ run (driver_of first) + t + 1 = omega (arith, count) in
+pub next-wheel : (sounding : Score → Sound) (first gear : Gear) (cycles t : ℕ) (freewheel : Bool) → AreNext cycles freewheel (driver_of sounding first) → t < cycles → run (driver_of sounding gear) ≡ run (driver_of sounding first) + t → gear.script ≡ first.script → gear.set ≡ first.set → IsNext sounding gear freewheel
+next-wheel sounding first gear cycles t freewheel next low count script set =
+    let place : run (driver_of sounding gear) + 1 ≡ run (driver_of sounding first) + t + 1 = omega (arith, count) in
     let left = next.left in
     record {
-      left = subst (λ (s : Script). run (driver_of gear) < length (turns s)) (sym script) (omega (arith, count, left, low));
+      left = subst (λ (s : Script). run (driver_of sounding gear) < length (turns s)) (sym script) (omega (arith, count, left, low));
       kind = (λ i. (turn_of (script i) (place i)).is_freewheel) ∙ next.kinds t low;
       period = (λ i. (turn_of (script i) (place i)).period) ∙ next.periods t low ∙ sym set;
     }

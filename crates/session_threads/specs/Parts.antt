@@ -1,12 +1,14 @@
 -- What contracts see of a session.
 --     Parts      its parts, as their own contracts see them
---     session_of parts      the session that they make, in the words of its laws
---     told_of parts      the same, with what all stores tell, in whatever state their files are
+--     session_of sounding parts      the session that they make, in the words of its laws, whose guests sound so by their scores
+--     told_of sounding parts      the same, with what all stores tell, in whatever state their files are
 --     stores_in parts      the stores that it holds, in the order of attaching
 --     AreLater before after      the same stores, later
 --     HasOpenFiles parts      each recorder has its file in the making, and no store came back
 use Rattle.std.specs.Prelude.{◌≡◌, ℕ, ◌≤◌, All, List, [], ◌∷◌, filter_map, length, map, slice_get, Option, None, Some, is_some}
 use Rattle.jack_host.specs.Causes.{Rose}
+use Rattle.session_model.specs.Kinds.{Sound}
+use Rattle.client_kinds.specs.Scores.{Score}
 use Rattle.wave_write.specs.Tapes.{Tape}
 use Rattle.control_desk.specs.Desks.{Desk}
 use Rattle.cycle_driver.specs.Gears.{Gear, driver_of}
@@ -27,22 +29,21 @@ bytes_of None = None
 bytes_of (Some stored) = stored.bytes
 
 -- there are no disks
-abbrev pub session_of : Parts → Session
-session_of parts = record {
+abbrev pub session_of : (sounding : Score → Sound) → Parts → Session
+session_of sounding parts = record {
   script = parts.gear.script;
   desk = parts.desk;
-  driver = driver_of parts.gear;
+  driver = driver_of sounding parts.gear;
   getting = map (λ (r : Recording). r.getting) parts.recorders;
   tapes = filter_map (λ (r : Recording). r.tape) parts.recorders;
   counts = map (λ (r : Recording). r.blocks) parts.recorders;
-  putting = [];
-  sources = [];
+  players = [];
   playback_file = bytes_of parts.playback;
   record_files = map (λ (r : Recording). bytes_of r.store) parts.recorders;
 }
 
-abbrev pub told_of : Parts → Session
-told_of parts = record (session_of parts) {
+abbrev pub told_of : (sounding : Score → Sound) → Parts → Session
+told_of sounding parts = record (session_of sounding parts) {
   playback_file = bytes_of (held_or parts.playback parts.gear.playback);
   record_files = map (λ (r : Recording). bytes_of (held_in r)) parts.recorders;
 }

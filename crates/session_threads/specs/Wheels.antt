@@ -1,7 +1,9 @@
 -- What the driver's thread of a freewheel segment did. No public clause cites this module.
---     HaveWheeled cycles gear recordings gear_after recordings_after ran      its cycles, however they came out, with the rings emptied around each
+--     HaveWheeled sounding cycles gear recordings gear_after recordings_after ran      its cycles, however they came out, with the rings emptied around each
 use Rattle.std.specs.Prelude.{◌≡◌, ℕ, ◌<◌, IsErrOf, List, OnErr, OnOk, Result}
 use Rattle.jack_host.specs.Causes.{Rose}
+use Rattle.session_model.specs.Kinds.{Sound}
+use Rattle.client_kinds.specs.Scores.{Score}
 use Rattle.control_desk.specs.Desks.{Desk}
 use Rattle.cycle_driver.specs.Gears.{Gear}
 use Rattle.recorder_files.specs.Recorders.{Recording}
@@ -24,10 +26,10 @@ pub record WheelBroke (cycles : ℕ) (session after : Session) : Type 0 where
   pub fails : WheelFailed kept wheeled after
 
 -- beside any desk
-pub record HaveWheeled (cycles : ℕ) (gear : Gear) (recordings : List Recording) (gear_after : Gear) (recordings_after : List Recording) (ran : Result (Unit {0}) SessionFault) : Type 0 where
-  pub wheeled : (desk : Desk) → IsSound (seen_with desk gear recordings) → OnOk ran (WheeledMany cycles (seen_with desk gear recordings) (seen_with desk gear_after recordings_after))
-  pub failed : (desk : Desk) → IsSound (seen_with desk gear recordings) → OnErr ran (WheelBroke cycles (seen_with desk gear recordings) (seen_with desk gear_after recordings_after))
-  pub stays : (desk : Desk) → Stays (parts_with desk gear recordings) (parts_with desk gear_after recordings_after)
+pub record HaveWheeled (sounding : Score → Sound) (cycles : ℕ) (gear : Gear) (recordings : List Recording) (gear_after : Gear) (recordings_after : List Recording) (ran : Result (Unit {0}) SessionFault) : Type 0 where
+  pub wheeled : (desk : Desk) → IsSound (seen_with sounding desk gear recordings) → OnOk ran (WheeledMany cycles (seen_with sounding desk gear recordings) (seen_with sounding desk gear_after recordings_after))
+  pub failed : (desk : Desk) → IsSound (seen_with sounding desk gear recordings) → OnErr ran (WheelBroke cycles (seen_with sounding desk gear recordings) (seen_with sounding desk gear_after recordings_after))
+  pub stays : (desk : Desk) → Stays sounding (parts_with desk gear recordings) (parts_with desk gear_after recordings_after)
   pub table : gear_after.reading.table ≡ gear.reading.table
   pub pairs : ArePaired gear recordings → ArePaired gear_after recordings_after
   pub read : IsErrOf ran Read → Rose gear.capture.reading.faults gear_after.capture.reading.faults

@@ -56,15 +56,15 @@ pub fn cycle<S: Source, W: Store, G: Guest + Send, T: Threads + Sync, K: Gate>(
     freewheel: bool,
     limits: Limits,
 ) -> Result<(), SessionFault>
-    requires able { AreAble driver.old recorders.old.items }
-    requires left { run (driver_of driver.old) < length (turns driver.old.script) }
-    requires kind { (turn_of driver.old.script (run (driver_of driver.old) + 1)).is_freewheel ≡ freewheel }
-    requires period { (turn_of driver.old.script (run (driver_of driver.old) + 1)).period ≡ driver.old.set }
+    requires able { AreAble G.sound driver.old recorders.old.items }
+    requires left { run (driver_of G.sound driver.old) < length (turns driver.old.script) }
+    requires kind { (turn_of driver.old.script (run (driver_of G.sound driver.old) + 1)).is_freewheel ≡ freewheel }
+    requires period { (turn_of driver.old.script (run (driver_of G.sound driver.old) + 1)).period ≡ driver.old.set }
     requires ring { limits.ring ≡ driver.old.script.header.ring }
     requires drain { limits.drain ≡ driver.old.script.header.drain }
-    ensures goes { (desk : DeskValue) → IsSound (seen_with desk driver.old recorders.old.items) → OnOk result (Goes freewheel (seen_with desk driver.old recorders.old.items) (seen_with desk driver.new recorders.new.items)) }
-    ensures fails { (desk : DeskValue) → IsSound (seen_with desk driver.old recorders.old.items) → OnErr result (Fails freewheel (seen_with desk driver.old recorders.old.items) (seen_with desk driver.new recorders.new.items)) }
-    ensures stays { (desk : DeskValue) → Stays (parts_with desk driver.old recorders.old.items) (parts_with desk driver.new recorders.new.items) }
+    ensures goes { (desk : DeskValue) → IsSound (seen_with G.sound desk driver.old recorders.old.items) → OnOk result (Goes freewheel (seen_with G.sound desk driver.old recorders.old.items) (seen_with G.sound desk driver.new recorders.new.items)) }
+    ensures fails { (desk : DeskValue) → IsSound (seen_with G.sound desk driver.old recorders.old.items) → OnErr result (Fails freewheel (seen_with G.sound desk driver.old recorders.old.items) (seen_with G.sound desk driver.new recorders.new.items)) }
+    ensures stays { (desk : DeskValue) → Stays G.sound (parts_with desk driver.old recorders.old.items) (parts_with desk driver.new recorders.new.items) }
     ensures set { driver.new.set ≡ driver.old.set }
     ensures table { driver.new.reading.table ≡ driver.old.reading.table }
     ensures pairs { ArePaired driver.old recorders.old.items → ArePaired driver.new recorders.new.items }
@@ -86,11 +86,11 @@ fn empty<S: Source, W: Store, G: Guest>(
     freewheel: bool,
     ring: u32,
 ) -> Result<(), SessionFault>
-    requires able { AreAble driver.old recorders.old.items }
+    requires able { AreAble G.sound driver.old recorders.old.items }
     requires ring { ring ≡ driver.old.script.header.ring }
-    ensures emptied { (desk : DeskValue) → IsSound (seen_with desk driver.old recorders.old.items) → OnOk result (Emptied freewheel (seen_with desk driver.old recorders.old.items) (seen_with desk driver.new recorders.new.items)) }
-    ensures broken { (desk : DeskValue) → IsSound (seen_with desk driver.old recorders.old.items) → OnErr result ((freewheel ≡ true) × BreakUp driver.old.script.header.ring (seen_with desk driver.old recorders.old.items) (seen_with desk driver.new recorders.new.items)) }
-    ensures stays { (desk : DeskValue) → Stays (parts_with desk driver.old recorders.old.items) (parts_with desk driver.new recorders.new.items) }
+    ensures emptied { (desk : DeskValue) → IsSound (seen_with G.sound desk driver.old recorders.old.items) → OnOk result (Emptied freewheel (seen_with G.sound desk driver.old recorders.old.items) (seen_with G.sound desk driver.new recorders.new.items)) }
+    ensures broken { (desk : DeskValue) → IsSound (seen_with G.sound desk driver.old recorders.old.items) → OnErr result ((freewheel ≡ true) × BreakUp driver.old.script.header.ring (seen_with G.sound desk driver.old recorders.old.items) (seen_with G.sound desk driver.new recorders.new.items)) }
+    ensures stays { (desk : DeskValue) → Stays G.sound (parts_with desk driver.old recorders.old.items) (parts_with desk driver.new recorders.new.items) }
     ensures driver { driver.new ≡ record driver.old { rings = driver.new.rings } }
     ensures pairs { ArePaired driver.old recorders.old.items → ArePaired driver.new recorders.new.items }
     ensures read { IsErrOf result SessionFault.Read → ⊥ }
@@ -109,10 +109,10 @@ fn drain<S: Source, W: Store, G: Guest>(
     recorders: &mut Vec<Recorder<W>>,
     most: u32,
 ) -> Result<(), SessionFault>
-    requires able { AreAble driver.old recorders.old.items }
-    ensures given { (desk : DeskValue) → IsSound (seen_with desk driver.old recorders.old.items) → OnOk result (GiveUp most (seen_with desk driver.old recorders.old.items) (seen_with desk driver.new recorders.new.items)) }
-    ensures broken { (desk : DeskValue) → IsSound (seen_with desk driver.old recorders.old.items) → OnErr result (BreakUp most (seen_with desk driver.old recorders.old.items) (seen_with desk driver.new recorders.new.items)) }
-    ensures stays { (desk : DeskValue) → Stays (parts_with desk driver.old recorders.old.items) (parts_with desk driver.new recorders.new.items) }
+    requires able { AreAble G.sound driver.old recorders.old.items }
+    ensures given { (desk : DeskValue) → IsSound (seen_with G.sound desk driver.old recorders.old.items) → OnOk result (GiveUp most (seen_with G.sound desk driver.old recorders.old.items) (seen_with G.sound desk driver.new recorders.new.items)) }
+    ensures broken { (desk : DeskValue) → IsSound (seen_with G.sound desk driver.old recorders.old.items) → OnErr result (BreakUp most (seen_with G.sound desk driver.old recorders.old.items) (seen_with G.sound desk driver.new recorders.new.items)) }
+    ensures stays { (desk : DeskValue) → Stays G.sound (parts_with desk driver.old recorders.old.items) (parts_with desk driver.new recorders.new.items) }
     ensures driver { driver.new ≡ record driver.old { rings = driver.new.rings } }
     ensures pairs { ArePaired driver.old recorders.old.items → ArePaired driver.new recorders.new.items }
     ensures read { IsErrOf result SessionFault.Read → ⊥ }
@@ -131,17 +131,17 @@ fn step<S: Source, W: Store, G: Guest + Send, T: Threads + Sync, K: Gate>(
     gate: &K,
     freewheel: bool,
 ) -> Result<(), SessionFault>
-    requires may { MayCycle (driver_of driver.old) freewheel }
-    ensures cycled { OnOk result (CyclesOnce (driver_of driver.old) (driver_of driver.new)) }
-    ensures at_read { IsErrOf result SessionFault.Read → FailsAtRead (driver_of driver.old) (driver_of driver.new) }
-    ensures at_write { IsErrOf result SessionFault.Write → FailsAtWrite (driver_of driver.old) (driver_of driver.new) }
+    requires may { MayCycle (driver_of G.sound driver.old) freewheel }
+    ensures cycled { OnOk result (CyclesOnce (driver_of G.sound driver.old) (driver_of G.sound driver.new)) }
+    ensures at_read { IsErrOf result SessionFault.Read → FailsAtRead (driver_of G.sound driver.old) (driver_of G.sound driver.new) }
+    ensures at_write { IsErrOf result SessionFault.Write → FailsAtWrite (driver_of G.sound driver.old) (driver_of G.sound driver.new) }
     ensures read { IsErrOf result SessionFault.Read → Rose driver.old.capture.reading.faults driver.new.capture.reading.faults }
     ensures write { IsErrOf result SessionFault.Write → (file : Tape) × (after : Tape) × (driver.old.playback ≡ Some file) × (driver.new.playback ≡ Some after) × SameFile file after × Rose file.faults after.faults }
     ensures capture { SameReading driver.old.capture.reading driver.new.capture.reading }
     ensures script { driver.new.script ≡ driver.old.script }
     ensures set { driver.new.set ≡ driver.old.set }
     ensures table { driver.new.reading.table ≡ driver.old.reading.table }
-    ensures rings { KeepsRings (driver_of driver.old) (driver_of driver.new) }
+    ensures rings { KeepsRings (driver_of G.sound driver.old) (driver_of G.sound driver.new) }
 {
     let number = u32::try_from(driver.numbers().len()).unwrap_or(u32::MAX);
     gate.before_cycle(number.saturating_add(1));

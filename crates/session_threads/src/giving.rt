@@ -43,10 +43,10 @@ pub(crate) fn give_up<S: Source, W: Store, G: Guest>(
     recorders: &mut Vec<Recorder<W>>,
     most: u32,
 ) -> Result<(), WriteFailed>
-    requires able { AreAble driver.old recorders.old.items }
-    ensures given { (desk : DeskValue) → IsSound (seen_with desk driver.old recorders.old.items) → OnOk result (GiveUp most (seen_with desk driver.old recorders.old.items) (seen_with desk driver.new recorders.new.items)) }
-    ensures broken { (desk : DeskValue) → IsSound (seen_with desk driver.old recorders.old.items) → OnErr result (BreakUp most (seen_with desk driver.old recorders.old.items) (seen_with desk driver.new recorders.new.items)) }
-    ensures stays { (desk : DeskValue) → Stays (parts_with desk driver.old recorders.old.items) (parts_with desk driver.new recorders.new.items) }
+    requires able { AreAble G.sound driver.old recorders.old.items }
+    ensures given { (desk : DeskValue) → IsSound (seen_with G.sound desk driver.old recorders.old.items) → OnOk result (GiveUp most (seen_with G.sound desk driver.old recorders.old.items) (seen_with G.sound desk driver.new recorders.new.items)) }
+    ensures broken { (desk : DeskValue) → IsSound (seen_with G.sound desk driver.old recorders.old.items) → OnErr result (BreakUp most (seen_with G.sound desk driver.old recorders.old.items) (seen_with G.sound desk driver.new recorders.new.items)) }
+    ensures stays { (desk : DeskValue) → Stays G.sound (parts_with desk driver.old recorders.old.items) (parts_with desk driver.new recorders.new.items) }
     ensures cause { (desk : DeskValue) → OnErr result (OneRose (stores_in (parts_with desk driver.old recorders.old.items)) (stores_in (parts_with desk driver.new recorders.new.items))) }
     ensures driver { driver.new ≡ record driver.old { rings = driver.new.rings } }
     ensures pairs { ArePaired driver.old recorders.old.items → ArePaired driver.new recorders.new.items }

@@ -61,12 +61,12 @@ pub(crate) fn run_beside<
     requires may { All MayServe recorders.items }
     requires few { length recorders.items < 256 }
     requires many { length driver.rings.rings ≡ length recorders.items }
-    requires next { AreNext cycles false (driver_of driver) }
-    requires going { IsGoing (driver_of driver) }
+    requires next { AreNext cycles false (driver_of G.sound driver) }
+    requires going { IsGoing (driver_of G.sound driver) }
     ensures passes { result.0.0.items ≡ passes.items }
     ensures many { length result.0.1.items ≡ length recorders.items }
     ensures served { AreServed recorders.items result.0.1.items }
-    ensures driven { (driven : Gear) × HasDriven cycles driver driven result.1.1 × (result.1.0 ≡ with_ends driven) }
+    ensures driven { (driven : Gear) × HasDriven G.sound cycles driver driven result.1.1 × (result.1.0 ≡ with_ends driven) }
 {
     let many = recorders.len() as u8;
     thread::join(
@@ -76,8 +76,8 @@ pub(crate) fn run_beside<
             ensures { (result.0.items ≡ passes.items) × (length result.1.items ≡ length recorders.items) × AreServed recorders.items result.1.items }
         { wait_beside(threads, wait, gate, turn, passes, made, recorders, over) },
         move || -> (Driver<S, W, G>, Result<(), CycleFault>)
-            requires { AreNext cycles false (driver_of driver) × IsGoing (driver_of driver) × (length driver.rings.rings ≡ many) }
-            ensures { (driven : Gear) × HasDriven cycles driver driven result.1 × (result.0 ≡ with_ends driven) }
+            requires { AreNext cycles false (driver_of G.sound driver) × IsGoing (driver_of G.sound driver) × (length driver.rings.rings ≡ many) }
+            ensures { (driven : Gear) × HasDriven G.sound cycles driver driven result.1 × (result.0 ≡ with_ends driven) }
         { drive(threads, gate, driver, cycles, many, over) },
     )
 }
@@ -141,9 +141,9 @@ fn drive<S: Source, W: Store, G: Guest + Send, T: Threads + Sync, K: Gate>(
     over: &AtomicBool,
 ) -> (Driver<S, W, G>, Result<(), CycleFault>)
     requires many { length driver.rings.rings ≡ recorders }
-    requires next { AreNext cycles false (driver_of driver) }
-    requires going { IsGoing (driver_of driver) }
-    ensures { (driven : Gear) × HasDriven cycles driver driven result.1 × (result.0 ≡ with_ends driven) }
+    requires next { AreNext cycles false (driver_of G.sound driver) }
+    requires going { IsGoing (driver_of G.sound driver) }
+    ensures { (driven : Gear) × HasDriven G.sound cycles driver driven result.1 × (result.0 ≡ with_ends driven) }
 {
     let ran = run_cycles(&mut driver, threads, gate, recorders, cycles, false);
     end_rings(&mut driver, recorders);
@@ -178,12 +178,12 @@ pub(crate) fn wheel_beside<
 )
     requires four { length passes.items ≡ 4 }
     requires open { All (IsOpen turn.now.table) passes.items }
-    requires able { AreAble deck.driver deck.recorders.items }
-    requires next { AreNext cycles true (driver_of deck.driver) }
+    requires able { AreAble G.sound deck.driver deck.recorders.items }
+    requires next { AreNext cycles true (driver_of G.sound deck.driver) }
     requires ring { limits.ring ≡ deck.driver.script.header.ring }
     requires drain { limits.drain ≡ deck.driver.script.header.drain }
     ensures passes { result.0.items ≡ passes.items }
-    ensures wheeled { HaveWheeled cycles deck.driver deck.recorders.items result.1.0.driver result.1.0.recorders.items result.1.1 }
+    ensures wheeled { HaveWheeled G.sound cycles deck.driver deck.recorders.items result.1.0.driver result.1.0.recorders.items result.1.1 }
 {
     thread::join(
         threads,
@@ -192,8 +192,8 @@ pub(crate) fn wheel_beside<
             ensures { result.items ≡ passes.items }
         { wait_alone(threads, wait, gate, turn, passes, made, over) },
         move || -> (Deck<S, W, G>, Result<(), SessionFault>)
-            requires { AreAble deck.driver deck.recorders.items × AreNext cycles true (driver_of deck.driver) × (limits.ring ≡ deck.driver.script.header.ring) × (limits.drain ≡ deck.driver.script.header.drain) }
-            ensures { HaveWheeled cycles deck.driver deck.recorders.items result.0.driver result.0.recorders.items result.1 }
+            requires { AreAble G.sound deck.driver deck.recorders.items × AreNext cycles true (driver_of G.sound deck.driver) × (limits.ring ≡ deck.driver.script.header.ring) × (limits.drain ≡ deck.driver.script.header.drain) }
+            ensures { HaveWheeled G.sound cycles deck.driver deck.recorders.items result.0.driver result.0.recorders.items result.1 }
         { wheel(threads, gate, deck, cycles, limits, over) },
     )
 }
@@ -225,11 +225,11 @@ fn wheel<S: Source, W: Store, G: Guest + Send, T: Threads + Sync, K: Gate>(
     limits: Limits,
     over: &AtomicBool,
 ) -> (Deck<S, W, G>, Result<(), SessionFault>)
-    requires able { AreAble deck.driver deck.recorders.items }
-    requires next { AreNext cycles true (driver_of deck.driver) }
+    requires able { AreAble G.sound deck.driver deck.recorders.items }
+    requires next { AreNext cycles true (driver_of G.sound deck.driver) }
     requires ring { limits.ring ≡ deck.driver.script.header.ring }
     requires drain { limits.drain ≡ deck.driver.script.header.drain }
-    ensures { HaveWheeled cycles deck.driver deck.recorders.items result.0.driver result.0.recorders.items result.1 }
+    ensures { HaveWheeled G.sound cycles deck.driver deck.recorders.items result.0.driver result.0.recorders.items result.1 }
 {
     let ran = wheel_cycles(
         &mut deck.driver,
@@ -254,13 +254,13 @@ fn wheel_cycles<S: Source, W: Store, G: Guest + Send, T: Threads + Sync, K: Gate
     cycles: u32,
     limits: Limits,
 ) -> Result<(), SessionFault>
-    requires able { AreAble driver.old recorders.old.items }
-    requires next { AreNext cycles true (driver_of driver.old) }
+    requires able { AreAble G.sound driver.old recorders.old.items }
+    requires next { AreNext cycles true (driver_of G.sound driver.old) }
     requires ring { limits.ring ≡ driver.old.script.header.ring }
     requires drain { limits.drain ≡ driver.old.script.header.drain }
-    ensures wheeled { (desk : DeskValue) → IsSound (seen_with desk driver.old recorders.old.items) → OnOk result (WheeledMany cycles (seen_with desk driver.old recorders.old.items) (seen_with desk driver.new recorders.new.items)) }
-    ensures failed { (desk : DeskValue) → IsSound (seen_with desk driver.old recorders.old.items) → OnErr result (WheelBroke cycles (seen_with desk driver.old recorders.old.items) (seen_with desk driver.new recorders.new.items)) }
-    ensures stays { (desk : DeskValue) → Stays (parts_with desk driver.old recorders.old.items) (parts_with desk driver.new recorders.new.items) }
+    ensures wheeled { (desk : DeskValue) → IsSound (seen_with G.sound desk driver.old recorders.old.items) → OnOk result (WheeledMany cycles (seen_with G.sound desk driver.old recorders.old.items) (seen_with G.sound desk driver.new recorders.new.items)) }
+    ensures failed { (desk : DeskValue) → IsSound (seen_with G.sound desk driver.old recorders.old.items) → OnErr result (WheelBroke cycles (seen_with G.sound desk driver.old recorders.old.items) (seen_with G.sound desk driver.new recorders.new.items)) }
+    ensures stays { (desk : DeskValue) → Stays G.sound (parts_with desk driver.old recorders.old.items) (parts_with desk driver.new recorders.new.items) }
     ensures table { driver.new.reading.table ≡ driver.old.reading.table }
     ensures pairs { ArePaired driver.old recorders.old.items → ArePaired driver.new recorders.new.items }
     ensures read { IsErrOf result SessionFault.Read → Rose driver.old.capture.reading.faults driver.new.capture.reading.faults }

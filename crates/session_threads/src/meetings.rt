@@ -17,7 +17,7 @@ use serial_lanes::{begin_group, round};
 /// Tells desk and driver how far the other has come.
 pub fn meet<S: Source, W: Store, G: Guest>(works: &mut Works<S, W, G>)
     requires { works.old.desk.publishing.table ≡ works.old.driver.reading.table }
-    ensures met { Met (seen works.old) (seen works.new) }
+    ensures met { Met (seen G.sound works.old) (seen G.sound works.new) }
     ensures desk { works.new.desk ≡ record works.old.desk { publishing = works.new.desk.publishing } }
     ensures driver { works.new.driver ≡ record works.old.driver { reading = works.new.driver.reading } }
     ensures recorders { works.new.recorders ≡ works.old.recorders }
@@ -34,7 +34,7 @@ pub(crate) fn begin<S: Source, W: Store, G: Guest>(
 )
     requires may { MayBegin works.old.desk phase }
     requires table { works.old.desk.publishing.table ≡ works.old.driver.reading.table }
-    ensures opens { Opens phase (seen works.old) (seen works.new) }
+    ensures opens { Opens phase (seen G.sound works.old) (seen G.sound works.new) }
     ensures phase { works.new.desk.phase ≡ suc phase }
     ensures group { IsDone works.new.desk 0 }
     ensures driver { works.new.driver ≡ record works.old.driver { reading = works.new.driver.reading; set = period } }
@@ -52,7 +52,7 @@ pub(crate) fn finish_lanes<S: Source, W: Store, G: Guest>(works: &mut Works<S, W
     requires table { works.old.desk.publishing.table ≡ works.old.driver.reading.table }
     requires begun { 1 ≤ works.old.desk.phase }
     requires group { IsDone works.old.desk 0 }
-    ensures filled { (heard : SessionValue) × Met (seen works.old) heard × Rounded heard (seen works.new) }
+    ensures filled { (heard : SessionValue) × Met (seen G.sound works.old) heard × Rounded heard (seen G.sound works.new) }
     ensures table { works.new.desk.publishing.table ≡ works.new.driver.reading.table }
     ensures driver { works.new.driver ≡ record works.old.driver { reading = works.new.driver.reading } }
     ensures recorders { works.new.recorders ≡ works.old.recorders }

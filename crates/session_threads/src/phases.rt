@@ -55,14 +55,14 @@ fn run_phase<
     limits: Limits,
 ) -> (Rig<S, W, G>, Result<(), SessionFault>)
     requires there { slice_get (the_segments rig.works.driver.script) phase ≡ Some segment }
-    requires sound { IsSound (seen rig.works) }
-    requires ran { RanPhases (seen rig.works) phase }
+    requires sound { IsSound (seen G.sound rig.works) }
+    requires ran { RanPhases (seen G.sound rig.works) phase }
     requires files { HasOpenFiles (parts_of rig.works) }
     requires ring { limits.ring ≡ rig.works.driver.script.header.ring }
     requires drain { limits.drain ≡ rig.works.driver.script.header.drain }
-    ensures whole { OnOk result.1 (ThreadSegment phase segment.cycles segment.is_freewheel (seen rig.works) (seen result.0.works)) }
-    ensures fault { OnErr result.1 ((kept : ℕ) × ThreadFault phase segment.cycles segment.is_freewheel kept (seen rig.works) (seen result.0.works)) }
-    ensures stays { Stays (parts_of rig.works) (parts_of result.0.works) }
+    ensures whole { OnOk result.1 (ThreadSegment phase segment.cycles segment.is_freewheel (seen G.sound rig.works) (seen G.sound result.0.works)) }
+    ensures fault { OnErr result.1 ((kept : ℕ) × ThreadFault phase segment.cycles segment.is_freewheel kept (seen G.sound rig.works) (seen G.sound result.0.works)) }
+    ensures stays { Stays G.sound (parts_of rig.works) (parts_of result.0.works) }
     ensures read { IsErrOf result.1 SessionFault.Read → Rose rig.works.driver.capture.reading.faults result.0.works.driver.capture.reading.faults }
     ensures write { IsErrOf result.1 SessionFault.Write → OneRose (held rig.works) (held result.0.works) }
 {
@@ -89,8 +89,8 @@ fn settle<S: Source, W: Store, G: Guest>(works: &mut Works<S, W, G>)
     requires group { IsDone works.old.desk 0 }
     requires pairs { ArePaired works.old.driver works.old.recorders.items }
     requires files { HasOpenFiles (parts_of works.old) }
-    ensures settled { Settles (seen works.old) (seen works.new) }
-    ensures stays { Stays (parts_of works.old) (parts_of works.new) }
+    ensures settled { Settles (seen G.sound works.old) (seen G.sound works.new) }
+    ensures stays { Stays G.sound (parts_of works.old) (parts_of works.new) }
 {
     finish_lanes(works);
     renew_rings(&mut works.driver, &mut works.recorders);
@@ -102,8 +102,8 @@ fn stop<S: Source, W: Store, G: Guest>(works: &mut Works<S, W, G>)
     requires table { works.old.desk.publishing.table ≡ works.old.driver.reading.table }
     requires pairs { ArePaired works.old.driver works.old.recorders.items }
     requires files { HasOpenFiles (parts_of works.old) }
-    ensures stopped { Stops (seen works.old) (seen works.new) }
-    ensures stays { Stays (parts_of works.old) (parts_of works.new) }
+    ensures stopped { Stops (seen G.sound works.old) (seen G.sound works.new) }
+    ensures stays { Stays G.sound (parts_of works.old) (parts_of works.new) }
 {
     renew_rings(&mut works.driver, &mut works.recorders);
     meet(works);
@@ -127,17 +127,17 @@ fn run_phases<
 ) -> (Rig<S, W, G>, Result<(), SessionFault>)
     requires segments { segments.now ≡ the_segments rig.works.driver.script }
     requires threads { IsSome rig.works.driver.script.header.threads }
-    requires sound { IsSound (seen rig.works) }
-    requires ran { RanPhases (seen rig.works) 0 }
+    requires sound { IsSound (seen G.sound rig.works) }
+    requires ran { RanPhases (seen G.sound rig.works) 0 }
     requires files { HasOpenFiles (parts_of rig.works) }
     requires ring { limits.ring ≡ rig.works.driver.script.header.ring }
     requires drain { limits.drain ≡ rig.works.driver.script.header.drain }
-    ensures sound { OnOk result.1 (IsSound (seen result.0.works)) }
-    ensures ran { OnOk result.1 (RanPhases (seen result.0.works) (length (the_phases result.0.works.driver.script))) }
-    ensures at { OnOk result.1 ((given : Given) → AtPhase (seen rig.works) given 0 → AtPhase (seen result.0.works) given (length (the_phases result.0.works.driver.script))) }
-    ensures fault { OnErr result.1 ((kept : ℕ) × ((given : Given) → AtPhase (seen rig.works) given 0 → StandsSoFar kept (told_of (parts_of result.0.works)) given)) }
+    ensures sound { OnOk result.1 (IsSound (seen G.sound result.0.works)) }
+    ensures ran { OnOk result.1 (RanPhases (seen G.sound result.0.works) (length (the_phases result.0.works.driver.script))) }
+    ensures at { OnOk result.1 ((given : Given) → AtPhase (seen G.sound rig.works) given 0 → AtPhase (seen G.sound result.0.works) given (length (the_phases result.0.works.driver.script))) }
+    ensures fault { OnErr result.1 ((kept : ℕ) × ((given : Given) → AtPhase (seen G.sound rig.works) given 0 → StandsSoFar kept (told_of G.sound (parts_of result.0.works)) given)) }
     ensures come { OnErr result.1 (HasCome result.0.works.driver.script result.0.works.desk.history result.0.works.driver.numbers) }
-    ensures stays { Stays (parts_of rig.works) (parts_of result.0.works) }
+    ensures stays { Stays G.sound (parts_of rig.works) (parts_of result.0.works) }
     ensures read { IsErrOf result.1 SessionFault.Read → Rose rig.works.driver.capture.reading.faults result.0.works.driver.capture.reading.faults }
     ensures write { IsErrOf result.1 SessionFault.Write → OneRose (held rig.works) (held result.0.works) }
 {
@@ -177,8 +177,8 @@ pub fn run_threads<
     segments: &[Segment],
     limits: Limits,
 ) -> (Rig<S, W, G>, Result<(), SessionFault>)
-    requires { MayRunThreads (parts_of rig.works) segments.now limits.ring limits.drain }
-    ensures { HasRunThreads (parts_of rig.works) (parts_of result.0.works) result.1 }
+    requires { MayRunThreads G.sound (parts_of rig.works) segments.now limits.ring limits.drain }
+    ensures { HasRunThreads G.sound (parts_of rig.works) (parts_of result.0.works) result.1 }
 {
     run_phases(rig, threads, wait, gate, segments, limits)
 }

@@ -20,8 +20,8 @@ pub(crate) fn renew_rings<S: Source, W: Store, G: Guest>(
     recorders: &mut Vec<Recorder<W>>,
 )
     requires pairs { ArePaired driver.old recorders.old.items }
-    ensures renewed { (desk : DeskValue) → Renewed (seen_with desk driver.old recorders.old.items) (seen_with desk driver.new recorders.new.items) }
-    ensures stays { (desk : DeskValue) → HasOpenFiles (parts_with desk driver.old recorders.old.items) → Stays (parts_with desk driver.old recorders.old.items) (parts_with desk driver.new recorders.new.items) }
+    ensures renewed { (desk : DeskValue) → Renewed (seen_with G.sound desk driver.old recorders.old.items) (seen_with G.sound desk driver.new recorders.new.items) }
+    ensures stays { (desk : DeskValue) → HasOpenFiles (parts_with desk driver.old recorders.old.items) → Stays G.sound (parts_with desk driver.old recorders.old.items) (parts_with desk driver.new recorders.new.items) }
     ensures driver { driver.new ≡ record driver.old { rings = record driver.old.rings { rings = driver.new.rings.rings } } }
 {
     for recorder in 0..recorders.len() {

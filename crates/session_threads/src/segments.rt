@@ -47,15 +47,15 @@ pub(crate) fn run_segment<
     segment: Segment,
     limits: Limits,
 ) -> (Rig<S, W, G>, Result<(), SessionFault>)
-    requires sound { IsSound (seen rig.works) }
+    requires sound { IsSound (seen G.sound rig.works) }
     requires files { HasOpenFiles (parts_of rig.works) }
     requires begun { (1 ≤ rig.works.desk.phase) × IsDone rig.works.desk 0 }
-    requires next { 0 < segment.cycles → AreNext segment.cycles segment.is_freewheel (driver_of rig.works.driver) }
+    requires next { 0 < segment.cycles → AreNext segment.cycles segment.is_freewheel (driver_of G.sound rig.works.driver) }
     requires ring { limits.ring ≡ rig.works.driver.script.header.ring }
     requires drain { limits.drain ≡ rig.works.driver.script.header.drain }
-    ensures whole { OnOk result.1 (Segmented segment.cycles segment.is_freewheel (seen rig.works) (seen result.0.works)) }
-    ensures fails { OnErr result.1 ((kept : ℕ) × SegmentFails segment.cycles segment.is_freewheel kept (seen rig.works) (seen result.0.works)) }
-    ensures stays { Stays (parts_of rig.works) (parts_of result.0.works) }
+    ensures whole { OnOk result.1 (Segmented segment.cycles segment.is_freewheel (seen G.sound rig.works) (seen G.sound result.0.works)) }
+    ensures fails { OnErr result.1 ((kept : ℕ) × SegmentFails segment.cycles segment.is_freewheel kept (seen G.sound rig.works) (seen G.sound result.0.works)) }
+    ensures stays { Stays G.sound (parts_of rig.works) (parts_of result.0.works) }
     ensures table { result.0.works.desk.publishing.table ≡ result.0.works.driver.reading.table }
     ensures phase { result.0.works.desk.phase ≡ rig.works.desk.phase }
     ensures group { OnOk result.1 (IsDone result.0.works.desk 0) }
@@ -89,13 +89,13 @@ fn run_bound<
     gate: &K,
     cycles: u32,
 ) -> (Rig<S, W, G>, Result<(), SessionFault>)
-    requires sound { IsSound (seen rig.works) }
+    requires sound { IsSound (seen G.sound rig.works) }
     requires files { HasOpenFiles (parts_of rig.works) }
     requires begun { (1 ≤ rig.works.desk.phase) × IsDone rig.works.desk 0 }
-    requires next { AreNext cycles false (driver_of rig.works.driver) }
-    ensures whole { OnOk result.1 (Segmented cycles false (seen rig.works) (seen result.0.works)) }
-    ensures fails { OnErr result.1 ((kept : ℕ) × SegmentFails cycles false kept (seen rig.works) (seen result.0.works)) }
-    ensures stays { Stays (parts_of rig.works) (parts_of result.0.works) }
+    requires next { AreNext cycles false (driver_of G.sound rig.works.driver) }
+    ensures whole { OnOk result.1 (Segmented cycles false (seen G.sound rig.works) (seen G.sound result.0.works)) }
+    ensures fails { OnErr result.1 ((kept : ℕ) × SegmentFails cycles false kept (seen G.sound rig.works) (seen G.sound result.0.works)) }
+    ensures stays { Stays G.sound (parts_of rig.works) (parts_of result.0.works) }
     ensures table { result.0.works.desk.publishing.table ≡ result.0.works.driver.reading.table }
     ensures phase { result.0.works.desk.phase ≡ rig.works.desk.phase }
     ensures group { OnOk result.1 (IsDone result.0.works.desk 0) }
@@ -165,15 +165,15 @@ fn run_free<
     cycles: u32,
     limits: Limits,
 ) -> (Rig<S, W, G>, Result<(), SessionFault>)
-    requires sound { IsSound (seen rig.works) }
+    requires sound { IsSound (seen G.sound rig.works) }
     requires files { HasOpenFiles (parts_of rig.works) }
     requires begun { (1 ≤ rig.works.desk.phase) × IsDone rig.works.desk 0 }
-    requires next { AreNext cycles true (driver_of rig.works.driver) }
+    requires next { AreNext cycles true (driver_of G.sound rig.works.driver) }
     requires ring { limits.ring ≡ rig.works.driver.script.header.ring }
     requires drain { limits.drain ≡ rig.works.driver.script.header.drain }
-    ensures whole { OnOk result.1 (Segmented cycles true (seen rig.works) (seen result.0.works)) }
-    ensures fails { OnErr result.1 ((kept : ℕ) × SegmentFails cycles true kept (seen rig.works) (seen result.0.works)) }
-    ensures stays { Stays (parts_of rig.works) (parts_of result.0.works) }
+    ensures whole { OnOk result.1 (Segmented cycles true (seen G.sound rig.works) (seen G.sound result.0.works)) }
+    ensures fails { OnErr result.1 ((kept : ℕ) × SegmentFails cycles true kept (seen G.sound rig.works) (seen G.sound result.0.works)) }
+    ensures stays { Stays G.sound (parts_of rig.works) (parts_of result.0.works) }
     ensures table { result.0.works.desk.publishing.table ≡ result.0.works.driver.reading.table }
     ensures phase { result.0.works.desk.phase ≡ rig.works.desk.phase }
     ensures group { OnOk result.1 (IsDone result.0.works.desk 0) }

@@ -10,6 +10,8 @@ use Rattle.jack_types.specs.declared.moments.Moment.{Moment}
 use Rattle.session_model.specs.Activation.{link_at, place_among}
 use Rattle.session_model.specs.Benches.{node_at}
 use Rattle.session_model.specs.Commands.{replay}
+use Rattle.session_model.specs.Kinds.{Sound}
+use Rattle.client_kinds.specs.Scores.{Score}
 use Rattle.port_registry.specs.Registered.{open_client, open_clients}
 use Rattle.cycle_plan.specs.Plans.{IsPlanned, Planned, links_of, nodes_of, opening_of, state_of_plan}
 use Rattle.client_kinds.specs.Standings.{HasGuest, Standing}
@@ -34,7 +36,7 @@ memory-same rack after owned s t same birth = go (owned_or_not owned.births birt
     go (inl o) = memory-owned after owned t o.0 birth o.1 ∙ ap (λ (x : Standing). Some x.memory) (same o.0) ∙ sym (memory-owned rack owned s o.0 birth o.1)
     go (inr n) = ap (option_map (λ (k : Remembered). k.memory)) (found_past owned.births after.benches owned.past birth n ∙ sym (found_past owned.births rack.benches owned.past birth n))
 
-module _ (last plan : Planned) (planned_last : IsPlanned last) (planned : IsPlanned plan) (base : plan.base ≡ last.base) (changes : plan.changes ≡ last.changes) where
+module _ (sounding : Score → Sound) (last plan : Planned) (planned_last : IsPlanned last) (planned : IsPlanned plan) (base : plan.base ≡ last.base) (changes : plan.changes ≡ last.changes) where
   same-state : state_of_plan plan ≡ state_of_plan last
   same-state = ap₂ (λ b cs. replay (opening_of b) cs) base changes
 
@@ -113,7 +115,7 @@ module _ (last plan : Planned) (planned_last : IsPlanned last) (planned : IsPlan
           routes = it.routes;
         })))
 
-    pub casts-on : Casts old last plan moment period new
+    pub casts-on : (Casts sounding) old last plan moment period new
     casts-on = record {
       wiring = wiring-new ∙ wiring ∙ sym same-wiring;
       seating = subst (λ o. IsSeating new.racked o) (sym owned) seating-new;

@@ -1,19 +1,19 @@
 -- A stage whose clients were cast and whose wires are filled plays its plan.
 --     plays      what the crew leaves in the benches is the plan's cycle
-use Rattle.std.proofs.Common.{◌≡◌, ◌≢◌, ℕ, ◌≤◌, ◌<◌, ◌==◌, ◌⊎◌, inl, inr, List, length, find, Some, None, option_map, refl, sym, ◌∙◌, ap, subst, arith}
+use Rattle.std.proofs.Common.{◌≡◌, ◌≢◌, ℕ, ◌≤◌, ◌<◌, ◌==◌, ◌⊎◌, inl, inr, List, length, find, Some, None, option_map, refl, sym, ◌∙◌, ap, subst, arith, map}
 use Rattle.std.specs.Prelude.{ℤ, unwrap_or}
 use Rattle.std.specs.List.{Contains}
 use Rattle.std.proofs.lemmas.Bool.{cases_lt, eqb-true}
 use Rattle.jack_types.specs.declared.kinds.Kind.{Kind}
 use Rattle.jack_types.specs.declared.kinds.Kind.TheVariants.{Pass, Gain, Mix, Delay, Tone, Click, Meter, Tape, Guest, Midiplay, Midithru, Midilog, Disk}
-use Rattle.jack_types.specs.declared.kinds.Score.{Score}
 use Rattle.jack_types.specs.declared.moments.Moment.{Moment}
 use Rattle.session_model.specs.Activation.{given_to, outgoing, sequential}
 use Rattle.session_model.specs.Benches.{Bench, IsReady, bench_after, bench_gives, node_at, task_of}
 use Rattle.session_model.specs.Courses.{Course}
 use Rattle.session_model.specs.Cycles.{Settled, player_born}
-use Rattle.session_model.specs.Kinds.{first}
+use Rattle.session_model.specs.Kinds.{Sound, first}
 use Rattle.session_model.specs.State.{OpenClient}
+use Rattle.client_kinds.specs.Scores.{Score}
 use Rattle.port_registry.specs.Registered.{open_clients}
 use Rattle.port_registry.proofs.PlaceLemmas.{find-none}
 use Rattle.cycle_plan.specs.Plans.{IsPlanned, Planned, state_of_plan}
@@ -66,16 +66,16 @@ with_score (Disk disk) standing scores e h scored = plain (Disk disk) standing s
 nat_cases : (a b : ℕ) → (a < b) ⊎ (b ≤ a)
 nat_cases a b = cases_lt a b
 
-module _ (course : Course) (old : Staged) (last plan : Planned) (moment : Moment) (period : ℕ) (channels : List (List ℤ)) (at : Settled)
-    (seating : IsSeating old.racked old.owned) (planned : IsPlanned plan) (settled : IsSettledOn old last plan moment period channels at)
-    (cast : Staged) (casts : Casts old last plan moment period cast) (scores_are : course.scores ≡ old.owned.scores)
+module _ (sounding : Score → Sound) (course : Course) (old : Staged) (last plan : Planned) (moment : Moment) (period : ℕ) (channels : List (List ℤ)) (at : Settled)
+    (seating : IsSeating old.racked old.owned) (planned : IsPlanned plan) (settled : (IsSettledOn sounding) old last plan moment period channels at)
+    (cast : Staged) (casts : (Casts sounding) old last plan moment period cast) (scores_are : course.scores ≡ map sounding old.owned.scores)
     (no_events : HasNoEvents at)
     (filled played : Racked) (sources : ℕ → List ℤ)
     (has_sources : (n : ℕ) → n < length plan.nodes → HasSources at (open_clients plan.nodes) (wired_of plan).joints n sources)
     (set : AreSet (wired_of plan) plan.links moment period sources (length plan.nodes) filled)
     (same_standing : (p : ℕ) → standing_at filled p ≡ standing_at cast.racked p) (idle : (p : ℕ) → length plan.nodes ≤ p → (bench_at filled p).kept.turn ≡ None)
     (crew : ℕ) (few : length plan.nodes ≤ crew)
-    (played_is : (n : ℕ) → n < crew → (bench_at played n).kept ≡ sequential kept_after kept_gives plan.links (λ n. (bench_at filled n).kept) n)
+    (played_is : (n : ℕ) → n < crew → (bench_at played n).kept ≡ sequential (kept_after sounding) (kept_gives sounding) plan.links (λ n. (bench_at filled n).kept) n)
     (played_other : (n : ℕ) → crew ≤ n → bench_at played n ≡ bench_at filled n)
     (no_past : HasNoPast (open_clients plan.nodes) old.owned) (old_kinds : (n : ℕ) → n < length plan.nodes → IsOldKind (node_at (open_clients plan.nodes) n).kind) (after_seating : IsSeating played cast.owned) (played_lengths : length played.benches ≡ length cast.racked.benches) where
   abbrev nodes : List OpenClient
@@ -84,9 +84,12 @@ module _ (course : Course) (old : Staged) (last plan : Planned) (moment : Moment
   abbrev scores : List Score
   scores = old.owned.scores
 
+  abbrev sounds : List Sound
+  sounds = map sounding scores
+
   -- with the MIDI ports of the node's client, and all that is connected there
   abbrev its_bench : ℕ → Kept → Bench
-  its_bench n kept = quiet at.graph nodes plan.links n (bench_in scores kept)
+  its_bench n kept = quiet at.graph nodes plan.links n (bench_in sounds kept)
 
   abbrev before : ℕ → Bench
   before n = its_bench n (bench_at filled n).kept
@@ -148,11 +151,11 @@ module _ (course : Course) (old : Staged) (last plan : Planned) (moment : Moment
           not_past past none = find-none (λ (kept : Remembered). kept.birth == birth) past (λ kept c t. none kept c (eqb-true kept.birth birth t))
 
       by_owner : ((p : ℕ) × (owner_at old.owned p ≡ Some birth)) ⊎ IsNobodys old.owned birth
-          → (standing_at cast.racked n).memory ≡ unwrap_or (memory_of old.racked old.owned birth) (first scores (node_at nodes n).kind)
+          → (standing_at cast.racked n).memory ≡ unwrap_or (memory_of old.racked old.owned birth) (first sounds (node_at nodes n).kind)
       by_owner (inl o) =
           ap (λ (s : Standing). s.memory) (casts.standings n o.0 h o.1)
-          ∙ ap (λ m. unwrap_or m (first scores (node_at nodes n).kind)) (sym (memory-owned old.racked old.owned seating o.0 birth o.1))
-      by_owner (inr none) = casts.fresh n h none ∙ ap (λ m. unwrap_or m (first scores (node_at nodes n).kind)) (sym (nothing none))
+          ∙ ap (λ m. unwrap_or m (first sounds (node_at nodes n).kind)) (sym (memory-owned old.racked old.owned seating o.0 birth o.1))
+      by_owner (inr none) = casts.fresh n h none ∙ ap (λ m. unwrap_or m (first sounds (node_at nodes n).kind)) (sym (nothing none))
 
   ready : IsReady course at nodes plan.links before
   ready = record { task = λ n h. task_is n (within n h); memory = λ n h. memory_is n (within n h) }
@@ -163,9 +166,9 @@ module _ (course : Course) (old : Staged) (last plan : Planned) (moment : Moment
   -- ---- played
 
   plays_of : (n : ℕ) → n < length plan.nodes → its_bench n (bench_at played n).kept ≡ sequential bench_after bench_gives plan.links before n
-  plays_of n h = ap (its_bench n) (played_is n (omega (arith, h, few))) ∙ sequential-quiet scores at.graph nodes plan.links (λ n. (bench_at filled n).kept) scores_of has_old_kind is_routed n
+  plays_of n h = ap (its_bench n) (played_is n (omega (arith, h, few))) ∙ (sequential-quiet sounding) scores at.graph nodes plan.links (λ n. (bench_at filled n).kept) scores_of has_old_kind is_routed n
 
-  remembered : (n : ℕ) → n < length plan.nodes → memory_of played cast.owned (node_at nodes n).birth ≡ Some (bench_in scores (bench_at played n).kept).memory
+  remembered : (n : ℕ) → n < length plan.nodes → memory_of played cast.owned (node_at nodes n).birth ≡ Some (bench_in sounds (bench_at played n).kept).memory
   remembered n h = memory-owned played cast.owned after_seating n (node_at nodes n).birth (casts.has n h).owner
 
   -- an idle bench stays as it is
@@ -173,7 +176,7 @@ module _ (course : Course) (old : Staged) (last plan : Planned) (moment : Moment
   stays p h = by_crew (nat_cases p crew)
     where
       by_crew : (p < crew) ⊎ (crew ≤ p) → (bench_at played p).kept ≡ (bench_at filled p).kept
-      by_crew (inl k) = played_is p k ∙ idle-kept (bench_at filled p).kept (given_to kept_after kept_gives plan.links (λ n. (bench_at filled n).kept) p) (idle p h)
+      by_crew (inl k) = played_is p k ∙ (idle-kept sounding) (bench_at filled p).kept (given_to (kept_after sounding) (kept_gives sounding) plan.links (λ n. (bench_at filled n).kept) p) (idle p h)
       by_crew (inr k) = ap (λ (b : Seen). b.kept) (played_other p k)
 
   others : (birth : ℕ) → player_born (state_of_plan plan) birth ≡ None → memory_of played cast.owned birth ≡ memory_of old.racked old.owned birth
@@ -195,7 +198,7 @@ module _ (course : Course) (old : Staged) (last plan : Planned) (moment : Moment
       by_owner (inr n) =
           ap (option_map (λ (k : Remembered). k.memory)) (found_past cast.owned.births played.benches cast.owned.past birth n ∙ sym (found_past cast.owned.births cast.racked.benches cast.owned.past birth n))
 
-  pub plays : (new : Staged) → new.racked ≡ played → new.owned ≡ cast.owned → PlaysPlan course old plan at new
+  pub plays : (new : Staged) → new.racked ≡ played → new.owned ≡ cast.owned → (PlaysPlan sounding) course old plan at new
   plays new rack owned = record {
     before = before;
     ready = ready;
@@ -204,11 +207,11 @@ module _ (course : Course) (old : Staged) (last plan : Planned) (moment : Moment
     others = λ birth none. memories birth ∙ others birth none;
   }
     where
-      is_bench : (n : ℕ) → bench_of new n ≡ bench_in scores (bench_at played n).kept
-      is_bench n = ap (λ s. bench_in s (bench_at new.racked n).kept) (ap (λ (o : Owned). o.scores) owned ∙ casts.scores) ∙ ap (λ (r : Racked). bench_in scores (bench_at r n).kept) rack
+      is_bench : (n : ℕ) → (bench_of sounding) new n ≡ bench_in sounds (bench_at played n).kept
+      is_bench n = ap (λ s. bench_in s (bench_at new.racked n).kept) (ap (map sounding) (ap (λ (o : Owned). o.scores) owned ∙ casts.scores)) ∙ ap (λ (r : Racked). bench_in sounds (bench_at r n).kept) rack
 
-      is_its_bench : (n : ℕ) → bench_on plan new n ≡ its_bench n (bench_at played n).kept
-      is_its_bench n = ap (λ state. quiet state nodes plan.links n (bench_of new n)) (sym settled.graph) ∙ ap (quiet at.graph nodes plan.links n) (is_bench n)
+      is_its_bench : (n : ℕ) → (bench_on sounding) plan new n ≡ its_bench n (bench_at played n).kept
+      is_its_bench n = ap (λ state. quiet state nodes plan.links n ((bench_of sounding) new n)) (sym settled.graph) ∙ ap (quiet at.graph nodes plan.links n) (is_bench n)
 
       memories : (birth : ℕ) → memory_of new.racked new.owned birth ≡ memory_of played cast.owned birth
       memories birth = ap (λ (o : Owned). memory_of new.racked o birth) owned ∙ ap (λ (r : Racked). memory_of r cast.owned birth) rack

@@ -10,12 +10,12 @@ use Rattle.std.proofs.lemmas.List.Quantifiers.{position-Some}
 use Rattle.jack_types.specs.declared.events.Event.{Event}
 use Rattle.jack_types.specs.declared.kinds.Kind.{Kind}
 use Rattle.jack_types.specs.declared.kinds.Kind.TheVariants.{Pass, Gain, Mix, Delay, Tone, Click, Meter, Tape, Guest, Midiplay, Midithru, Midilog, Disk}
-use Rattle.jack_types.specs.declared.kinds.Score.{Score}
 use Rattle.jack_types.specs.declared.moments.Moment.{Moment}
 use Rattle.session_model.specs.Activation.{outgoing}
 use Rattle.session_model.specs.Benches.{Part, Route as Carrying, Task, audio_part_of, marked_part, midi_part_of, node_at, task_of}
 use Rattle.session_model.specs.Courses.{Course}
 use Rattle.session_model.specs.Cycles.{Settled, audio_inputs, audio_outputs, edges_into, list_of, midi_inputs, midi_outputs}
+use Rattle.session_model.specs.Kinds.{Sound}
 use Rattle.session_model.specs.Samples.{below}
 use Rattle.session_model.specs.State.{Connection, OpenClient, OpenPort}
 use Rattle.session_laws.proofs.ActivationLemmas.{get_or-map_below}
@@ -282,7 +282,7 @@ no-list course Midithru h = refl
 no-list course Midilog h = refl
 no-list course (Disk disk) h = refl
 
-same-task : (scores : List Score) (moment : Moment) (frames : ℕ) (list list2 : List (ℕ × Event)) (kind kind2 : Kind) (sounds sounds2 : List (List (Part (List ℤ)))) (notes notes2 : List (List (Part (List Event)))) (audio audio2 midi : ℕ) (routes : List (List Carrying))
+same-task : (scores : List Sound) (moment : Moment) (frames : ℕ) (list list2 : List (ℕ × Event)) (kind kind2 : Kind) (sounds sounds2 : List (List (Part (List ℤ)))) (notes notes2 : List (List (Part (List Event)))) (audio audio2 midi : ℕ) (routes : List (List Carrying))
     → list ≡ list2 → kind ≡ kind2 → sounds ≡ sounds2 → notes ≡ notes2 → audio ≡ audio2
     → ◌≡◌ {A = Task} (record { scores = scores; list = list; kind = kind; moment = moment; frames = frames; audio_parts = sounds; midi_parts = notes; audio_count = audio; midi_count = midi; routes = routes })
     (record { scores = scores; list = list2; kind = kind2; moment = moment; frames = frames; audio_parts = sounds2; midi_parts = notes2; audio_count = audio2; midi_count = midi; routes = routes })

@@ -11,6 +11,8 @@ use Rattle.session_model.specs.Benches.{outputs_of}
 use Rattle.session_model.specs.Cycles.{Settled}
 use Rattle.session_model.specs.Driving.{kept_from}
 use Rattle.session_model.specs.Samples.{silence}
+use Rattle.session_model.specs.Kinds.{Sound}
+use Rattle.client_kinds.specs.Scores.{Score}
 use Rattle.session_laws.proofs.CycleLemmas.{find-contains}
 use Rattle.port_registry.proofs.RegisteredLemmas.{find_none-fresh}
 use Rattle.port_registry.specs.Registered.{open_clients}
@@ -47,20 +49,20 @@ read_within [] k a b h = absurd (omega (arith, h))
 read_within (x ∷ xs) zero a b h = refl
 read_within (x ∷ xs) (suc k) a b h = read_within xs k a b (omega (arith, h))
 
-module _ (old : Staged) (last plan : Planned) (moment : Moment) (period : ℕ) (channels : List (List ℤ)) (at : Settled)
+module _ (sounding : Score → Sound) (old : Staged) (last plan : Planned) (moment : Moment) (period : ℕ) (channels : List (List ℤ)) (at : Settled)
     (feedback : SetsFeedback last plan) (staffed : IsStaffed old last) (wired : old.wiring ≡ wired_of last)
-    (settled : IsSettledOn old last plan moment period channels at) (cast : Staged) (casts : Casts old last plan moment period cast)
+    (settled : (IsSettledOn sounding) old last plan moment period channels at) (cast : Staged) (casts : (Casts sounding) old last plan moment period cast)
     (captured : (joint : Joint) (channel : ℕ) → Contains (wired_of plan).joints joint → joint.origin ≡ Captured channel → channel < length channels)
     (given_within : (given : Given) → Contains (wired_of last).given given → given.output < (widths_at (wired_of last) given.node).outputs) where
   -- the samples of a kept output, as the definitions say
   abbrev before : ℕ → ℕ → List ℤ
-  before n output = kept_audio last plan old.period settled.at_last (bench_of old) period n output
+  before n output = kept_audio last plan old.period settled.at_last ((bench_of sounding) old) period n output
 
   is_before : (n output : ℕ) → at.before.audio (output_name at.graph (open_clients plan.nodes) n output) ≡ before n output
   is_before n output =
       ap (λ graph. at.before.audio (output_name graph (open_clients plan.nodes) n output)) settled.graph
       ∙ settled.before (output_name (state_of_plan plan) (open_clients plan.nodes) n output)
-      ∙ ap (λ nodes. (kept_from old.period (state_of_plan last) (outputs_of settled.at_last nodes (bench_of old)) (state_of_plan plan) period).audio (output_name (state_of_plan plan) (open_clients plan.nodes) n output)) staffed.nodes
+      ∙ ap (λ nodes. (kept_from old.period (state_of_plan last) (outputs_of settled.at_last nodes ((bench_of sounding) old)) (state_of_plan plan) period).audio (output_name (state_of_plan plan) (open_clients plan.nodes) n output)) staffed.nodes
 
   abbrev born : ℕ → Given → Bool
   born birth given = given.birth == birth
@@ -69,7 +71,7 @@ module _ (old : Staged) (last plan : Planned) (moment : Moment) (period : ℕ) (
   none_born : (joint : Joint) (n output birth : ℕ) → Contains (wired_of plan).joints joint → joint.origin ≡ Kept n output birth
       → find (born birth) (wired_of last).given ≡ None → before n output ≡ silence period
   none_born joint n output birth m o none =
-      feedback.silent joint n output birth m o (λ given c e. find_none-fresh (born birth) (wired_of last).given given none c (same given e)) old.period period settled.at_last (bench_of old) settled.graph_last
+      feedback.silent joint n output birth m o (λ given c e. find_none-fresh (born birth) (wired_of last).given given none c (same given e)) old.period period settled.at_last ((bench_of sounding) old) settled.graph_last
     where
       same : (given : Given) → given.birth ≡ birth → born birth given ≡ true
       same given e = eq-eqb given.birth birth e
@@ -79,9 +81,9 @@ module _ (old : Staged) (last plan : Planned) (moment : Moment) (period : ℕ) (
       → (given : Given) → find (born birth) (wired_of last).given ≡ Some given → (old.period == period) ≡ true
       → before n output ≡ slice_index_or (bench_at cast.racked n).kept.audio given.output []
   one_born joint n output birth m o given found same_period =
-      feedback.kept joint n output birth m o given inside is_birth old.period period settled.at_last (bench_of old) settled.graph_last
-      ∙ ap (λ c. if c then slice_index_or (bench_of old given.node).audio given.output (silence settled.at_last.frames) else silence period) same_period
-      ∙ read_within (bench_of old given.node).audio given.output (silence settled.at_last.frames) [] (subst (λ k. given.output < k) (sym sounded) (given_within given inside))
+      feedback.kept joint n output birth m o given inside is_birth old.period period settled.at_last ((bench_of sounding) old) settled.graph_last
+      ∙ ap (λ c. if c then slice_index_or ((bench_of sounding) old given.node).audio given.output (silence settled.at_last.frames) else silence period) same_period
+      ∙ read_within ((bench_of sounding) old given.node).audio given.output (silence settled.at_last.frames) [] (subst (λ k. given.output < k) (sym sounded) (given_within given inside))
       ∙ ap (λ audio. slice_index_or audio given.output []) (sym same_audio)
     where
       inside : Contains (wired_of last).given given
@@ -93,7 +95,7 @@ module _ (old : Staged) (last plan : Planned) (moment : Moment) (period : ℕ) (
       of_client : (given.node < length last.nodes) × (n < length plan.nodes) × ((node_at (open_clients last.nodes) given.node).birth ≡ (node_at (open_clients plan.nodes) n).birth)
       of_client = feedback.client joint n output birth m o given inside is_birth
 
-      sounded : length (bench_of old given.node).audio ≡ (widths_at (wired_of last) given.node).outputs
+      sounded : length ((bench_of sounding) old given.node).audio ≡ (widths_at (wired_of last) given.node).outputs
       sounded = staffed.sounded given.node of_client.0 ∙ ap (λ wiring. (widths_at wiring given.node).outputs) wired
 
       owner : owner_at old.owned given.node ≡ Some (node_at (open_clients plan.nodes) n).birth
@@ -121,8 +123,8 @@ module _ (old : Staged) (last plan : Planned) (moment : Moment) (period : ℕ) (
       by_period (inr f) None e =
           none_born joint n output birth m o e ∙ ap (kept_at (bench_at cast.racked n).kept.audio (silence period)) (sym (is_place.1 f.1))
       by_period (inr f) (Some given) e =
-          feedback.kept joint n output birth m o given (find-contains (born birth) (wired_of last).given given e) (eqb-true given.birth birth (find_passes (born birth) (wired_of last).given given e)) old.period period settled.at_last (bench_of old) settled.graph_last
-          ∙ ap (λ c. if c then slice_index_or (bench_of old given.node).audio given.output (silence settled.at_last.frames) else silence period) f.0
+          feedback.kept joint n output birth m o given (find-contains (born birth) (wired_of last).given given e) (eqb-true given.birth birth (find_passes (born birth) (wired_of last).given given e)) old.period period settled.at_last ((bench_of sounding) old) settled.graph_last
+          ∙ ap (λ c. if c then slice_index_or ((bench_of sounding) old given.node).audio given.output (silence settled.at_last.frames) else silence period) f.0
           ∙ ap (kept_at (bench_at cast.racked n).kept.audio (silence period)) (sym (is_place.1 f.1))
 
   pub source : (joint : Joint) (origin : Origin) → Contains (wired_of plan).joints joint → joint.origin ≡ origin → (place : Option ℕ) → IsPlaceOf place origin

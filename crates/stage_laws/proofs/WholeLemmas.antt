@@ -16,6 +16,8 @@ use Rattle.session_model.specs.Courses.{Course}
 use Rattle.session_model.specs.Cycles.{Settled, audio_outputs}
 use Rattle.session_model.specs.Samples.{silence}
 use Rattle.session_model.specs.State.{system_name}
+use Rattle.session_model.specs.Kinds.{Sound}
+use Rattle.client_kinds.specs.Scores.{Score}
 use Rattle.port_registry.specs.Registered.{open_clients}
 use Rattle.cycle_plan.specs.Plans.{Planned, state_of_plan}
 use Rattle.client_kinds.specs.Standings.{HasGuest, Standing}
@@ -48,31 +50,31 @@ same-bench-of before after e = subst (λ s. IsSameBench before s) (sym e) (recor
 same-bench : (standing : Standing) → IsSameBench standing standing
 same-bench standing = record { kind = refl; period = refl; score = refl; bare = λ b. b }
 
-module _ (old : Staged) (last plan : Planned) (moment : Moment) (period : ℕ) (channels : List (List ℤ)) (cast : Staged) (casts : Casts old last plan moment period cast)
-    (places : List (Option ℕ)) (filled : Racked) (fills : Fills cast plan moment period channels places filled) (crew : ℕ) (played : Racked) (performs : Performs filled plan crew played) where
+module _ (sounding : Score → Sound) (old : Staged) (last plan : Planned) (moment : Moment) (period : ℕ) (channels : List (List ℤ)) (cast : Staged) (casts : (Casts sounding) old last plan moment period cast)
+    (places : List (Option ℕ)) (filled : Racked) (fills : Fills cast plan moment period channels places filled) (crew : ℕ) (played : Racked) (performs : (Performs sounding) filled plan crew played) where
   abbrev given_at : ℕ → List (List Signal)
-  given_at p = given_to kept_after kept_gives plan.links (λ n. (bench_at filled n).kept) p
+  given_at p = given_to (kept_after sounding) (kept_gives sounding) plan.links (λ n. (bench_at filled n).kept) p
 
   -- each bench was played, or stays
-  by-place : (p : ℕ) → ((bench_at played p).kept ≡ kept_after (bench_at filled p).kept (given_at p)) ⊎ ((bench_at played p).kept ≡ (bench_at filled p).kept)
+  by-place : (p : ℕ) → ((bench_at played p).kept ≡ (kept_after sounding) (bench_at filled p).kept (given_at p)) ⊎ ((bench_at played p).kept ≡ (bench_at filled p).kept)
   by-place p = go (cases_lt p crew)
     where
-      go : (p < crew) ⊎ (crew ≤ p) → ((bench_at played p).kept ≡ kept_after (bench_at filled p).kept (given_at p)) ⊎ ((bench_at played p).kept ≡ (bench_at filled p).kept)
+      go : (p < crew) ⊎ (crew ≤ p) → ((bench_at played p).kept ≡ (kept_after sounding) (bench_at filled p).kept (given_at p)) ⊎ ((bench_at played p).kept ≡ (bench_at filled p).kept)
       go (inl h) = inl (performs.each p h)
       go (inr h) = inr (ap (λ (b : Seen). b.kept) (performs.others p h))
 
   stays-idle : (p : ℕ) → length plan.nodes ≤ p → (bench_at played p).kept ≡ (bench_at filled p).kept
   stays-idle p h = go (by-place p)
     where
-      go : ((bench_at played p).kept ≡ kept_after (bench_at filled p).kept (given_at p)) ⊎ ((bench_at played p).kept ≡ (bench_at filled p).kept) → (bench_at played p).kept ≡ (bench_at filled p).kept
-      go (inl e) = e ∙ idle-kept (bench_at filled p).kept (given_at p) (fills.idle p h)
+      go : ((bench_at played p).kept ≡ (kept_after sounding) (bench_at filled p).kept (given_at p)) ⊎ ((bench_at played p).kept ≡ (bench_at filled p).kept) → (bench_at played p).kept ≡ (bench_at filled p).kept
+      go (inl e) = e ∙ (idle-kept sounding) (bench_at filled p).kept (given_at p) (fills.idle p h)
       go (inr e) = e
 
   same-played : (p : ℕ) → IsSameBench (standing_at cast.racked p) (standing_at played p)
   same-played p = subst (λ s. IsSameBench s (standing_at played p)) (fills.standings p) (go (by-place p))
     where
-      go : ((bench_at played p).kept ≡ kept_after (bench_at filled p).kept (given_at p)) ⊎ ((bench_at played p).kept ≡ (bench_at filled p).kept) → IsSameBench (standing_at filled p) (standing_at played p)
-      go (inl e) = subst (λ (k : Kept). IsSameBench (standing_at filled p) k.standing) (sym e) (IsSameBench-played (bench_at filled p).kept (given_at p))
+      go : ((bench_at played p).kept ≡ (kept_after sounding) (bench_at filled p).kept (given_at p)) ⊎ ((bench_at played p).kept ≡ (bench_at filled p).kept) → IsSameBench (standing_at filled p) (standing_at played p)
+      go (inl e) = subst (λ (k : Kept). IsSameBench (standing_at filled p) k.standing) (sym e) ((IsSameBench-played sounding) (bench_at filled p).kept (given_at p))
       go (inr e) = subst (λ (k : Kept). IsSameBench (standing_at filled p) k.standing) (sym e) (same-bench (standing_at filled p))
 
   lengths : length played.benches ≡ length cast.racked.benches
@@ -94,7 +96,7 @@ module _ (old : Staged) (last plan : Planned) (moment : Moment) (period : ℕ) (
   pub sounded-played : (n : ℕ) → n < length plan.nodes → length (bench_at played n).kept.audio ≡ (widths_at (wired_of plan) n).outputs
   sounded-played n h =
       ap (λ (k : Kept). length k.audio) (performs.each n (omega (arith, h, performs.few)))
-      ∙ audio-played (bench_at filled n).kept (given_at n) (turn_of (wired_of plan) plan.links moment period n) (fills.set n h).turn
+      ∙ (audio-played sounding) (bench_at filled n).kept (given_at n) (turn_of (wired_of plan) plan.links moment period n) (fills.set n h).turn
 
   pub unfed-played : (p : ℕ) → (standing_at played p).memory.fed ≡ []
   unfed-played p = go (by-place p)
@@ -102,8 +104,8 @@ module _ (old : Staged) (last plan : Planned) (moment : Moment) (period : ℕ) (
       before : (standing_at filled p).memory.fed ≡ []
       before = ap (λ (s : Standing). s.memory.fed) (fills.standings p) ∙ casts.unfed p
 
-      go : ((bench_at played p).kept ≡ kept_after (bench_at filled p).kept (given_at p)) ⊎ ((bench_at played p).kept ≡ (bench_at filled p).kept) → (standing_at played p).memory.fed ≡ []
-      go (inl e) = ap (λ (k : Kept). k.standing.memory.fed) e ∙ empty-kept (bench_at filled p).kept (given_at p) before
+      go : ((bench_at played p).kept ≡ (kept_after sounding) (bench_at filled p).kept (given_at p)) ⊎ ((bench_at played p).kept ≡ (bench_at filled p).kept) → (standing_at played p).memory.fed ≡ []
+      go (inl e) = ap (λ (k : Kept). k.standing.memory.fed) e ∙ (empty-kept sounding) (bench_at filled p).kept (given_at p) before
       go (inr e) = ap (λ (k : Kept). k.standing.memory.fed) e ∙ before
 
   pub idle-played : (p : ℕ) → length plan.nodes ≤ p → (bench_at played p).kept.turn ≡ None
@@ -161,7 +163,7 @@ module _ (old : Staged) (last plan : Planned) (moment : Moment) (period : ℕ) (
   -- ---- what was played
 
   module _ (course : Course) (at : Settled) (seating : IsSeating old.racked old.owned) (wired_last : old.wiring ≡ wired_of last) (staffed : IsStaffed old last) (goes : GoesOn last plan) (feedback : SetsFeedback last plan)
-      (settled : IsSettledOn old last plan moment period channels at) (scores_are : course.scores ≡ old.owned.scores)
+      (settled : (IsSettledOn sounding) old last plan moment period channels at) (scores_are : course.scores ≡ map sounding old.owned.scores)
       (no_events : HasNoEvents at) (as_many : length channels ≡ length (audio_outputs (state_of_plan plan) system_name)) (are_places : ArePlaces old cast period places) (no_past : HasNoPast (open_clients plan.nodes) old.owned)
       (old_kinds : (n : ℕ) → n < length plan.nodes → IsOldKind (node_at (open_clients plan.nodes) n).kind) where
     place-of : (i : ℕ) → i < length (wired_of plan).joints → old.period ≡ period → slice_index_or places i None ≡ last_place (wired_of last).given (joint_at (wired_of plan).joints i)
@@ -171,13 +173,13 @@ module _ (old : Staged) (last plan : Planned) (moment : Moment) (period : ℕ) (
 
     sources-are : (n : ℕ) → n < length plan.nodes → HasSources at (open_clients plan.nodes) (wired_of plan).joints n (known_at cast.racked channels (silence period) places (wired_of plan).joints)
     sources-are n h i within of_node =
-        source old last plan moment period channels at feedback staffed wired_last settled cast casts
+        (source sounding) old last plan moment period channels at feedback staffed wired_last settled cast casts
         (λ joint channel m o. subst (λ k. channel < k) (sym as_many) (captured-within plan goes.planned joint channel m o))
         (given-within last goes.planned_last)
         (joint_at (wired_of plan).joints i) (joint_at (wired_of plan).joints i).origin (i, within, get_or_default (wired_of plan).joints i (joint_at (wired_of plan).joints i) (record { node = 0; input = 0; origin = Captured 0 }) within) refl
         (slice_index_or places i None) (λ same. place-of i within same, λ other. are_places.other other i)
 
-    pub plan-played : (new : Staged) → new.racked ≡ played → new.owned ≡ cast.owned → PlaysPlan course old plan at new
+    pub plan-played : (new : Staged) → new.racked ≡ played → new.owned ≡ cast.owned → (PlaysPlan sounding) course old plan at new
     plan-played new rack owned =
-        plays course old last plan moment period channels at seating goes.planned settled cast casts scores_are no_events filled played
+        (plays sounding) course old last plan moment period channels at seating goes.planned settled cast casts scores_are no_events filled played
         (known_at cast.racked channels (silence period) places (wired_of plan).joints) sources-are fills.set fills.standings fills.idle crew performs.few performs.each performs.others no_past old_kinds seating-played lengths new rack owned

@@ -10,6 +10,8 @@ use Rattle.session_model.specs.Activation.{sequential}
 use Rattle.session_model.specs.Benches.{node_at}
 use Rattle.session_model.specs.Kinds.{first}
 use Rattle.session_model.specs.Samples.{silence}
+use Rattle.session_model.specs.Kinds.{Sound}
+use Rattle.client_kinds.specs.Scores.{Score}
 use Rattle.port_registry.specs.Registered.{open_clients}
 use Rattle.cycle_plan.specs.Plans.{Planned}
 use Rattle.client_benches.specs.Seen.{kept_after, kept_gives}
@@ -21,7 +23,7 @@ use Rattle.client_seats.specs.Owners.{owner_at}
 use Rattle.client_seats.specs.Seatings.{HasBench, HavePeriod, IsNobodys, IsSeating, memory_of, standing_at}
 use Rattle.stage_laws.specs.Stages.{Staged}
 
-pub record Casts (old : Staged) (last plan : Planned) (moment : Moment) (period : ℕ) (new : Staged) : Type 0 where
+pub record Casts (sounding : Score → Sound) (old : Staged) (last plan : Planned) (moment : Moment) (period : ℕ) (new : Staged) : Type 0 where
   pub wiring : new.wiring ≡ wired_of plan
   pub seating : IsSeating new.racked new.owned
   pub periods : HavePeriod new.racked new.room
@@ -34,7 +36,7 @@ pub record Casts (old : Staged) (last plan : Planned) (moment : Moment) (period 
   pub joints : AreJoints (length plan.nodes) new.wiring.joints
   pub standings : (n p : ℕ) → n < length plan.nodes → owner_at old.owned p ≡ Some (node_at (open_clients plan.nodes) n).birth → standing_at new.racked n ≡ standing_at old.racked p
   pub audio : (n p : ℕ) → n < length plan.nodes → owner_at old.owned p ≡ Some (node_at (open_clients plan.nodes) n).birth → (bench_at new.racked n).kept.audio ≡ (bench_at old.racked p).kept.audio
-  pub fresh : (n : ℕ) → n < length plan.nodes → IsNobodys old.owned (node_at (open_clients plan.nodes) n).birth → (standing_at new.racked n).memory ≡ first old.owned.scores (node_at (open_clients plan.nodes) n).kind
+  pub fresh : (n : ℕ) → n < length plan.nodes → IsNobodys old.owned (node_at (open_clients plan.nodes) n).birth → (standing_at new.racked n).memory ≡ first (map sounding old.owned.scores) (node_at (open_clients plan.nodes) n).kind
   pub others : (birth : ℕ) → ((n : ℕ) → n < length plan.nodes → (node_at (open_clients plan.nodes) n).birth ≡ birth → ⊥) → memory_of new.racked new.owned birth ≡ memory_of old.racked old.owned birth
   pub scores : new.owned.scores ≡ old.owned.scores
   pub last_is : new.last ≡ map (last_place (wired_of last).given) new.wiring.joints
@@ -57,9 +59,9 @@ pub record Fills (cast : Staged) (plan : Planned) (moment : Moment) (period : �
   pub lengths : length filled.benches ≡ length cast.racked.benches
 
 -- a crew of so many nodes plays the first benches, and leaves all others
-pub record Performs (filled : Racked) (plan : Planned) (crew : ℕ) (played : Racked) : Type 0 where
+pub record Performs (sounding : Score → Sound) (filled : Racked) (plan : Planned) (crew : ℕ) (played : Racked) : Type 0 where
   pub few : length plan.nodes ≤ crew
-  pub each : (n : ℕ) → n < crew → (bench_at played n).kept ≡ sequential kept_after kept_gives plan.links (λ n. (bench_at filled n).kept) n
+  pub each : (n : ℕ) → n < crew → (bench_at played n).kept ≡ sequential (kept_after sounding) (kept_gives sounding) plan.links (λ n. (bench_at filled n).kept) n
   pub others : (n : ℕ) → crew ≤ n → bench_at played n ≡ bench_at filled n
   pub lengths : length played.benches ≡ length filled.benches
 

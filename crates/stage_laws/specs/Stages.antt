@@ -3,10 +3,12 @@
 --     bench_of staged n      the bench of a node, without MIDI
 --     bench_on plan staged n      the bench of a node of a plan as the definitions see it
 --     IsStaffed staged plan      each client of a plan has its bench, which is set for it
-use Rattle.std.specs.Prelude.{◌≡◌, ℕ, ◌<◌, Bool, List, length, ℤ, Option}
+use Rattle.std.specs.Prelude.{◌≡◌, ℕ, ◌<◌, Bool, List, length, ℤ, Option, map}
 use Rattle.jack_types.specs.declared.moments.Moment.{Moment}
 use Rattle.jack_types.specs.declared.ports.Client.{Client}
 use Rattle.session_model.specs.Benches.{Bench}
+use Rattle.session_model.specs.Kinds.{Sound}
+use Rattle.client_kinds.specs.Scores.{Score}
 use Rattle.port_registry.specs.Registered.{open_clients}
 use Rattle.cycle_plan.specs.Plans.{Planned, state_of_plan}
 use Rattle.client_benches.specs.Seen.{bench_in}
@@ -32,12 +34,12 @@ pub record Staged : Type 0 where
   pub period : ℕ
   pub is_staffed : Bool
 
-abbrev pub bench_of : Staged → ℕ → Bench
-bench_of staged n = bench_in staged.owned.scores (bench_at staged.racked n).kept
+abbrev pub bench_of : (sounding : Score → Sound) → Staged → ℕ → Bench
+bench_of sounding staged n = bench_in (map sounding staged.owned.scores) (bench_at staged.racked n).kept
 
 -- at the MIDI ports of the node's client no event comes in, and none goes out
-abbrev pub bench_on : Planned → Staged → ℕ → Bench
-bench_on plan staged n = quiet (state_of_plan plan) (open_clients plan.nodes) plan.links n (bench_of staged n)
+abbrev pub bench_on : (sounding : Score → Sound) → Planned → Staged → ℕ → Bench
+bench_on sounding plan staged n = quiet (state_of_plan plan) (open_clients plan.nodes) plan.links n ((bench_of sounding) staged n)
 
 -- the benches of the plan's nodes are their clients' and set for the cycle that was played, with as many outputs as their clients
 pub record IsStaffed (staged : Staged) (plan : Planned) : Type 0 where

@@ -6,7 +6,7 @@ play-requires-clause-rooms g c κs within = have_front c.nodes-nodes.result c.ar
 
 pub returns-clause-played : goal.returns-clause-played
 returns-clause-played g c =
-    played-front c.args.ensemble.now.nodes c.nodes-nodes.result c.args.benches.now c.play.new.benches c.requires.count c.nodes-nodes.ensures c.play.ensures.count c.args.links.now c.requires.links.0 c.play.ensures.played
+    played-front c.args.ensemble.now.nodes c.nodes-nodes.result c.args.benches.now c.play.new.benches c.requires.count c.nodes-nodes.ensures c.play.ensures.count g.G.Guest.sound c.args.links.now c.requires.links.0 c.play.ensures.played
 
 pub returns-clause-rooms : goal.returns-clause-rooms
 returns-clause-rooms g c =

@@ -17,17 +17,17 @@ use Rattle.check_command.proofs.checking.decide.Goals as goal
 pub returns-in_err-script-clause-fault : goal.returns-in_err-script-clause-fault
 returns-in_err-script-clause-fault g c =
     let failed = err_from_is_err_and c.from_residual.result c.from_residual.ensures.1 in
-    let scores = map g.G.Guest.score c.args.guests.items in
+    let scores = map g.G.Guest.sound (map g.G.Guest.score c.args.guests.items) in
     rw (failed.1, failed.2)
     (subst (λ (play : Play). OpeningStatus (g.H.Host.files c.args.host.now) scores play c.in_err-script.field-0.0) (ap (λ (k : Check). k.play) c.names.view_is)
-    (c.in_err-script.ensures.fault scores (length-map c.args.guests.items g.G.Guest.score ∙ sym c.args.guests.ok.0 ∙ sym c.len.ensures)))
+    (c.in_err-script.ensures.fault scores (length-map (map g.G.Guest.score c.args.guests.items) g.G.Guest.sound ∙ length-map c.args.guests.items g.G.Guest.score ∙ sym c.args.guests.ok.0 ∙ sym c.len.ensures)))
 
 pub returns-in_err-script-clause-read : goal.returns-in_err-script-clause-read
 returns-in_err-script-clause-read g c = λ e.
     let failed = err_from_is_err_and c.from_residual.result c.from_residual.ensures.1 in
-    let scores = map g.G.Guest.score c.args.guests.items in
+    let scores = map g.G.Guest.sound (map g.G.Guest.score c.args.guests.items) in
     elim (c.in_err-script.ensures.read (ap (λ (status : Status). Err status) (sym failed.2 ∙ one_err c.from_residual.result failed.0 ReadFault failed.1 e)) scores
-    (length-map c.args.guests.items g.G.Guest.score ∙ sym c.args.guests.ok.0 ∙ sym c.len.ensures)) [
+    (length-map (map g.G.Guest.score c.args.guests.items) g.G.Guest.sound ∙ length-map c.args.guests.items g.G.Guest.score ∙ sym c.args.guests.ok.0 ∙ sym c.len.ensures)) [
       | inl rose ↦ inl rose
       | inr lacks ↦ inr (inl (subst (λ (play : Play). LacksInput (g.H.Host.files c.args.host.now) scores play) (ap (λ (k : Check). k.play) c.names.view_is) lacks))
     ]
@@ -37,8 +37,8 @@ returns-in-Err-clause-read g c = λ e.
     let kept = c.in_ok-script.ensures.kept in
     let later = c.back.ensures.reads.later in
     let files = g.H.Host.files c.args.host.now in
-    let scores = map g.G.Guest.score c.args.guests.items in
-    let gives = c.in_ok-script.ensures.opened scores (length-map c.args.guests.items g.G.Guest.score ∙ sym c.args.guests.ok.0 ∙ sym c.len.ensures) in
+    let scores = map g.G.Guest.sound (map g.G.Guest.score c.args.guests.items) in
+    let gives = c.in_ok-script.ensures.opened scores (length-map (map g.G.Guest.score c.args.guests.items) g.G.Guest.sound ∙ length-map c.args.guests.items g.G.Guest.score ∙ sym c.args.guests.ok.0 ∙ sym c.len.ensures) in
     elim (c.in-Err.ensures.read (ap (λ (status : Status). Err status) (one_err (Err c.in-Err.status) c.in-Err.status ReadFault refl e))) [
       | inl rose ↦ inl (omega (arith, kept, rose, later))
       | inr lacks ↦ inr (inr (
@@ -53,8 +53,8 @@ check-checked-requires-clause-fresh g c κs within = (c.in-Ok.ensures.fresh.1.un
 pub returns-clause-verdict : goal.returns-clause-verdict
 returns-clause-verdict g c =
     let files = g.H.Host.files c.args.host.now in
-    let scores = map g.G.Guest.score c.args.guests.items in
-    let gives = c.in_ok-script.ensures.opened scores (length-map c.args.guests.items g.G.Guest.score ∙ sym c.args.guests.ok.0 ∙ sym c.len.ensures) in
+    let scores = map g.G.Guest.sound (map g.G.Guest.score c.args.guests.items) in
+    let gives = c.in_ok-script.ensures.opened scores (length-map (map g.G.Guest.score c.args.guests.items) g.G.Guest.sound ∙ length-map c.args.guests.items g.G.Guest.score ∙ sym c.args.guests.ok.0 ∙ sym c.len.ensures) in
     verdict-told files scores c.args.names.now c.in_ok-script.field-0.script c.in_ok-script.field-0.capture.left _ _ _
     (gives-named files scores c.args.names.now _ c.in_ok-script.field-0.script c.in_ok-script.field-0.capture.left (ap (λ (k : Check). k.play) c.names.view_is) gives)
     (written-named files (g.H.Host.files c.open_inputs.new.host) c.args.names.now _ _ _ _ _ (ap (λ (k : Check). k.report) c.names.view_is) (ap (λ (k : Check). k.play) c.names.view_is) c.in_ok-script.ensures.files c.in-Ok.ensures.opened)

@@ -1,4 +1,4 @@
-use Rattle.std.proofs.Common.{◌≡◌, ◌∙◌, refl, sym, ap, subst, true≢false, false, []}
+use Rattle.std.proofs.Common.{◌≡◌, ◌∙◌, refl, sym, ap, subst, true≢false, false, [], map}
 use Rattle.std.specs.Option.{option_map_or}
 use Rattle.client_kinds.specs.Benches.{standing}
 use Rattle.client_kinds.specs.Buffers.{buffers_of}
@@ -11,7 +11,7 @@ use Rattle.client_kinds.proofs.benches.play_parts.Goals as goal
 
 pub returns-in-Guest-clause-output : goal.returns-in-Guest-clause-output
 returns-in-Guest-clause-output g c scores h =
-    guest_path scores c.in-Guest.guest c.args.voice.now c.args.seat.now.seated (standing c.args.voice.now c.args.seat.now.seated) c.args.ports.outputs c.args.moment.now c.args.ports.period
+    guest_path g.G.Guest.sound scores c.in-Guest.guest c.args.voice.now c.args.seat.now.seated (standing c.args.voice.now c.args.seat.now.seated) c.args.ports.outputs c.args.moment.now c.args.ports.period
     (buffers_of c.args.ports.inputs c.args.ports.period c.args.input.now) (buffers_of c.args.ports.outputs c.args.ports.period c.play.new.output) refl (sym c.kind.ensures ∙ c.in-Guest.is) c.requires.guest h c.play.ensures.output
 
 pub returns-in_default : goal.returns-in_default
@@ -25,10 +25,10 @@ returns-in_default g c = record {
   period = ap (λ (voice : Voiced). voice.period) c.play_voice.ensures.voice;
   score = refl;
   memory = λ scores h. ap (λ (voice : Voiced). (standing voice c.args.seat.now.seated).memory) c.play_voice.ensures.voice
-      ∙ voice_memory scores c.args.voice.now.kind c.args.voice.now.memory (option_map_or (λ (playing : Playing). playing.numbers) c.args.seat.now.seated.playing []) c.args.seat.now.seated.is_dead c.args.ports.outputs c.args.moment.now c.args.ports.period
+      ∙ voice_memory (map g.G.Guest.sound scores) c.args.voice.now.kind c.args.voice.now.memory (option_map_or (λ (playing : Playing). playing.numbers) c.args.seat.now.seated.playing []) c.args.seat.now.seated.is_dead c.args.ports.outputs c.args.moment.now c.args.ports.period
       (buffers_of c.args.ports.inputs c.args.ports.period c.args.input.now) bare;
   output = λ scores h. c.play_voice.ensures.output
-      ∙ voice_outputs scores c.args.voice.now.kind c.args.voice.now.memory (option_map_or (λ (playing : Playing). playing.numbers) c.args.seat.now.seated.playing []) c.args.seat.now.seated.is_dead c.args.ports.outputs c.args.moment.now c.args.ports.period
+      ∙ voice_outputs (map g.G.Guest.sound scores) c.args.voice.now.kind c.args.voice.now.memory (option_map_or (λ (playing : Playing). playing.numbers) c.args.seat.now.seated.playing []) c.args.seat.now.seated.is_dead c.args.ports.outputs c.args.moment.now c.args.ports.period
       (buffers_of c.args.ports.inputs c.args.ports.period c.args.input.now) bare;
   told = λ asks. absurd (true≢false (sym asks ∙ bare));
 }

@@ -10,10 +10,10 @@ pub returns-then-not-fetch-clause-refused : goal.returns-then-not-fetch-clause-r
 returns-then-not-fetch-clause-refused g c = c.if-not-fetch.ensures.refused refl
 
 pub give-requires-clause-past : goal.give-requires-clause-past
-give-requires-clause-past g c = HasNoPast-after (open_clients c.args.nodes.now) c.args.rack.now c.args.owners.now c.fetch.new.rack c.fetch.new.owners c.fetch.ensures.moves c.requires.past
+give-requires-clause-past g c = (HasNoPast-after g.G.Guest.sound) (open_clients c.args.nodes.now) c.args.rack.now c.args.owners.now c.fetch.new.rack c.fetch.new.owners c.fetch.ensures.moves c.requires.past
 
 pub returns-in-Some-clause-moves : goal.returns-in-Some-clause-moves
-returns-in-Some-clause-moves g c = Moves-trans (open_clients c.args.nodes.now) c.args.rack.now c.args.owners.now c.fetch.new.rack c.fetch.new.owners c.give.new.rack c.give.new.owners
+returns-in-Some-clause-moves g c = (Moves-trans g.G.Guest.sound) (open_clients c.args.nodes.now) c.args.rack.now c.args.owners.now c.fetch.new.rack c.fetch.new.owners c.give.new.rack c.give.new.owners
     c.fetch.ensures.moves c.give.ensures.moves c.give.ensures.seating
 
 pub returns-in-None-clause-refused : goal.returns-in-None-clause-refused

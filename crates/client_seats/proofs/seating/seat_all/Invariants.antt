@@ -9,6 +9,6 @@ invariant-loop-n g l = record {
   seating : IsSeating l.rack l.owners;
   idle : IsIdle l.rack;
   past : HasNoPast (open_clients l.nodes) l.owners;
-  moves : Moves (open_clients l.nodes) l.fn.rack l.fn.owners l.rack l.owners;
+  moves : (Moves g.G.Guest.sound) (open_clients l.nodes) l.fn.rack l.fn.owners l.rack l.owners;
   seated : (m : ℕ) → m < l.n → HasBench (open_clients l.nodes) l.rack l.owners m m;
 }

@@ -17,11 +17,11 @@ bring-requires-clause-to g c = omega (
 )
 
 pub returns-in-Some-clause-moves : goal.returns-in-Some-clause-moves
-returns-in-Some-clause-moves g c = Moves-trans (open_clients c.args.nodes.now) c.args.rack.now c.args.owners.now c.find_bench.new.rack c.find_bench.new.owners c.bring.new.rack c.bring.new.owners
+returns-in-Some-clause-moves g c = (Moves-trans g.G.Guest.sound) (open_clients c.args.nodes.now) c.args.rack.now c.args.owners.now c.find_bench.new.rack c.find_bench.new.owners c.bring.new.rack c.bring.new.owners
     c.find_bench.ensures.moves (c.bring.ensures.moves (open_clients c.args.nodes.now)) c.bring.ensures.seating
 
 pub returns-in-Some-clause-seated : goal.returns-in-Some-clause-seated
-returns-in-Some-clause-seated g c = λ _. seated-more (open_clients c.args.nodes.now) c.find_bench.new.rack c.find_bench.new.owners c.bring.new.rack c.bring.new.owners c.args.n c.in-Some.place
+returns-in-Some-clause-seated g c = λ _. (seated-more g.G.Guest.sound) (open_clients c.args.nodes.now) c.find_bench.new.rack c.find_bench.new.owners c.bring.new.rack c.bring.new.owners c.args.n c.in-Some.place
     (bench-behind (open_clients c.args.nodes.now) c.find_bench.new.rack c.find_bench.new.owners c.args.n c.in-Some.place (open_within c.args.nodes.now c.args.n c.requires.node) c.requires.apart
     (λ m lt. c.find_bench.ensures.seated m m (omega (arith, lt, c.requires.node)) (c.requires.lower m lt)) c.in-Some.ensures.there)
     c.bring.ensures (λ m lt. c.find_bench.ensures.seated m m (omega (arith, lt, c.requires.node)) (c.requires.lower m lt)) c.in-Some.ensures.there

@@ -1,4 +1,4 @@
-use Rattle.std.proofs.Common.{◌≡◌, ℕ, ◌<◌, List, [], length, Some, refl, sym, ◌∙◌, ap, subst, arith}
+use Rattle.std.proofs.Common.{◌≡◌, ℕ, ◌<◌, List, [], length, Some, refl, sym, ◌∙◌, ap, subst, arith, map}
 use Rattle.jack_types.specs.declared.ports.Client.{Client}
 use Rattle.session_model.specs.Benches.{node_at}
 use Rattle.session_model.specs.Kinds.{first}
@@ -90,14 +90,14 @@ returns-clause-cast g c is_true = record {
       guest = subst (λ (s : Standing). HasGuest s.kind s.score) (sym (c.set_tasks.ensures.standings n)) h.guest;
     }
 
-    begins : (n : ℕ) → n < length c.args.plan.now.nodes → IsNobodys c.args.owners.now (node_at (open_clients c.args.plan.now.nodes) n).birth → (standing_at c.seat.new.rack n).memory ≡ first c.args.owners.now.scores (node_at (open_clients c.args.plan.now.nodes) n).kind
-    begins n h none = subst (λ (ns : List Client). (node_at (open_clients ns) n).birth ≡ (node_at (open_clients c.args.plan.now.nodes) n).birth → n < length (open_clients ns) → (standing_at c.seat.new.rack n).memory ≡ first c.args.owners.now.scores (node_at (open_clients ns) n).kind) nodes
-        (λ births within. fresh-seated (open_clients c.nodes-nodes.result.now) c.clear_all.new.rack c.seat.new.rack c.args.owners.now c.seat.new.owners cleared_seating c.seat.ensures.seating (subst (λ (ns : List Client). HasNoPast (open_clients ns) c.args.owners.now) (sym c.nodes-nodes.ensures.value) c.requires.past)
+    begins : (n : ℕ) → n < length c.args.plan.now.nodes → IsNobodys c.args.owners.now (node_at (open_clients c.args.plan.now.nodes) n).birth → (standing_at c.seat.new.rack n).memory ≡ first (map g.G.Guest.sound c.args.owners.now.scores) (node_at (open_clients c.args.plan.now.nodes) n).kind
+    begins n h none = subst (λ (ns : List Client). (node_at (open_clients ns) n).birth ≡ (node_at (open_clients c.args.plan.now.nodes) n).birth → n < length (open_clients ns) → (standing_at c.seat.new.rack n).memory ≡ first (map g.G.Guest.sound c.args.owners.now.scores) (node_at (open_clients ns) n).kind) nodes
+        (λ births within. fresh-seated g.G.Guest.sound (open_clients c.nodes-nodes.result.now) c.clear_all.new.rack c.seat.new.rack c.args.owners.now c.seat.new.owners cleared_seating c.seat.ensures.seating (subst (λ (ns : List Client). HasNoPast (open_clients ns) c.args.owners.now) (sym c.nodes-nodes.ensures.value) c.requires.past)
         c.seat.ensures.kept c.seat.ensures.fresh c.seat.ensures.same_bench c.seat.ensures.owners (subst (λ (ns : List Client). AreApart (open_clients ns)) (sym c.nodes-nodes.ensures.value) (AreApart-plan c.args.plan.now c.nodes-nodes.ensures.planned)) n n within ((has n h).owner ∙ ap (λ k. Some k) (sym births)) (subst (IsNobodys c.args.owners.now) (sym births) none))
         refl (open_within c.args.plan.now.nodes n h)
 
     stays : (birth : ℕ) → ((n : ℕ) → n < length c.args.plan.now.nodes → (node_at (open_clients c.args.plan.now.nodes) n).birth ≡ birth → ⊥) → memory_of c.seat.new.rack c.seat.new.owners birth ≡ memory_of c.clear_all.new.rack c.args.owners.now birth
-    stays birth not_node = others-seated (open_clients c.nodes-nodes.result.now) c.clear_all.new.rack c.seat.new.rack c.args.owners.now c.seat.new.owners cleared_seating c.seat.ensures.seating (subst (λ (ns : List Client). HasNoPast (open_clients ns) c.args.owners.now) (sym c.nodes-nodes.ensures.value) c.requires.past)
+    stays birth not_node = others-seated g.G.Guest.sound (open_clients c.nodes-nodes.result.now) c.clear_all.new.rack c.seat.new.rack c.args.owners.now c.seat.new.owners cleared_seating c.seat.ensures.seating (subst (λ (ns : List Client). HasNoPast (open_clients ns) c.args.owners.now) (sym c.nodes-nodes.ensures.value) c.requires.past)
         c.seat.ensures.kept c.seat.ensures.fresh c.seat.ensures.same_bench c.seat.ensures.owners birth
         (subst (λ (ns : List Client). (n : ℕ) → n < length (open_clients ns) → (node_at (open_clients ns) n).birth ≡ birth → ⊥) (sym nodes) (λ n h e. not_node n (within_open c.args.plan.now.nodes n h) e))
 
@@ -129,13 +129,13 @@ returns-clause-kept g c = memories-cast c.args.rack.now c.clear_all.new.rack c.s
 
 pub returns-then-not-seat-clause-unfed : goal.returns-then-not-seat-clause-unfed
 returns-then-not-seat-clause-unfed g c p =
-    unfed-cast c.args.plan.now c.nodes-nodes.result.now c.nodes-nodes.ensures.value c.args.rack.now c.clear_all.new.rack c.seat.new.rack c.args.owners.now c.seat.new.owners c.requires.seating c.seat.ensures.seating c.clear_all.ensures.lengths
+    unfed-cast g.G.Guest.sound c.args.plan.now c.nodes-nodes.result.now c.nodes-nodes.ensures.value c.args.rack.now c.clear_all.new.rack c.seat.new.rack c.args.owners.now c.seat.new.owners c.requires.seating c.seat.ensures.seating c.clear_all.ensures.lengths
     (standings-cleared c.args.rack.now c.clear_all.new.rack c.args.count c.clear_all.ensures.cleared c.clear_all.ensures.others) c.requires.past c.seat.ensures.kept c.seat.ensures.fresh c.seat.ensures.same_bench c.seat.ensures.owners c.requires.unfed p
 
 pub returns-clause-unfed : goal.returns-clause-unfed
 returns-clause-unfed g c p =
     ap (λ (s : Standing). s.memory.fed) (c.set_tasks.ensures.standings p)
-    ∙ unfed-cast c.args.plan.now c.nodes-nodes.result.now c.nodes-nodes.ensures.value c.args.rack.now c.clear_all.new.rack c.seat.new.rack c.args.owners.now c.seat.new.owners c.requires.seating c.seat.ensures.seating c.clear_all.ensures.lengths
+    ∙ unfed-cast g.G.Guest.sound c.args.plan.now c.nodes-nodes.result.now c.nodes-nodes.ensures.value c.args.rack.now c.clear_all.new.rack c.seat.new.rack c.args.owners.now c.seat.new.owners c.requires.seating c.seat.ensures.seating c.clear_all.ensures.lengths
     (standings-cleared c.args.rack.now c.clear_all.new.rack c.args.count c.clear_all.ensures.cleared c.clear_all.ensures.others) c.requires.past c.seat.ensures.kept c.seat.ensures.fresh c.seat.ensures.same_bench c.seat.ensures.owners c.requires.unfed p
 
 -- ---- where one has none
@@ -143,6 +143,6 @@ returns-clause-unfed g c p =
 pub returns-then-not-seat-clause-recalls : goal.returns-then-not-seat-clause-recalls
 returns-then-not-seat-clause-recalls g c is_false = record {
   kept = returns-then-not-seat-clause-kept g c;
-  fresh = fresh-cast c.args.plan.now c.nodes-nodes.result.now c.nodes-nodes.ensures.value c.args.rack.now c.clear_all.new.rack c.seat.new.rack c.args.owners.now c.seat.new.owners c.requires.seating c.clear_all.ensures.lengths
+  fresh = fresh-cast g.G.Guest.sound c.args.plan.now c.nodes-nodes.result.now c.nodes-nodes.ensures.value c.args.rack.now c.clear_all.new.rack c.seat.new.rack c.args.owners.now c.seat.new.owners c.requires.seating c.clear_all.ensures.lengths
       (standings-cleared c.args.rack.now c.clear_all.new.rack c.args.count c.clear_all.ensures.cleared c.clear_all.ensures.others) c.seat.ensures.fresh;
 }

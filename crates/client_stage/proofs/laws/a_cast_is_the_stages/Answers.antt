@@ -6,7 +6,7 @@ use Rattle.client_wiring.specs.Wirings.{Wired}
 use Rattle.client_stage.proofs.laws.a_cast_is_the_stages.Goals as goal
 
 pub returns : goal.returns
-returns c old new last plan moment period cast seating periods unfed wiring places scores crew room same_period lengths links = record {
+returns c sounding old new last plan moment period cast seating periods unfed wiring places scores crew room same_period lengths links = record {
   wiring = wiring;
   seating = seating;
   periods = periods;

@@ -42,7 +42,7 @@ returns-clause-performed g c cast moment period sources is_rack is_silence set i
   },
   record {
     few = c.requires.few;
-    each = λ n h. subst (λ links. (bench_at c.play.new.self n).kept ≡ sequential kept_after kept_gives links (λ n. (bench_at c.fill_wires.new.rack n).kept) n) c.links-links.ensures.value (c.play.ensures.played n h);
+    each = λ n h. subst (λ links. (bench_at c.play.new.self n).kept ≡ sequential (kept_after g.G.Guest.sound) (kept_gives g.G.Guest.sound) links (λ n. (bench_at c.fill_wires.new.rack n).kept) n) c.links-links.ensures.value (c.play.ensures.played n h);
     others = c.play.ensures.others;
     lengths = c.play.ensures.count;
   },

@@ -32,7 +32,7 @@ go_on-requires-clause-count g c =
     let last = c.requires.stands.0 in
     let goes = c.requires.stands.2 in
     let changes = same-changes last c.args.plan.now goes.front (sym c.number.ensures.value ∙ c.if-number-parts.false ∙ c.requires.stands.3) in
-    let nodes = ap length (same-nodes last c.args.plan.now goes.planned_last goes.planned goes.base changes) in
+    let nodes = ap length (same-nodes g.G.Guest.sound last c.args.plan.now goes.planned_last goes.planned goes.base changes) in
     let within = nodes-staffed (staged_by c.args.parts.now c.args.crew last.nodes) last c.requires.stands.1 c.if-parts.true in
     omega (arith, within, nodes, ap length c.nodes.ensures.value, length-map c.args.plan.now.nodes open_client, length-map last.nodes open_client)
 
@@ -41,13 +41,13 @@ go_on-requires-clause-turns g c n low turn e =
     let last = c.requires.stands.0 in
     let goes = c.requires.stands.2 in
     let changes = same-changes last c.args.plan.now goes.front (sym c.number.ensures.value ∙ c.if-number-parts.false ∙ c.requires.stands.3) in
-    let nodes = ap length (same-nodes last c.args.plan.now goes.planned_last goes.planned goes.base changes) in
-    may-go-on (staged_by c.args.parts.now c.args.crew last.nodes) last c.args.plan.now goes changes (subst (λ k. k ≤ 512) (ap length c.edges-edges.ensures.value) c.edges-edges.ensures.few) c.requires.stands.1 c.if-parts.true
+    let nodes = ap length (same-nodes g.G.Guest.sound last c.args.plan.now goes.planned_last goes.planned goes.base changes) in
+    may-go-on g.G.Guest.sound (staged_by c.args.parts.now c.args.crew last.nodes) last c.args.plan.now goes changes (subst (λ k. k ≤ 512) (ap length c.edges-edges.ensures.value) c.edges-edges.ensures.few) c.requires.stands.1 c.if-parts.true
     c.args.moment.now c.args.period c.requires.rate c.requires.frames c.requires.period n (omega (arith, low, nodes, ap length c.nodes.ensures.value, length-map c.args.plan.now.nodes open_client, length-map last.nodes open_client)) turn e
 
 pub returns-then-number-parts-clause-stands : goal.returns-then-number-parts-clause-stands
 returns-then-number-parts-clause-stands g c last on goes number =
-    stands-anew (staged_by c.args.parts.now c.args.crew last.nodes) (staged_by c.cast_anew.new.parts c.args.crew c.args.plan.now.nodes) last c.args.plan.now on goes known refl c.cast_anew.ensures.same.0 refl c.cast_anew.ensures.lengths c.cast_anew.ensures.links
+    stands-anew g.G.Guest.sound (staged_by c.args.parts.now c.args.crew last.nodes) (staged_by c.cast_anew.new.parts c.args.crew c.args.plan.now.nodes) last c.args.plan.now on goes known refl c.cast_anew.ensures.same.0 refl c.cast_anew.ensures.lengths c.cast_anew.ensures.links
     c.args.moment.now c.args.period c.cast_anew.ensures.refused c.cast_anew.ensures.cast c.cast_anew.ensures.seating c.cast_anew.ensures.periods c.cast_anew.ensures.unfed c.cast_anew.ensures.wiring
   where
     known : AreKnown c.args.plan.now c.cast_anew.new.parts.rack c.cast_anew.new.parts.owners
@@ -56,21 +56,21 @@ returns-then-number-parts-clause-stands g c last on goes number =
 
 pub returns-then-number-parts-clause-cast : goal.returns-then-number-parts-clause-cast
 returns-then-number-parts-clause-cast g c last on goes number staffed =
-    c.a_cast_is_the_stages.ensures (staged_by c.args.parts.now c.args.crew last.nodes) (staged_by c.cast_anew.new.parts c.args.crew c.args.plan.now.nodes) last c.args.plan.now c.args.moment.now c.args.period
+    c.a_cast_is_the_stages.ensures g.G.Guest.sound (staged_by c.args.parts.now c.args.crew last.nodes) (staged_by c.cast_anew.new.parts c.args.crew c.args.plan.now.nodes) last c.args.plan.now c.args.moment.now c.args.period
     (c.cast_anew.ensures.cast staffed) c.cast_anew.ensures.seating (subst (HavePeriod c.cast_anew.new.parts.rack) (sym c.cast_anew.ensures.same.0) c.cast_anew.ensures.periods) c.cast_anew.ensures.unfed c.cast_anew.ensures.wiring
     (c.cast_anew.ensures.last ∙ ap (λ (w : Wired). map (last_place w.given) (wired_of c.args.plan.now).joints) on.stands.wiring ∙ ap (λ (w : Wired). map (last_place (wired_of last).given) w.joints) (sym c.cast_anew.ensures.wiring))
     c.cast_anew.ensures.scores refl c.cast_anew.ensures.same.0 c.cast_anew.ensures.same.1 c.cast_anew.ensures.lengths c.cast_anew.ensures.links
 
 pub returns-then-parts-clause-stands : goal.returns-then-parts-clause-stands
 returns-then-parts-clause-stands g c last on goes number =
-    stands-on (staged_by c.args.parts.now c.args.crew last.nodes) (staged_by c.go_on.new.parts c.args.crew c.args.plan.now.nodes) last c.args.plan.now on goes known refl room refl c.go_on.ensures.lengths c.go_on.ensures.links
+    stands-on g.G.Guest.sound (staged_by c.args.parts.now c.args.crew last.nodes) (staged_by c.go_on.new.parts c.args.crew c.args.plan.now.nodes) last c.args.plan.now on goes known refl room refl c.go_on.ensures.lengths c.go_on.ensures.links
     c.args.moment.now c.args.period (staffed ∙ c.if-parts.true) casts going many
   where
     changes : c.args.plan.now.changes ≡ last.changes
     changes = same-changes last c.args.plan.now goes.front (sym c.number.ensures.value ∙ c.if-number-parts.false ∙ number)
 
     many : length c.args.plan.now.nodes ≡ length last.nodes
-    many = sym (length-map c.args.plan.now.nodes open_client) ∙ ap length (same-nodes last c.args.plan.now goes.planned_last goes.planned goes.base changes) ∙ length-map last.nodes open_client
+    many = sym (length-map c.args.plan.now.nodes open_client) ∙ ap length (same-nodes g.G.Guest.sound last c.args.plan.now goes.planned_last goes.planned goes.base changes) ∙ length-map last.nodes open_client
 
     rack : c.go_on.new.parts.rack ≡ record c.args.parts.now.rack { benches = c.go_on.new.parts.rack.benches }
     rack = ap (λ l. record { benches = c.go_on.new.parts.rack.benches; links = l }) c.go_on.ensures.links
@@ -84,8 +84,8 @@ returns-then-parts-clause-stands g c last on goes number =
       same = ap (λ parts. staged_by parts c.args.crew c.args.plan.now.nodes) c.go_on.ensures.same ∙ ap (λ (r : Racked). record (staged_by (record c.args.parts.now { last = c.go_on.new.parts.last }) c.args.crew c.args.plan.now.nodes) { racked = r }) rack;
     }
 
-    casts : Casts (staged_by c.args.parts.now c.args.crew last.nodes) last c.args.plan.now c.args.moment.now c.args.period (staged_by c.go_on.new.parts c.args.crew c.args.plan.now.nodes)
-    casts = c.a_stage_goes_on_with_its_plan.ensures last c.args.plan.now (staged_by c.args.parts.now c.args.crew last.nodes) (staged_by c.go_on.new.parts c.args.crew c.args.plan.now.nodes) c.args.moment.now c.args.period goes.planned_last goes.planned goes.base changes
+    casts : Casts g.G.Guest.sound (staged_by c.args.parts.now c.args.crew last.nodes) last c.args.plan.now c.args.moment.now c.args.period (staged_by c.go_on.new.parts c.args.crew c.args.plan.now.nodes)
+    casts = c.a_stage_goes_on_with_its_plan.ensures g.G.Guest.sound last c.args.plan.now (staged_by c.args.parts.now c.args.crew last.nodes) (staged_by c.go_on.new.parts c.args.crew c.args.plan.now.nodes) c.args.moment.now c.args.period goes.planned_last goes.planned goes.base changes
         on.stands.wiring on.stands.seating on.stands.periods on.stands.unfed on.stands.unused (on.staffed c.if-parts.true) going
 
     room : c.go_on.new.parts.room ≡ c.args.parts.now.room
@@ -107,7 +107,7 @@ returns-then-parts-clause-cast g c last on goes number staffed = casts
     changes = same-changes last c.args.plan.now goes.front (sym c.number.ensures.value ∙ c.if-number-parts.false ∙ number)
 
     many : length c.args.plan.now.nodes ≡ length last.nodes
-    many = sym (length-map c.args.plan.now.nodes open_client) ∙ ap length (same-nodes last c.args.plan.now goes.planned_last goes.planned goes.base changes) ∙ length-map last.nodes open_client
+    many = sym (length-map c.args.plan.now.nodes open_client) ∙ ap length (same-nodes g.G.Guest.sound last c.args.plan.now goes.planned_last goes.planned goes.base changes) ∙ length-map last.nodes open_client
 
     rack : c.go_on.new.parts.rack ≡ record c.args.parts.now.rack { benches = c.go_on.new.parts.rack.benches }
     rack = ap (λ l. record { benches = c.go_on.new.parts.rack.benches; links = l }) c.go_on.ensures.links
@@ -121,8 +121,8 @@ returns-then-parts-clause-cast g c last on goes number staffed = casts
       same = ap (λ parts. staged_by parts c.args.crew c.args.plan.now.nodes) c.go_on.ensures.same ∙ ap (λ (r : Racked). record (staged_by (record c.args.parts.now { last = c.go_on.new.parts.last }) c.args.crew c.args.plan.now.nodes) { racked = r }) rack;
     }
 
-    casts : Casts (staged_by c.args.parts.now c.args.crew last.nodes) last c.args.plan.now c.args.moment.now c.args.period (staged_by c.go_on.new.parts c.args.crew c.args.plan.now.nodes)
-    casts = c.a_stage_goes_on_with_its_plan.ensures last c.args.plan.now (staged_by c.args.parts.now c.args.crew last.nodes) (staged_by c.go_on.new.parts c.args.crew c.args.plan.now.nodes) c.args.moment.now c.args.period goes.planned_last goes.planned goes.base changes
+    casts : Casts g.G.Guest.sound (staged_by c.args.parts.now c.args.crew last.nodes) last c.args.plan.now c.args.moment.now c.args.period (staged_by c.go_on.new.parts c.args.crew c.args.plan.now.nodes)
+    casts = c.a_stage_goes_on_with_its_plan.ensures g.G.Guest.sound last c.args.plan.now (staged_by c.args.parts.now c.args.crew last.nodes) (staged_by c.go_on.new.parts c.args.crew c.args.plan.now.nodes) c.args.moment.now c.args.period goes.planned_last goes.planned goes.base changes
         on.stands.wiring on.stands.seating on.stands.periods on.stands.unfed on.stands.unused (on.staffed c.if-parts.true) going
 
 pub returns-then-parts-clause-kinds : goal.returns-then-parts-clause-kinds
@@ -134,5 +134,5 @@ returns-then-parts-clause-kinds g c = subst (IsPermutation (kinds_of c.args.part
 pub returns-else-parts-clause-stands : goal.returns-else-parts-clause-stands
 returns-else-parts-clause-stands g c last on goes number =
     let changes = same-changes last c.args.plan.now goes.front (sym c.number.ensures.value ∙ c.if-number-parts.false ∙ number) in
-    stands-still (staged_by c.args.parts.now c.args.crew last.nodes) (staged_by c.args.parts.now c.args.crew c.args.plan.now.nodes) last c.args.plan.now on goes
+    stands-still g.G.Guest.sound (staged_by c.args.parts.now c.args.crew last.nodes) (staged_by c.args.parts.now c.args.crew c.args.plan.now.nodes) last c.args.plan.now on goes
     (c.owners_stay_known.ensures.known last c.args.plan.now c.args.parts.now.rack c.args.parts.now.owners goes on.stands.known) refl refl refl refl refl changes refl refl refl refl

@@ -15,7 +15,7 @@ returns-then-not-parts-clause-stands g c last on goes number =
 
 pub returns-then-not-parts-clause-recalls : goal.returns-then-not-parts-clause-recalls
 returns-then-not-parts-clause-recalls g c refused =
-    recalls-rested c.recast.new.parts.rack c.rest_all.new.rack c.rest_all.ensures.rested c.rest_all.ensures.lengths c.args.plan.now c.args.parts.now.rack c.args.parts.now.owners c.recast.new.parts.owners
+    recalls-rested c.recast.new.parts.rack c.rest_all.new.rack c.rest_all.ensures.rested c.rest_all.ensures.lengths g.G.Guest.sound c.args.plan.now c.args.parts.now.rack c.args.parts.now.owners c.recast.new.parts.owners
     (c.recast.ensures.stands c.requires.stands.0 c.requires.stands.1 c.requires.stands.2 c.requires.stands.3).seating (c.recast.ensures.recalls refused)
 
 pub returns-then-not-parts-clause-kinds : goal.returns-then-not-parts-clause-kinds

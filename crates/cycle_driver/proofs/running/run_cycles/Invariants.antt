@@ -8,9 +8,9 @@ use Rattle.cycle_driver.proofs.running.run_cycles.Given as goal
 
 abbrev pub invariant-loop-cycle : goal.invariant-loop-cycle
 invariant-loop-cycle g l = record {
-  ran : CyclesMany l.cycle (driver_of l.fn.driver) (driver_of l.driver);
-  going : IsGoing (driver_of l.driver);
-  count : run (driver_of l.driver) ≡ run (driver_of l.fn.driver) + l.cycle;
-  stays : StaysInRun (driver_of l.fn.driver) (driver_of l.driver);
+  ran : CyclesMany l.cycle (driver_of g.G.Guest.sound l.fn.driver) (driver_of g.G.Guest.sound l.driver);
+  going : IsGoing (driver_of g.G.Guest.sound l.driver);
+  count : run (driver_of g.G.Guest.sound l.driver) ≡ run (driver_of g.G.Guest.sound l.fn.driver) + l.cycle;
+  stays : StaysInRun (driver_of g.G.Guest.sound l.fn.driver) (driver_of g.G.Guest.sound l.driver);
   capture : SameReading l.fn.driver.capture.reading l.driver.capture.reading;
 }

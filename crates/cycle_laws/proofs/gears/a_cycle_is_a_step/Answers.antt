@@ -4,5 +4,5 @@ use Rattle.cycle_laws.proofs.StepLemmas.{StepsOnce-turned}
 use Rattle.cycle_laws.proofs.gears.a_cycle_is_a_step.Goals as goal
 
 pub returns : goal.returns
-returns c freewheel before after plan moment is may turned =
-    StepsOnce-turned freewheel before after plan moment is may turned (c.calls_have_targets.ensures.adopted before.script plan.changes (last_number (driver_of before)) is.served.lawful)
+returns c sounding freewheel before after plan moment is may turned =
+    StepsOnce-turned sounding freewheel before after plan moment is may turned (c.calls_have_targets.ensures.adopted before.script plan.changes (last_number (driver_of sounding before)) is.served.lawful)

@@ -2,7 +2,7 @@ use Rattle.std.proofs.Common.{◌≡◌, Bool, true, false, refl}
 use Rattle.cycle_laws.proofs.gears.all_have_their_benches.Goals as goal
 
 pub returns : goal.returns
-returns c gear is of = go gear.stage.staged.is_staffed refl
+returns c sounding gear is of = go gear.stage.staged.is_staffed refl
   where
     go : (b : Bool) → gear.stage.staged.is_staffed ≡ b → b ≡ true
     go true e = refl

@@ -1,4 +1,4 @@
-use Rattle.std.proofs.Common.{false, None, refl, sym, ap, subst}
+use Rattle.std.proofs.Common.{false, map, None, refl, sym, ap, subst}
 use Rattle.jack_types.specs.declared.scripts.Header.{Header}
 use Rattle.driver_laws.specs.Openings.{IsNew}
 use Rattle.cycle_laws.specs.Gears.{driver_of}
@@ -9,11 +9,11 @@ use Rattle.cycle_works.proofs.opening.assemble.Goals as goal
 
 pub invariant_of-result : goal.invariant_of-result
 invariant_of-result g c =
-    whole-new _ c.args.script.now c.note.ensures
-    (IsGear-new (gear_of {S = g.row.S.Denot} {G = g.row.G.Denot} c.args.script.now None false (parts-made c.args.reader c.args.capture c.args.made c.header.result.period)) c.args.made.stage.staged.owned.scores c.requires.served c.requires.made.stage c.requires.guests c.requires.made.outfit.transport c.requires.made.outfit.rings c.requires.made.outfit.lists.numbers.none c.requires.made.outfit.lists.moments.none c.requires.capture refl refl)
+    whole-new g.G.Guest.sound _ c.args.script.now c.note.ensures
+    (IsGear-new g.G.Guest.sound (gear_of {S = g.row.S.Denot} {G = g.row.G.Denot} c.args.script.now None false (parts-made c.args.reader c.args.capture c.args.made c.header.result.period)) c.args.made.stage.staged.owned.scores c.requires.served c.requires.made.stage c.requires.guests c.requires.made.outfit.transport c.requires.made.outfit.rings c.requires.made.outfit.lists.numbers.none c.requires.made.outfit.lists.moments.none c.requires.capture refl refl)
     c.requires.made.outfit.lists.numbers.enough c.requires.made.outfit.lists.moments.enough
 
 pub returns-clause-new : goal.returns-clause-new
 returns-clause-new g c =
-    subst (λ s. IsNew c.args.script.now c.args.made.stage.staged.owned.scores (driver_of (gear_of {S = g.row.S.Denot} {G = g.row.G.Denot} s None false (parts-made c.args.reader c.args.capture c.args.made c.header.result.period)))) (sym (script-noted c.note.result.items c.args.script.now c.note.ensures))
-    (IsNew-gear (gear_of {S = g.row.S.Denot} {G = g.row.G.Denot} c.args.script.now None false (parts-made c.args.reader c.args.capture c.args.made c.header.result.period)) c.args.made.stage.staged.owned.scores c.requires.served c.requires.made.stage c.requires.guests c.requires.made.outfit.transport c.requires.made.outfit.rings c.requires.made.outfit.lists.numbers.none c.requires.made.outfit.lists.moments.none c.requires.capture refl refl c.requires.rows refl (ap (λ (h : Header). h.period) c.header.ensures.value) refl)
+    subst (λ s. IsNew c.args.script.now (map g.G.Guest.sound c.args.made.stage.staged.owned.scores) (driver_of g.G.Guest.sound (gear_of {S = g.row.S.Denot} {G = g.row.G.Denot} s None false (parts-made c.args.reader c.args.capture c.args.made c.header.result.period)))) (sym (script-noted c.note.result.items c.args.script.now c.note.ensures))
+    (IsNew-gear g.G.Guest.sound (gear_of {S = g.row.S.Denot} {G = g.row.G.Denot} c.args.script.now None false (parts-made c.args.reader c.args.capture c.args.made c.header.result.period)) c.args.made.stage.staged.owned.scores c.requires.served c.requires.made.stage c.requires.guests c.requires.made.outfit.transport c.requires.made.outfit.rings c.requires.made.outfit.lists.numbers.none c.requires.made.outfit.lists.moments.none c.requires.capture refl refl c.requires.rows refl (ap (λ (h : Header). h.period) c.header.ensures.value) refl)

@@ -17,24 +17,24 @@ begin-last-requires-clause-later g c = last-row c.args.parts.now.reader.0.rows (
 pub begin-last-requires-clause-few : goal.begin-last-requires-clause-few
 begin-last-requires-clause-few g c =
     let gear = gear_of {S = g.row.S.Denot} {G = g.row.G.Denot} c.requires.may.0 c.requires.may.1 c.requires.may.2 c.args.parts.now in
-    let few = c.a_cycle_may_be_played.ensures.cycles gear c.args.freewheel c.requires.may.3 c.requires.may.4 in
+    let few = c.a_cycle_may_be_played.ensures.cycles g.G.Guest.sound gear c.args.freewheel c.requires.may.3 c.requires.may.4 in
     let same = (c.requires.may.3.in_step c.requires.may.4.sound).cycles in
     omega (arith, few, same)
 
 pub step_by_plan-moment-requires-clause-cycles : goal.step_by_plan-moment-requires-clause-cycles
-step_by_plan-moment-requires-clause-cycles g c = c.a_cycle_may_be_played.ensures.cycles (gear_of {S = g.row.S.Denot} {G = g.row.G.Denot} c.requires.may.0 c.requires.may.1 c.requires.may.2 c.args.parts.now) c.args.freewheel c.requires.may.3 c.requires.may.4
+step_by_plan-moment-requires-clause-cycles g c = c.a_cycle_may_be_played.ensures.cycles g.G.Guest.sound (gear_of {S = g.row.S.Denot} {G = g.row.G.Denot} c.requires.may.0 c.requires.may.1 c.requires.may.2 c.args.parts.now) c.args.freewheel c.requires.may.3 c.requires.may.4
 
 pub step_by_plan-moment-requires-clause-frames : goal.step_by_plan-moment-requires-clause-frames
-step_by_plan-moment-requires-clause-frames g c = c.a_cycle_may_be_played.ensures.frames (gear_of {S = g.row.S.Denot} {G = g.row.G.Denot} c.requires.may.0 c.requires.may.1 c.requires.may.2 c.args.parts.now) c.args.freewheel c.requires.may.3 c.requires.may.4
+step_by_plan-moment-requires-clause-frames g c = c.a_cycle_may_be_played.ensures.frames g.G.Guest.sound (gear_of {S = g.row.S.Denot} {G = g.row.G.Denot} c.requires.may.0 c.requires.may.1 c.requires.may.2 c.args.parts.now) c.args.freewheel c.requires.may.3 c.requires.may.4
 
 pub step_by_plan-moment-requires-clause-period : goal.step_by_plan-moment-requires-clause-period
 step_by_plan-moment-requires-clause-period g c =
-    let least = (c.a_cycle_may_be_played.ensures.period (gear_of {S = g.row.S.Denot} {G = g.row.G.Denot} c.requires.may.0 c.requires.may.1 c.requires.may.2 c.args.parts.now) c.args.freewheel c.requires.may.3 c.requires.may.4).0 in
+    let least = (c.a_cycle_may_be_played.ensures.period g.G.Guest.sound (gear_of {S = g.row.S.Denot} {G = g.row.G.Denot} c.requires.may.0 c.requires.may.1 c.requires.may.2 c.args.parts.now) c.args.freewheel c.requires.may.3 c.requires.may.4).0 in
     omega (arith, least)
 
 pub capture_period-requires-clause-room : goal.capture_period-requires-clause-room
 capture_period-requires-clause-room g c =
-    let within = (c.a_cycle_may_be_played.ensures.sends (gear_of {S = g.row.S.Denot} {G = g.row.G.Denot} c.requires.may.0 c.requires.may.1 c.requires.may.2 c.args.parts.now) c.args.freewheel c.requires.may.3 c.requires.may.4).period in
+    let within = (c.a_cycle_may_be_played.ensures.sends g.G.Guest.sound (gear_of {S = g.row.S.Denot} {G = g.row.G.Denot} c.requires.may.0 c.requires.may.1 c.requires.may.2 c.args.parts.now) c.args.freewheel c.requires.may.3 c.requires.may.4).period in
     omega (arith, within, c.requires.may.3.rings_room, c.requires.may.3.capture_room)
 
 pub returns-in_err-capture_period-clause-failed : goal.returns-in_err-capture_period-clause-failed
@@ -51,11 +51,11 @@ returns-in_err-capture_period-clause-failed g c script playback failed = any-err
 
 pub play-requires-clause-period : goal.play-requires-clause-period
 play-requires-clause-period g c =
-    let within = (c.a_cycle_may_be_played.ensures.sends (gear_of {S = g.row.S.Denot} {G = g.row.G.Denot} c.requires.may.0 c.requires.may.1 c.requires.may.2 c.args.parts.now) c.args.freewheel c.requires.may.3 c.requires.may.4).period in
+    let within = (c.a_cycle_may_be_played.ensures.sends g.G.Guest.sound (gear_of {S = g.row.S.Denot} {G = g.row.G.Denot} c.requires.may.0 c.requires.may.1 c.requires.may.2 c.args.parts.now) c.args.freewheel c.requires.may.3 c.requires.may.4).period in
     omega (arith, within, c.requires.may.3.rings_room, c.requires.may.3.room)
 
 pub send_blocks-requires : goal.send_blocks-requires
-send_blocks-requires g c = c.a_cycle_may_be_played.ensures.sends (gear_of {S = g.row.S.Denot} {G = g.row.G.Denot} c.requires.may.0 c.requires.may.1 c.requires.may.2 c.args.parts.now) c.args.freewheel c.requires.may.3 c.requires.may.4
+send_blocks-requires g c = c.a_cycle_may_be_played.ensures.sends g.G.Guest.sound (gear_of {S = g.row.S.Denot} {G = g.row.G.Denot} c.requires.may.0 c.requires.may.1 c.requires.may.2 c.args.parts.now) c.args.freewheel c.requires.may.3 c.requires.may.4
 
 pub returns-clause-turned : goal.returns-clause-turned
 returns-clause-turned g c script playback later failed stops = (

@@ -1,5 +1,5 @@
 use Rattle.std.proofs.Common.{◌≡◌, ◌++◌, map, take}
-use Rattle.session_model.specs.Kinds.{filtered_at}
+use Rattle.guests.specs.Sounds.{filtered_at}
 use Rattle.session_model.specs.Samples.{below}
 use Rattle.guests.proofs.fir.filter_into.Given as goal
 

@@ -11,8 +11,8 @@ invariant-handing g l = record {
   handing : IsHanding (g.H.Host.files l.fn.host) (g.H.Host.files l.host) (stores_in l.fn.session) (stores_in l.session);
   owing : IsOwing (g.H.Host.write_faults l.fn.host) (g.H.Host.write_faults l.host) (stores_in l.fn.session) (stores_in l.session);
   cause : HasCause (g.H.Host.write_faults l.fn.host) (g.H.Host.write_faults l.host) l.handed;
-  report : text_in (session_of l.session) ≡ text_in (session_of l.fn.session);
-  ended : HasEnded l.fn.session → HasEnded l.session;
+  report : text_in (session_of g.G.Guest.sound l.session) ≡ text_in (session_of g.G.Guest.sound l.fn.session);
+  ended : HasEnded g.G.Guest.sound l.fn.session → HasEnded g.G.Guest.sound l.session;
   capture : l.session.gear.capture ≡ l.fn.session.gear.capture;
   reads : g.H.Host.read_faults l.host ≡ g.H.Host.read_faults l.fn.host;
   lent : g.H.Host.lent l.host + length (stores_in l.fn.session) ≡ g.H.Host.lent l.fn.host + length (stores_in l.session);

@@ -23,8 +23,8 @@ pub returns-clause-played : goal.returns-clause-played
 returns-clause-played g c =
     ok-behind c.conclude-reported.result
     (λ put files scores first is.
-    explained scores c.args.names.now c.args.session (printed_of (session_of c.perform-session.result.0)) (stores_in c.perform-session.result.0) files (g.H.Host.files c.args.host.now) (g.H.Host.files c.perform-session.new.host) (g.H.Host.files c.hand_back-handed.new.host) (g.H.Host.files c.back.new.self)
-    (g.K.Sink.content c.args.out.now) (g.K.Sink.content c.conclude-reported.new.out) (text_in (session_of c.perform-session.result.0)) first c.perform-session.ensures.others
+    explained g.G.Guest.sound scores c.args.names.now c.args.session (printed_of (session_of g.G.Guest.sound c.perform-session.result.0)) (stores_in c.perform-session.result.0) files (g.H.Host.files c.args.host.now) (g.H.Host.files c.perform-session.new.host) (g.H.Host.files c.hand_back-handed.new.host) (g.H.Host.files c.back.new.self)
+    (g.K.Sink.content c.args.out.now) (g.K.Sink.content c.conclude-reported.new.out) (text_in (session_of g.G.Guest.sound c.perform-session.result.0)) first c.perform-session.ensures.others
     (apart-front (made_by c.args.names.now) c.args.names.now.disks c.requires.apart.1.1) c.hand_back-handed.ensures.stand c.back.ensures.files is
     (ok-known c.perform-session.result.1 _ put.0 c.perform-session.ensures.whole) (ok-known c.perform-session.result.1 _ put.0 c.perform-session.ensures.explained) (ok-known c.perform-session.result.1 _ put.0 c.perform-session.ensures.serial)
     (subst (λ (report : List ℕ). Gains (g.K.Sink.content c.args.out.now) (g.K.Sink.content c.conclude-reported.new.out) report) c.hand_back-handed.ensures.report put.2))
@@ -34,22 +34,22 @@ pub returns-clause-cut : goal.returns-clause-cut
 returns-clause-cut g c =
     err-any c.conclude-reported.result
     (λ files scores first is.
-    cut scores c.args.names.now c.args.session (printed_of (session_of c.perform-session.result.0)) (stores_in c.perform-session.result.0) files (g.H.Host.files c.args.host.now) (g.H.Host.files c.perform-session.new.host) (g.H.Host.files c.hand_back-handed.new.host) (g.H.Host.files c.back.new.self) first
+    cut g.G.Guest.sound scores c.args.names.now c.args.session (printed_of (session_of g.G.Guest.sound c.perform-session.result.0)) (stores_in c.perform-session.result.0) files (g.H.Host.files c.args.host.now) (g.H.Host.files c.perform-session.new.host) (g.H.Host.files c.hand_back-handed.new.host) (g.H.Host.files c.back.new.self) first
     (apart-front (made_by c.args.names.now) c.args.names.now.disks c.requires.apart.1.1) c.perform-session.ensures.made c.hand_back-handed.ensures.stand c.back.ensures.files is c.perform-session.ensures.fronts)
 
 -- the session was performed and its files stand, so the whole report would explain them
 pub returns-clause-out_cut : goal.returns-clause-out_cut
 returns-clause-out_cut g c =
-    let text = text_in (session_of c.perform-session.result.0) in
+    let text = text_in (session_of g.G.Guest.sound c.perform-session.result.0) in
     err-behind c.conclude-reported.result
-    (λ cut files scores first is.
-    elim cut [
+    (λ half files scores first is.
+    elim half [
       | inl none ↦ inl none
       | inr broken ↦ inr (
         broken.1,
         record {
           report = text;
-          explained = explained scores c.args.names.now c.args.session (printed_of (session_of c.perform-session.result.0)) (stores_in c.perform-session.result.0) files (g.H.Host.files c.args.host.now) (g.H.Host.files c.perform-session.new.host) (g.H.Host.files c.hand_back-handed.new.host) (g.H.Host.files c.back.new.self)
+          explained = explained g.G.Guest.sound scores c.args.names.now c.args.session (printed_of (session_of g.G.Guest.sound c.perform-session.result.0)) (stores_in c.perform-session.result.0) files (g.H.Host.files c.args.host.now) (g.H.Host.files c.perform-session.new.host) (g.H.Host.files c.hand_back-handed.new.host) (g.H.Host.files c.back.new.self)
               (Some []) (Some text) text first c.perform-session.ensures.others
               (apart-front (made_by c.args.names.now) c.args.names.now.disks c.requires.apart.1.1) c.hand_back-handed.ensures.stand c.back.ensures.files is
               (ok-known c.perform-session.result.1 _ broken.0.0 c.perform-session.ensures.whole) (ok-known c.perform-session.result.1 _ broken.0.0 c.perform-session.ensures.explained) (ok-known c.perform-session.result.1 _ broken.0.0 c.perform-session.ensures.serial) refl;

@@ -18,12 +18,12 @@ hand_back-handed-requires-clause-out g c κs within =
 
 pub returns-in-Ok-clause-played : goal.returns-in-Ok-clause-played
 returns-in-Ok-clause-played g c =
-    explained (map g.G.Guest.score c.args.guests.items) c.args.names.now c.in_ok-session.session (printed_of (session_of c.perform-session.result.0)) (stores_in c.perform-session.result.0) (g.H.Host.files c.args.host.now) (g.H.Host.files c.open_session.new.host) (g.H.Host.files c.perform-session.new.host) (g.H.Host.files c.hand_back-handed.new.host) (g.H.Host.files c.back.new.self)
-    None None (text_in (session_of c.perform-session.result.0)) c.open_session.ensures.files c.perform-session.ensures.others
+    explained g.G.Guest.sound (map g.G.Guest.sound (map g.G.Guest.score c.args.guests.items)) c.args.names.now c.in_ok-session.session (printed_of (session_of g.G.Guest.sound c.perform-session.result.0)) (stores_in c.perform-session.result.0) (g.H.Host.files c.args.host.now) (g.H.Host.files c.open_session.new.host) (g.H.Host.files c.perform-session.new.host) (g.H.Host.files c.hand_back-handed.new.host) (g.H.Host.files c.back.new.self)
+    None None (text_in (session_of g.G.Guest.sound c.perform-session.result.0)) c.open_session.ensures.files c.perform-session.ensures.others
     (apart-front (made_by c.args.names.now) c.args.names.now.disks c.requires.apart.1.1) c.hand_back-handed.ensures.stand c.back.ensures.files c.in_ok-session.ensures.opened
     (at-ok c.perform-session.result.1 _ c.in_default.is c.perform-session.ensures.whole) (at-ok c.perform-session.result.1 _ c.in_default.is c.perform-session.ensures.explained) (at-ok c.perform-session.result.1 _ c.in_default.is c.perform-session.ensures.serial) tt
 
 pub returns-in-Ok-clause-history : goal.returns-in-Ok-clause-history
 returns-in-Ok-clause-history g c =
-    history-of (g.H.Host.files c.args.host.now) (map g.G.Guest.score c.args.guests.items) c.args.names.now c.in_ok-session.session c.in-Ok.history.items c.in_ok-session.ensures.opened
+    history-of g.G.Guest.sound (g.H.Host.files c.args.host.now) (map g.G.Guest.sound (map g.G.Guest.score c.args.guests.items)) c.args.names.now c.in_ok-session.session c.in-Ok.history.items c.in_ok-session.ensures.opened
     (λ none. c.in-Ok.ensures.items ∙ c.history.ensures.value ∙ ap (λ (d : Desk). d.history) c.desk.ensures ∙ at-ok c.perform-session.result.1 _ c.in_default.is c.perform-session.ensures.history none)

@@ -20,7 +20,7 @@ use Rattle.jack_control.proofs.top.jackd.Goals as goal
 
 pub returns-in-Ok-clause-played : goal.returns-in-Ok-clause-played
 returns-in-Ok-clause-played g c = λ ok play is.
-    subst (λ (p : Play). IsExplained (g.H.Host.files c.args.host.now) (g.H.Host.files c.play.new.host) (g.K.Sink.content c.args.out.now) (g.K.Sink.content c.play.new.out) (map g.G.Guest.score c.args.guests.items) p)
+    subst (λ (p : Play). IsExplained (g.H.Host.files c.args.host.now) (g.H.Host.files c.play.new.host) (g.K.Sink.content c.args.out.now) (g.K.Sink.content c.play.new.out) (map g.G.Guest.sound (map g.G.Guest.score c.args.guests.items)) p)
     (c.words_name_one_play.ensures _ c.in-Some-play_names.names play c.in-Some-play_names.ensures.lawful is) c.in-Ok.ensures.played
 
 pub returns-in-Ok-clause-others : goal.returns-in-Ok-clause-others
@@ -30,29 +30,29 @@ returns-in-Ok-clause-others g c = λ play is.
 
 pub returns-in-Ok-clause-exact : goal.returns-in-Ok-clause-exact
 returns-in-Ok-clause-exact g c = λ play is status h none.
-    absurd (exact-ok (g.H.Host.files c.args.host.now) _ _ _ (map g.G.Guest.score c.args.guests.items) c.in-Some-play_names.names status
-    (subst (λ (p : Play). HasRefusal (g.H.Host.files c.args.host.now) (map g.G.Guest.score c.args.guests.items) p status)
+    absurd (exact-ok (g.H.Host.files c.args.host.now) _ _ _ (map g.G.Guest.sound (map g.G.Guest.score c.args.guests.items)) c.in-Some-play_names.names status
+    (subst (λ (p : Play). HasRefusal (g.H.Host.files c.args.host.now) (map g.G.Guest.sound (map g.G.Guest.score c.args.guests.items)) p status)
     (sym (c.words_name_one_play.ensures _ c.in-Some-play_names.names play c.in-Some-play_names.ensures.lawful is)) h)
     c.in-Ok.ensures.played)
 
 pub returns-in-Err-clause-fault : goal.returns-in-Err-clause-fault
 returns-in-Err-clause-fault g c = λ play is not.
-    subst (λ (p : Play). PlayStatus (g.H.Host.files c.args.host.now) (map g.G.Guest.score c.args.guests.items) p c.in-Err.status)
+    subst (λ (p : Play). PlayStatus (g.H.Host.files c.args.host.now) (map g.G.Guest.sound (map g.G.Guest.score c.args.guests.items)) p c.in-Err.status)
     (c.words_name_one_play.ensures _ c.in-Some-play_names.names play c.in-Some-play_names.ensures.lawful is) c.in-Err.ensures.fault
 
 pub returns-in-Err-clause-read : goal.returns-in-Err-clause-read
 returns-in-Err-clause-read g c = λ e play is.
-    subst (λ (p : Play). Rose (g.H.Host.read_faults c.args.host.now) (g.H.Host.read_faults c.play.new.host) ⊎ LacksInput (g.H.Host.files c.args.host.now) (map g.G.Guest.score c.args.guests.items) p)
+    subst (λ (p : Play). Rose (g.H.Host.read_faults c.args.host.now) (g.H.Host.read_faults c.play.new.host) ⊎ LacksInput (g.H.Host.files c.args.host.now) (map g.G.Guest.sound (map g.G.Guest.score c.args.guests.items)) p)
     (c.words_name_one_play.ensures _ c.in-Some-play_names.names play c.in-Some-play_names.ensures.lawful is) (c.in-Err.ensures.read (ap Err e))
 
 pub returns-in-Err-clause-input : goal.returns-in-Err-clause-input
 returns-in-Err-clause-input g c = λ e play is.
-    subst (λ (p : Play). IfInput (g.H.Host.files c.args.host.now) (map g.G.Guest.score c.args.guests.items) p)
+    subst (λ (p : Play). IfInput (g.H.Host.files c.args.host.now) (map g.G.Guest.sound (map g.G.Guest.score c.args.guests.items)) p)
     (c.words_name_one_play.ensures _ c.in-Some-play_names.names play c.in-Some-play_names.ensures.lawful is) (c.in-Err.ensures.input (ap Err e))
 
 pub returns-in-Err-clause-cut : goal.returns-in-Err-clause-cut
 returns-in-Err-clause-cut g c = λ when play is.
-    subst (λ (p : Play). IsPlayCut (g.H.Host.files c.args.host.now) (g.H.Host.files c.play.new.host) (map g.G.Guest.score c.args.guests.items) p)
+    subst (λ (p : Play). IsPlayCut (g.H.Host.files c.args.host.now) (g.H.Host.files c.play.new.host) (map g.G.Guest.sound (map g.G.Guest.score c.args.guests.items)) p)
     (c.words_name_one_play.ensures _ c.in-Some-play_names.names play c.in-Some-play_names.ensures.lawful is) (c.in-Err.ensures.cut when)
 
 -- a fault of writing has no line, so the sink stays as the play left it
@@ -60,9 +60,9 @@ pub returns-in-Err-clause-out_cut : goal.returns-in-Err-clause-out_cut
 returns-in-Err-clause-out_cut g c = λ e play is.
     let cut = c.in-Err.ensures.out_cut (ap Err e) in
     let silent = c.put_line.ensures.silent (inr e) in
-    subst (λ (p : Play). IsOutCut (g.H.Host.files c.args.host.now) (g.H.Host.files c.play.new.host) (g.K.Sink.content c.args.out.now) (g.K.Sink.content c.put_line.new.out) (g.K.Sink.faults c.args.out.now) (g.K.Sink.faults c.put_line.new.out) (map g.G.Guest.score c.args.guests.items) p)
+    subst (λ (p : Play). IsOutCut (g.H.Host.files c.args.host.now) (g.H.Host.files c.play.new.host) (g.K.Sink.content c.args.out.now) (g.K.Sink.content c.put_line.new.out) (g.K.Sink.faults c.args.out.now) (g.K.Sink.faults c.put_line.new.out) (map g.G.Guest.sound (map g.G.Guest.score c.args.guests.items)) p)
     (c.words_name_one_play.ensures _ c.in-Some-play_names.names play c.in-Some-play_names.ensures.lawful is)
-    (subst (λ out. IsOutCut (g.H.Host.files c.args.host.now) (g.H.Host.files c.play.new.host) (g.K.Sink.content c.args.out.now) (g.K.Sink.content out) (g.K.Sink.faults c.args.out.now) (g.K.Sink.faults out) (map g.G.Guest.score c.args.guests.items) c.in-Some-play_names.names) (sym silent) cut)
+    (subst (λ out. IsOutCut (g.H.Host.files c.args.host.now) (g.H.Host.files c.play.new.host) (g.K.Sink.content c.args.out.now) (g.K.Sink.content out) (g.K.Sink.faults c.args.out.now) (g.K.Sink.faults out) (map g.G.Guest.sound (map g.G.Guest.score c.args.guests.items)) c.in-Some-play_names.names) (sym silent) cut)
 
 pub returns-in-Err-clause-others : goal.returns-in-Err-clause-others
 returns-in-Err-clause-others g c = λ play is.
@@ -71,18 +71,18 @@ returns-in-Err-clause-others g c = λ play is.
 
 pub returns-in-Err-clause-exact : goal.returns-in-Err-clause-exact
 returns-in-Err-clause-exact g c = λ play is status h none.
-    exact-err (g.H.Host.files c.args.host.now) (map g.G.Guest.score c.args.guests.items) c.in-Some-play_names.names status c.in-Err.status
+    exact-err (g.H.Host.files c.args.host.now) (map g.G.Guest.sound (map g.G.Guest.score c.args.guests.items)) c.in-Some-play_names.names status c.in-Err.status
     (Rose (g.H.Host.read_faults c.args.host.now) (g.H.Host.read_faults c.play.new.host))
-    (subst (λ (p : Play). HasRefusal (g.H.Host.files c.args.host.now) (map g.G.Guest.score c.args.guests.items) p status)
+    (subst (λ (p : Play). HasRefusal (g.H.Host.files c.args.host.now) (map g.G.Guest.sound (map g.G.Guest.score c.args.guests.items)) p status)
     (sym (c.words_name_one_play.ensures _ c.in-Some-play_names.names play c.in-Some-play_names.ensures.lawful is)) h)
     c.in-Err.ensures.fault (λ e. c.in-Err.ensures.read (ap Err e)) (λ e. c.in-Err.ensures.input (ap Err e)) none
 
 pub returns-in-Err-clause-complete : goal.returns-in-Err-clause-complete
 returns-in-Err-clause-complete g c = λ play is h no_read no_write no_put.
-    complete-err (g.H.Host.files c.args.host.now) (map g.G.Guest.score c.args.guests.items) c.in-Some-play_names.names c.in-Err.status
+    complete-err (g.H.Host.files c.args.host.now) (map g.G.Guest.sound (map g.G.Guest.score c.args.guests.items)) c.in-Some-play_names.names c.in-Err.status
     (Rose (g.H.Host.read_faults c.args.host.now) (g.H.Host.read_faults c.play.new.host)) (Rose (g.H.Host.write_faults c.args.host.now) (g.H.Host.write_faults c.play.new.host))
     (Rose (g.K.Sink.faults c.args.out.now) (g.K.Sink.faults c.play.new.out))
-    (subst (λ (p : Play). HasInput (g.H.Host.files c.args.host.now) (map g.G.Guest.score c.args.guests.items) p)
+    (subst (λ (p : Play). HasInput (g.H.Host.files c.args.host.now) (map g.G.Guest.sound (map g.G.Guest.score c.args.guests.items)) p)
     (sym (c.words_name_one_play.ensures _ c.in-Some-play_names.names play c.in-Some-play_names.ensures.lawful is)) h)
     c.in-Err.ensures.fault (λ e. c.in-Err.ensures.read (ap Err e)) (λ e. c.in-Err.ensures.write (ap Err e)) no_read no_write
     (λ rose. no_put (rose-later (g.K.Sink.faults c.args.out.now) (g.K.Sink.faults c.play.new.out) (g.K.Sink.faults c.put_line.new.out) rose c.put_line.ensures.later))
@@ -206,7 +206,7 @@ returns-in-Some-clause-write g c = λ e. inr (c.check_named.ensures.write e).0
 
 pub returns-in-Some-clause-checked : goal.returns-in-Some-clause-checked
 returns-in-Some-clause-checked g c = λ ok check is.
-    subst (λ (q : Check). IfCase (g.H.Host.files c.args.host.now) (map g.G.Guest.score c.args.guests.items) q HasExplanation)
+    subst (λ (q : Check). IfCase (g.H.Host.files c.args.host.now) (map g.G.Guest.sound (map g.G.Guest.score c.args.guests.items)) q HasExplanation)
     (c.words_name_one_check.ensures _ c.in-Some.checked check c.in-Some.ensures.lawful is) (c.check_named.ensures.explained ok)
 
 pub returns-in-Some-clause-wrong : goal.returns-in-Some-clause-wrong
@@ -214,17 +214,17 @@ returns-in-Some-clause-wrong g c = λ row sight e. (c.in-Some.checked, c.in-Some
 
 pub returns-in-Some-clause-decides : goal.returns-in-Some-clause-decides
 returns-in-Some-clause-decides g c = λ check is.
-    subst (λ (q : Check). OfCase (g.H.Host.files c.args.host.now) (map g.G.Guest.score c.args.guests.items) q (λ given written. HasExplanation given written → ¬ Rose (g.H.Host.read_faults c.args.host.now) (g.H.Host.read_faults c.check_named.new.host) → ¬ Rose (g.K.Sink.faults c.args.out.now) (g.K.Sink.faults c.check_named.new.out) → IsDoneOrNoMemory c.check_named.result))
+    subst (λ (q : Check). OfCase (g.H.Host.files c.args.host.now) (map g.G.Guest.sound (map g.G.Guest.score c.args.guests.items)) q (λ given written. HasExplanation given written → ¬ Rose (g.H.Host.read_faults c.args.host.now) (g.H.Host.read_faults c.check_named.new.host) → ¬ Rose (g.K.Sink.faults c.args.out.now) (g.K.Sink.faults c.check_named.new.out) → IsDoneOrNoMemory c.check_named.result))
     (c.words_name_one_check.ensures _ c.in-Some.checked check c.in-Some.ensures.lawful is) c.check_named.ensures.decides
 
 pub returns-in-Some-clause-names : goal.returns-in-Some-clause-names
 returns-in-Some-clause-names g c = λ check is.
-    subst (λ (q : Check). OfCase (g.H.Host.files c.args.host.now) (map g.G.Guest.score c.args.guests.items) q (λ given written. (row : Row) → IsFirstWrong given written row → ¬ Rose (g.H.Host.read_faults c.args.host.now) (g.H.Host.read_faults c.check_named.new.host) → ¬ Rose (g.K.Sink.faults c.args.out.now) (g.K.Sink.faults c.check_named.new.out) → IsWrongAt row c.check_named.result ⊎ (c.check_named.result ≡ NoMemory)))
+    subst (λ (q : Check). OfCase (g.H.Host.files c.args.host.now) (map g.G.Guest.sound (map g.G.Guest.score c.args.guests.items)) q (λ given written. (row : Row) → IsFirstWrong given written row → ¬ Rose (g.H.Host.read_faults c.args.host.now) (g.H.Host.read_faults c.check_named.new.host) → ¬ Rose (g.K.Sink.faults c.args.out.now) (g.K.Sink.faults c.check_named.new.out) → IsWrongAt row c.check_named.result ⊎ (c.check_named.result ≡ NoMemory)))
     (c.words_name_one_check.ensures _ c.in-Some.checked check c.in-Some.ensures.lawful is) c.check_named.ensures.names
 
 pub returns-in-Some-clause-decided : goal.returns-in-Some-clause-decided
 returns-in-Some-clause-decided g c = λ check is.
-    subst (λ (q : Check). HasCase (g.H.Host.files c.args.host.now) (map g.G.Guest.score c.args.guests.items) q → ¬ Rose (g.H.Host.read_faults c.args.host.now) (g.H.Host.read_faults c.check_named.new.host) → ¬ Rose (g.K.Sink.faults c.args.out.now) (g.K.Sink.faults c.check_named.new.out) → IsDecided c.check_named.result)
+    subst (λ (q : Check). HasCase (g.H.Host.files c.args.host.now) (map g.G.Guest.sound (map g.G.Guest.score c.args.guests.items)) q → ¬ Rose (g.H.Host.read_faults c.args.host.now) (g.H.Host.read_faults c.check_named.new.host) → ¬ Rose (g.K.Sink.faults c.args.out.now) (g.K.Sink.faults c.check_named.new.out) → IsDecided c.check_named.result)
     (c.words_name_one_check.ensures _ c.in-Some.checked check c.in-Some.ensures.lawful is) c.check_named.ensures.decided
 
 pub returns-in-Some-clause-verdict : goal.returns-in-Some-clause-verdict
@@ -235,22 +235,22 @@ returns-in-Some-clause-unwritten g c = λ check is. c.check_named.ensures.unwrit
 
 pub returns-in-Some-clause-check_fault : goal.returns-in-Some-clause-check_fault
 returns-in-Some-clause-check_fault g c = λ check is.
-    subst (λ (q : Check). c.check_named.result ≢ Ok → CheckStatus (g.H.Host.files c.args.host.now) (map g.G.Guest.score c.args.guests.items) q c.check_named.result)
+    subst (λ (q : Check). c.check_named.result ≢ Ok → CheckStatus (g.H.Host.files c.args.host.now) (map g.G.Guest.sound (map g.G.Guest.score c.args.guests.items)) q c.check_named.result)
     (c.words_name_one_check.ensures _ c.in-Some.checked check c.in-Some.ensures.lawful is) c.check_named.ensures.fault
 
 pub returns-in-Some-clause-check_read : goal.returns-in-Some-clause-check_read
 returns-in-Some-clause-check_read g c = λ e check is.
-    subst (λ (q : Check). Rose (g.H.Host.read_faults c.args.host.now) (g.H.Host.read_faults c.check_named.new.host) ⊎ LacksCase (g.H.Host.files c.args.host.now) (map g.G.Guest.score c.args.guests.items) q)
+    subst (λ (q : Check). Rose (g.H.Host.read_faults c.args.host.now) (g.H.Host.read_faults c.check_named.new.host) ⊎ LacksCase (g.H.Host.files c.args.host.now) (map g.G.Guest.sound (map g.G.Guest.score c.args.guests.items)) q)
     (c.words_name_one_check.ensures _ c.in-Some.checked check c.in-Some.ensures.lawful is) (c.check_named.ensures.read e)
 
 pub returns-in-Some-clause-check_write : goal.returns-in-Some-clause-check_write
 returns-in-Some-clause-check_write g c = λ e check is.
-    subst (λ (q : Check). Rose (g.K.Sink.faults c.args.out.now) (g.K.Sink.faults c.check_named.new.out) × IsVerdictCut (g.H.Host.files c.args.host.now) (map g.G.Guest.score c.args.guests.items) q (g.K.Sink.content c.args.out.now) (g.K.Sink.content c.check_named.new.out))
+    subst (λ (q : Check). Rose (g.K.Sink.faults c.args.out.now) (g.K.Sink.faults c.check_named.new.out) × IsVerdictCut (g.H.Host.files c.args.host.now) (map g.G.Guest.sound (map g.G.Guest.score c.args.guests.items)) q (g.K.Sink.content c.args.out.now) (g.K.Sink.content c.check_named.new.out))
     (c.words_name_one_check.ensures _ c.in-Some.checked check c.in-Some.ensures.lawful is) (c.check_named.ensures.write e)
 
 pub returns-in-Some-clause-check_exact : goal.returns-in-Some-clause-check_exact
 returns-in-Some-clause-check_exact g c = λ check is.
-    subst (λ (q : Check). (status : Status) → HasRefusal (g.H.Host.files c.args.host.now) (map g.G.Guest.score c.args.guests.items) q.play status → ¬ Rose (g.H.Host.read_faults c.args.host.now) (g.H.Host.read_faults c.check_named.new.host) → (c.check_named.result ≡ status) ⊎ (c.check_named.result ≡ NoMemory))
+    subst (λ (q : Check). (status : Status) → HasRefusal (g.H.Host.files c.args.host.now) (map g.G.Guest.sound (map g.G.Guest.score c.args.guests.items)) q.play status → ¬ Rose (g.H.Host.read_faults c.args.host.now) (g.H.Host.read_faults c.check_named.new.host) → (c.check_named.result ≡ status) ⊎ (c.check_named.result ≡ NoMemory))
     (c.words_name_one_check.ensures _ c.in-Some.checked check c.in-Some.ensures.lawful is) c.check_named.ensures.exact
 
 -- ---- the words are those of no check
@@ -346,7 +346,7 @@ pub returns-in_default-play_names-clause-check_exact : goal.returns-in_default-p
 returns-in_default-play_names-clause-check_exact g c = λ check is. absurd (c.in_default.ensures.unlawful refl check is)
 
 pub returns-in-Err-clause-wrong : goal.returns-in-Err-clause-wrong
-returns-in-Err-clause-wrong g c = λ row sight e. absurd (play-not-wrong (g.H.Host.files c.args.host.now) (map g.G.Guest.score c.args.guests.items) c.in-Some-play_names.names c.in-Err.status row sight e c.in-Err.ensures.fault)
+returns-in-Err-clause-wrong g c = λ row sight e. absurd (play-not-wrong (g.H.Host.files c.args.host.now) (map g.G.Guest.sound (map g.G.Guest.score c.args.guests.items)) c.in-Some-play_names.names c.in-Err.status row sight e c.in-Err.ensures.fault)
 
 pub returns-in_default-play_names-clause-wrong : goal.returns-in_default-play_names-clause-wrong
 returns-in_default-play_names-clause-wrong g c = λ row sight e.

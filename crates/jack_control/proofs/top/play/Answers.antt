@@ -13,7 +13,7 @@ returns-in_err-session-clause-read g c = λ e.
     c.in_err-session.ensures.read (ap (λ (status : Status). Err status) (sym failed.2 ∙ one_err c.from_residual.result failed.0 ReadFault failed.1 e))
 
 pub returns-clause-input : goal.returns-clause-input
-returns-clause-input g c = λ e. input-of (g.H.Host.files c.args.host.now) (map g.G.Guest.score c.args.guests.items) c.args.names.now c.in_ok-session.session c.in_ok-session.ensures.opened
+returns-clause-input g c = λ e. input-of g.G.Guest.sound (g.H.Host.files c.args.host.now) (map g.G.Guest.sound (map g.G.Guest.score c.args.guests.items)) c.args.names.now c.in_ok-session.session c.in_ok-session.ensures.opened
 
 pub returns-clause-others : goal.returns-clause-others
 returns-clause-others g c = touches-after _ _ _ (made_by c.args.names.now) c.open_session.ensures.files c.play_session.ensures.others

@@ -9,7 +9,7 @@ use Rattle.session_run.proofs.closing.close_recorders.Goals as goal
 
 pub close_recorder-requires-clause-pair : goal.close_recorder-requires-clause-pair
 close_recorder-requires-clause-pair g c =
-    (may-close c.args.ring c.loop-recorder.recorder (parts_of c.args.works.now) c.loop-recorder.works.driver.rings.rings c.loop-recorder.works.recorders.items c.producer.result.now c.index_mut-one.result.now c.requires.sound c.requires.files c.loop-recorder.invariant.each ring there).0
+    (may-close g.G.Guest.sound c.args.ring c.loop-recorder.recorder (parts_of c.args.works.now) c.loop-recorder.works.driver.rings.rings c.loop-recorder.works.recorders.items c.producer.result.now c.index_mut-one.result.now c.requires.sound c.requires.files c.loop-recorder.invariant.each ring there).0
   where
     low : c.loop-recorder.recorder < length c.loop-recorder.works.recorders.items
     low = omega (arith, c.loop-recorder-test.true, c.loop-recorder.invariant.end, c.loop-recorder.invariant.each.recordings_same)
@@ -18,11 +18,11 @@ close_recorder-requires-clause-pair g c =
     there = slice_get_read c.loop-recorder.works.recorders.items (length c.loop-recorder.works.recorders.items) c.loop-recorder.recorder c.index_mut-one.result.now refl low c.index_mut-one.ensures.value
 
     ring : slice_get c.loop-recorder.works.driver.rings.rings c.loop-recorder.recorder ≡ Some c.producer.result.now
-    ring = slice_get-get_or c.loop-recorder.works.driver.rings.rings c.loop-recorder.recorder no_ring (omega (arith, low, c.loop-recorder.invariant.each.recordings_same, c.loop-recorder.invariant.each.rings_same, as-many-rings (parts_of c.args.works.now) c.requires.sound)) ∙ ap Some (sym c.producer.ensures.value)
+    ring = slice_get-get_or c.loop-recorder.works.driver.rings.rings c.loop-recorder.recorder no_ring (omega (arith, low, c.loop-recorder.invariant.each.recordings_same, c.loop-recorder.invariant.each.rings_same, as-many-rings g.G.Guest.sound (parts_of c.args.works.now) c.requires.sound)) ∙ ap Some (sym c.producer.ensures.value)
 
 pub close_recorder-requires-clause-file : goal.close_recorder-requires-clause-file
 close_recorder-requires-clause-file g c =
-    (may-close c.args.ring c.loop-recorder.recorder (parts_of c.args.works.now) c.loop-recorder.works.driver.rings.rings c.loop-recorder.works.recorders.items c.producer.result.now c.index_mut-one.result.now c.requires.sound c.requires.files c.loop-recorder.invariant.each ring there).1
+    (may-close g.G.Guest.sound c.args.ring c.loop-recorder.recorder (parts_of c.args.works.now) c.loop-recorder.works.driver.rings.rings c.loop-recorder.works.recorders.items c.producer.result.now c.index_mut-one.result.now c.requires.sound c.requires.files c.loop-recorder.invariant.each ring there).1
   where
     low : c.loop-recorder.recorder < length c.loop-recorder.works.recorders.items
     low = omega (arith, c.loop-recorder-test.true, c.loop-recorder.invariant.end, c.loop-recorder.invariant.each.recordings_same)
@@ -31,7 +31,7 @@ close_recorder-requires-clause-file g c =
     there = slice_get_read c.loop-recorder.works.recorders.items (length c.loop-recorder.works.recorders.items) c.loop-recorder.recorder c.index_mut-one.result.now refl low c.index_mut-one.ensures.value
 
     ring : slice_get c.loop-recorder.works.driver.rings.rings c.loop-recorder.recorder ≡ Some c.producer.result.now
-    ring = slice_get-get_or c.loop-recorder.works.driver.rings.rings c.loop-recorder.recorder no_ring (omega (arith, low, c.loop-recorder.invariant.each.recordings_same, c.loop-recorder.invariant.each.rings_same, as-many-rings (parts_of c.args.works.now) c.requires.sound)) ∙ ap Some (sym c.producer.ensures.value)
+    ring = slice_get-get_or c.loop-recorder.works.driver.rings.rings c.loop-recorder.recorder no_ring (omega (arith, low, c.loop-recorder.invariant.each.recordings_same, c.loop-recorder.invariant.each.rings_same, as-many-rings g.G.Guest.sound (parts_of c.args.works.now) c.requires.sound)) ∙ ap Some (sym c.producer.ensures.value)
 
 pub returns-in_err-close_recorder-clause-failed : goal.returns-in_err-close_recorder-clause-failed
 returns-in_err-close_recorder-clause-failed g c = on-err c.from_residual.result _
@@ -46,7 +46,7 @@ returns-in_err-close_recorder-clause-failed g c = on-err c.from_residual.result 
     there = slice_get_read c.loop-recorder.works.recorders.items (length c.loop-recorder.works.recorders.items) c.loop-recorder.recorder c.index_mut-one.result.now refl low c.index_mut-one.ensures.value
 
     ring : slice_get c.loop-recorder.works.driver.rings.rings c.loop-recorder.recorder ≡ Some c.producer.result.now
-    ring = slice_get-get_or c.loop-recorder.works.driver.rings.rings c.loop-recorder.recorder no_ring (omega (arith, low, c.loop-recorder.invariant.each.recordings_same, c.loop-recorder.invariant.each.rings_same, as-many-rings (parts_of c.args.works.now) c.requires.sound)) ∙ ap Some (sym c.producer.ensures.value)
+    ring = slice_get-get_or c.loop-recorder.works.driver.rings.rings c.loop-recorder.recorder no_ring (omega (arith, low, c.loop-recorder.invariant.each.recordings_same, c.loop-recorder.invariant.each.rings_same, as-many-rings g.G.Guest.sound (parts_of c.args.works.now) c.requires.sound)) ∙ ap Some (sym c.producer.ensures.value)
 
 pub loop-recorder-preserved : goal.loop-recorder-preserved
 loop-recorder-preserved g c = record {
@@ -64,7 +64,7 @@ loop-recorder-preserved g c = record {
     there = slice_get_read c.loop-recorder.works.recorders.items (length c.loop-recorder.works.recorders.items) c.loop-recorder.recorder c.index_mut-one.result.now refl low c.index_mut-one.ensures.value
 
     ring : slice_get c.loop-recorder.works.driver.rings.rings c.loop-recorder.recorder ≡ Some c.producer.result.now
-    ring = slice_get-get_or c.loop-recorder.works.driver.rings.rings c.loop-recorder.recorder no_ring (omega (arith, low, c.loop-recorder.invariant.each.recordings_same, c.loop-recorder.invariant.each.rings_same, as-many-rings (parts_of c.args.works.now) c.requires.sound)) ∙ ap Some (sym c.producer.ensures.value)
+    ring = slice_get-get_or c.loop-recorder.works.driver.rings.rings c.loop-recorder.recorder no_ring (omega (arith, low, c.loop-recorder.invariant.each.recordings_same, c.loop-recorder.invariant.each.rings_same, as-many-rings g.G.Guest.sound (parts_of c.args.works.now) c.requires.sound)) ∙ ap Some (sym c.producer.ensures.value)
 
 pub returns-clause-closed : goal.returns-clause-closed
 returns-clause-closed g c =

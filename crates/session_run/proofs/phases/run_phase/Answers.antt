@@ -10,29 +10,29 @@ use Rattle.session_run.proofs.phases.run_phase.Goals as goal
 
 pub loop-init : goal.loop-init
 loop-init g c = record {
-  inside = phase-begins {S = g.row.S.Denot} {W = g.row.W.Denot} {G = g.row.G.Denot} c.a_phase_begins.ensures.at c.desks_leave_the_parts.ensures.begun c.args.works.now c.begin.new.works c.period.new.self c.args.phase c.args.segment (of-phase c.segments_are_the_phases.ensures.there c.args.works.now.driver.script c.args.works.now.driver.script c.args.phase c.args.segment refl c.requires.there) c.requires.sound c.requires.behind c.begin.ensures.begun c.begin.ensures.group c.period.ensures;
+  inside = phase-begins g.G.Guest.sound {S = g.row.S.Denot} {W = g.row.W.Denot} {G = g.row.G.Denot} c.a_phase_begins.ensures.at c.desks_leave_the_parts.ensures.begun c.args.works.now c.begin.new.works c.period.new.self c.args.phase c.args.segment (of-phase c.segments_are_the_phases.ensures.there c.args.works.now.driver.script c.args.works.now.driver.script c.args.phase c.args.segment refl c.requires.there) c.requires.sound c.requires.behind c.begin.ensures.begun c.begin.ensures.group c.period.ensures;
   within = omega arith;
-  stays = stays-begun {S = g.row.S.Denot} {W = g.row.W.Denot} {G = g.row.G.Denot} c.args.works.now c.begin.new.works c.period.new.self c.args.segment.period c.requires.files c.begin.ensures.driver c.begin.ensures.recorders c.period.ensures;
-  kept = phase-keeps {S = g.row.S.Denot} {W = g.row.W.Denot} {G = g.row.G.Denot} c.a_phase_begins.ensures.kept c.args.works.now c.begin.new.works c.period.new.self c.args.phase c.args.segment (of-phase c.segments_are_the_phases.ensures.there c.args.works.now.driver.script c.args.works.now.driver.script c.args.phase c.args.segment refl c.requires.there) c.requires.sound c.requires.behind c.begin.ensures.begun c.period.ensures;
+  stays = stays-begun g.G.Guest.sound {S = g.row.S.Denot} {W = g.row.W.Denot} {G = g.row.G.Denot} c.args.works.now c.begin.new.works c.period.new.self c.args.segment.period c.requires.files c.begin.ensures.driver c.begin.ensures.recorders c.period.ensures;
+  kept = phase-keeps g.G.Guest.sound {S = g.row.S.Denot} {W = g.row.W.Denot} {G = g.row.G.Denot} c.a_phase_begins.ensures.kept c.args.works.now c.begin.new.works c.period.new.self c.args.phase c.args.segment (of-phase c.segments_are_the_phases.ensures.there c.args.works.now.driver.script c.args.works.now.driver.script c.args.phase c.args.segment refl c.requires.there) c.requires.sound c.requires.behind c.begin.ensures.begun c.period.ensures;
 }
 
 pub turn-requires-clause-left : goal.turn-requires-clause-left
-turn-requires-clause-left g c κs within = (next-in {S = g.row.S.Denot} {W = g.row.W.Denot} {G = g.row.G.Denot} c.cycles_of_a_phase.ensures.there c.cycles_of_a_phase.ensures.is c.loop.works c.args.segment c.args.phase c.loop.counter c.loop.invariant.inside (of-phase c.segments_are_the_phases.ensures.there c.args.works.now.driver.script c.loop.works.driver.script c.args.phase c.args.segment c.loop.invariant.stays.script c.requires.there) c.loop-test.true).left
+turn-requires-clause-left g c κs within = (next-in g.G.Guest.sound {S = g.row.S.Denot} {W = g.row.W.Denot} {G = g.row.G.Denot} c.cycles_of_a_phase.ensures.there c.cycles_of_a_phase.ensures.is c.loop.works c.args.segment c.args.phase c.loop.counter c.loop.invariant.inside (of-phase c.segments_are_the_phases.ensures.there c.args.works.now.driver.script c.loop.works.driver.script c.args.phase c.args.segment c.loop.invariant.stays.script c.requires.there) c.loop-test.true).left
 
 pub turn-requires-clause-kind : goal.turn-requires-clause-kind
-turn-requires-clause-kind g c κs within = (next-in {S = g.row.S.Denot} {W = g.row.W.Denot} {G = g.row.G.Denot} c.cycles_of_a_phase.ensures.there c.cycles_of_a_phase.ensures.is c.loop.works c.args.segment c.args.phase c.loop.counter c.loop.invariant.inside (of-phase c.segments_are_the_phases.ensures.there c.args.works.now.driver.script c.loop.works.driver.script c.args.phase c.args.segment c.loop.invariant.stays.script c.requires.there) c.loop-test.true).kind
+turn-requires-clause-kind g c κs within = (next-in g.G.Guest.sound {S = g.row.S.Denot} {W = g.row.W.Denot} {G = g.row.G.Denot} c.cycles_of_a_phase.ensures.there c.cycles_of_a_phase.ensures.is c.loop.works c.args.segment c.args.phase c.loop.counter c.loop.invariant.inside (of-phase c.segments_are_the_phases.ensures.there c.args.works.now.driver.script c.loop.works.driver.script c.args.phase c.args.segment c.loop.invariant.stays.script c.requires.there) c.loop-test.true).kind
 
 pub turn-requires-clause-period : goal.turn-requires-clause-period
-turn-requires-clause-period g c κs within = (next-in {S = g.row.S.Denot} {W = g.row.W.Denot} {G = g.row.G.Denot} c.cycles_of_a_phase.ensures.there c.cycles_of_a_phase.ensures.is c.loop.works c.args.segment c.args.phase c.loop.counter c.loop.invariant.inside (of-phase c.segments_are_the_phases.ensures.there c.args.works.now.driver.script c.loop.works.driver.script c.args.phase c.args.segment c.loop.invariant.stays.script c.requires.there) c.loop-test.true).period
+turn-requires-clause-period g c κs within = (next-in g.G.Guest.sound {S = g.row.S.Denot} {W = g.row.W.Denot} {G = g.row.G.Denot} c.cycles_of_a_phase.ensures.there c.cycles_of_a_phase.ensures.is c.loop.works c.args.segment c.args.phase c.loop.counter c.loop.invariant.inside (of-phase c.segments_are_the_phases.ensures.there c.args.works.now.driver.script c.loop.works.driver.script c.args.phase c.args.segment c.loop.invariant.stays.script c.requires.there) c.loop-test.true).period
 
 pub returns-in_err-turn-clause-fault : goal.returns-in_err-turn-clause-fault
 returns-in_err-turn-clause-fault g c =
     on-err c.from_residual.result
-    (λ given kept. phase-fails {S = g.row.S.Denot} {W = g.row.W.Denot} {G = g.row.G.Denot} c.a_turn_that_fails_leaves_fronts.ensures c.cycles_of_a_phase.ensures.there c.cycles_of_a_phase.ensures.is c.loop.works c.turn.new.works c.args.segment c.args.phase c.loop.counter c.loop.invariant.inside (of-phase c.segments_are_the_phases.ensures.there c.args.works.now.driver.script c.loop.works.driver.script c.args.phase c.args.segment c.loop.invariant.stays.script c.requires.there) c.loop-test.true
+    (λ given kept. phase-fails g.G.Guest.sound {S = g.row.S.Denot} {W = g.row.W.Denot} {G = g.row.G.Denot} c.a_turn_that_fails_leaves_fronts.ensures c.cycles_of_a_phase.ensures.there c.cycles_of_a_phase.ensures.is c.loop.works c.turn.new.works c.args.segment c.args.phase c.loop.counter c.loop.invariant.inside (of-phase c.segments_are_the_phases.ensures.there c.args.works.now.driver.script c.loop.works.driver.script c.args.phase c.args.segment c.loop.invariant.stays.script c.requires.there) c.loop-test.true
     c.in_err-turn.ensures.failed c.turn.ensures.stays.files given (c.loop.invariant.kept given kept))
 
 pub returns-in_err-turn-clause-stays : goal.returns-in_err-turn-clause-stays
-returns-in_err-turn-clause-stays g c = stays-trans {S = g.row.S.Denot} {W = g.row.W.Denot} {G = g.row.G.Denot} c.args.works.now c.loop.works c.turn.new.works c.loop.invariant.stays c.turn.ensures.stays
+returns-in_err-turn-clause-stays g c = stays-trans g.G.Guest.sound {S = g.row.S.Denot} {W = g.row.W.Denot} {G = g.row.G.Denot} c.args.works.now c.loop.works c.turn.new.works c.loop.invariant.stays c.turn.ensures.stays
 
 pub returns-in_err-turn-clause-write : goal.returns-in_err-turn-clause-write
 returns-in_err-turn-clause-write g c is =
@@ -41,13 +41,13 @@ returns-in_err-turn-clause-write g c is =
 
 pub loop-preserved : goal.loop-preserved
 loop-preserved g c = record {
-  inside = turned-on {S = g.row.S.Denot} {W = g.row.W.Denot} {G = g.row.G.Denot} c.cycles_of_a_phase.ensures.there c.cycles_of_a_phase.ensures.is c.a_cycle_goes_on.ensures.at c.a_turn_leaves_the_parts.ensures.sound c.loop.works c.turn.new.works c.args.segment c.args.phase c.loop.counter c.loop.invariant.inside (of-phase c.segments_are_the_phases.ensures.there c.args.works.now.driver.script c.loop.works.driver.script c.args.phase c.args.segment c.loop.invariant.stays.script c.requires.there)
+  inside = turned-on g.G.Guest.sound {S = g.row.S.Denot} {W = g.row.W.Denot} {G = g.row.G.Denot} c.cycles_of_a_phase.ensures.there c.cycles_of_a_phase.ensures.is c.a_cycle_goes_on.ensures.at c.a_turn_leaves_the_parts.ensures.sound c.loop.works c.turn.new.works c.args.segment c.args.phase c.loop.counter c.loop.invariant.inside (of-phase c.segments_are_the_phases.ensures.there c.args.works.now.driver.script c.loop.works.driver.script c.args.phase c.args.segment c.loop.invariant.stays.script c.requires.there)
       c.loop-test.true c.in_ok-turn.ensures.turned c.in_ok-turn.ensures.group c.turn.ensures.set;
   within = let low = c.loop-test.true in omega (arith, low);
-  stays = stays-trans {S = g.row.S.Denot} {W = g.row.W.Denot} {G = g.row.G.Denot} c.args.works.now c.loop.works c.turn.new.works c.loop.invariant.stays c.turn.ensures.stays;
-  kept = λ given kept. turned-keeps {S = g.row.S.Denot} {W = g.row.W.Denot} {G = g.row.G.Denot} c.a_cycle_goes_on.ensures.kept c.loop.works c.turn.new.works c.args.segment c.args.phase c.loop.counter c.loop.invariant.inside (of-phase c.segments_are_the_phases.ensures.there c.args.works.now.driver.script c.loop.works.driver.script c.args.phase c.args.segment c.loop.invariant.stays.script c.requires.there) c.loop-test.true c.in_ok-turn.ensures.turned given (c.loop.invariant.kept given kept);
+  stays = stays-trans g.G.Guest.sound {S = g.row.S.Denot} {W = g.row.W.Denot} {G = g.row.G.Denot} c.args.works.now c.loop.works c.turn.new.works c.loop.invariant.stays c.turn.ensures.stays;
+  kept = λ given kept. turned-keeps g.G.Guest.sound {S = g.row.S.Denot} {W = g.row.W.Denot} {G = g.row.G.Denot} c.a_cycle_goes_on.ensures.kept c.loop.works c.turn.new.works c.args.segment c.args.phase c.loop.counter c.loop.invariant.inside (of-phase c.segments_are_the_phases.ensures.there c.args.works.now.driver.script c.loop.works.driver.script c.args.phase c.args.segment c.loop.invariant.stays.script c.requires.there) c.loop-test.true c.in_ok-turn.ensures.turned given (c.loop.invariant.kept given kept);
 }
 
 pub returns-clause-behind : goal.returns-clause-behind
 returns-clause-behind g c =
-    phase-ends {S = g.row.S.Denot} {W = g.row.W.Denot} {G = g.row.G.Denot} c.a_phase_ends.ensures c.loop.works c.args.segment c.args.phase c.loop.counter c.loop.invariant.inside (of-phase c.segments_are_the_phases.ensures.there c.args.works.now.driver.script c.loop.works.driver.script c.args.phase c.args.segment c.loop.invariant.stays.script c.requires.there) c.loop.invariant.within c.loop-test.false
+    phase-ends g.G.Guest.sound {S = g.row.S.Denot} {W = g.row.W.Denot} {G = g.row.G.Denot} c.a_phase_ends.ensures c.loop.works c.args.segment c.args.phase c.loop.counter c.loop.invariant.inside (of-phase c.segments_are_the_phases.ensures.there c.args.works.now.driver.script c.loop.works.driver.script c.args.phase c.args.segment c.loop.invariant.stays.script c.requires.there) c.loop.invariant.within c.loop-test.false

@@ -16,7 +16,7 @@ pub run_phase-requires-clause-there : goal.run_phase-requires-clause-there
 run_phase-requires-clause-there g c κs within = segment_there c.segments_are_the_phases.ensures.there c.args.segments.now c.args.works.now.driver.script c.loop-phase.works.driver.script c.requires.segments c.loop-phase.invariant.stays.script c.loop-phase.phase c.loop-phase-test.true (record { period = 0; is_freewheel = false; cycles = 0 })
 
 pub returns-in_err-run_phase-clause-stays : goal.returns-in_err-run_phase-clause-stays
-returns-in_err-run_phase-clause-stays g c = stays-trans {S = g.row.S.Denot} {W = g.row.W.Denot} {G = g.row.G.Denot} c.args.works.now c.loop-phase.works c.run_phase.new.works c.loop-phase.invariant.stays c.run_phase.ensures.stays
+returns-in_err-run_phase-clause-stays g c = stays-trans g.G.Guest.sound {S = g.row.S.Denot} {W = g.row.W.Denot} {G = g.row.G.Denot} c.args.works.now c.loop-phase.works c.run_phase.new.works c.loop-phase.invariant.stays c.run_phase.ensures.stays
 
 pub returns-in_err-run_phase-clause-write : goal.returns-in_err-run_phase-clause-write
 returns-in_err-run_phase-clause-write g c is =
@@ -25,9 +25,9 @@ returns-in_err-run_phase-clause-write g c is =
 
 pub loop-phase-preserved : goal.loop-phase-preserved
 loop-phase-preserved g c = record {
-  behind = let next : suc c.loop-phase.phase ≡ c.loop-phase.phase + 1 = omega arith in subst (λ n. SerialBehind (seen c.run_phase.new.works) n) next c.in_ok-run_phase.ensures.behind;
+  behind = let next : suc c.loop-phase.phase ≡ c.loop-phase.phase + 1 = omega arith in subst (λ n. SerialBehind (seen g.G.Guest.sound c.run_phase.new.works) n) next c.in_ok-run_phase.ensures.behind;
   sound = c.in_ok-run_phase.ensures.sound;
   within = let low = c.loop-phase-test.true in omega (arith, low);
-  stays = stays-trans {S = g.row.S.Denot} {W = g.row.W.Denot} {G = g.row.G.Denot} c.args.works.now c.loop-phase.works c.run_phase.new.works c.loop-phase.invariant.stays c.run_phase.ensures.stays;
+  stays = stays-trans g.G.Guest.sound {S = g.row.S.Denot} {W = g.row.W.Denot} {G = g.row.G.Denot} c.args.works.now c.loop-phase.works c.run_phase.new.works c.loop-phase.invariant.stays c.run_phase.ensures.stays;
   kept = λ given kept. c.in_ok-run_phase.ensures.kept given (c.loop-phase.invariant.kept given kept);
 }

@@ -7,9 +7,9 @@ use Rattle.session_run.proofs.phases.run_phases.Given as goal
 
 abbrev pub invariant-loop-phase : goal.invariant-loop-phase
 invariant-loop-phase g l = record {
-  behind : SerialBehind (seen {S = g.row.S.Denot} {W = g.row.W.Denot} {G = g.row.G.Denot} l.works) l.phase;
-  sound : IsSound (seen {S = g.row.S.Denot} {W = g.row.W.Denot} {G = g.row.G.Denot} l.works);
+  behind : SerialBehind (seen g.G.Guest.sound {S = g.row.S.Denot} {W = g.row.W.Denot} {G = g.row.G.Denot} l.works) l.phase;
+  sound : IsSound (seen g.G.Guest.sound {S = g.row.S.Denot} {W = g.row.W.Denot} {G = g.row.G.Denot} l.works);
   within : l.phase ≤ l.phase-end;
-  stays : Stays (parts_of {S = g.row.S.Denot} {W = g.row.W.Denot} {G = g.row.G.Denot} l.fn.works) (parts_of {S = g.row.S.Denot} {W = g.row.W.Denot} {G = g.row.G.Denot} l.works);
-  kept : (given : Given) → SerialKept given (seen {S = g.row.S.Denot} {W = g.row.W.Denot} {G = g.row.G.Denot} l.fn.works) → SerialKept given (seen {S = g.row.S.Denot} {W = g.row.W.Denot} {G = g.row.G.Denot} l.works);
+  stays : Stays g.G.Guest.sound (parts_of {S = g.row.S.Denot} {W = g.row.W.Denot} {G = g.row.G.Denot} l.fn.works) (parts_of {S = g.row.S.Denot} {W = g.row.W.Denot} {G = g.row.G.Denot} l.works);
+  kept : (given : Given) → SerialKept given (seen g.G.Guest.sound {S = g.row.S.Denot} {W = g.row.W.Denot} {G = g.row.G.Denot} l.fn.works) → SerialKept given (seen g.G.Guest.sound {S = g.row.S.Denot} {W = g.row.W.Denot} {G = g.row.G.Denot} l.works);
 }

@@ -6,6 +6,6 @@ use Rattle.session_run.proofs.reporting.put_meters.Given as goal
 
 abbrev pub invariant-loop-entry : goal.invariant-loop-entry
 invariant-loop-entry g l = record {
-  gained : Gains (g.K.Sink.content l.initial.out) (g.K.Sink.content l.out) (flat_map (meter_text (driver_of l.driver)) (take l.entry-index l.history));
+  gained : Gains (g.K.Sink.content l.initial.out) (g.K.Sink.content l.out) (flat_map (meter_text (driver_of g.G.Guest.sound l.driver)) (take l.entry-index l.history));
   kept : g.K.Sink.faults l.out ≡ g.K.Sink.faults l.initial.out;
 }

@@ -15,12 +15,12 @@ cycle-requires-clause-able g c κs within = record { desk = c.args.works.now.des
 
 pub returns-in-Err-clause-failed : goal.returns-in-Err-clause-failed
 returns-in-Err-clause-failed g c =
-    turn-fails c.args.freewheel (seen c.args.works.now) (seen_with c.args.works.now.desk c.cycle.new.driver c.cycle.new.recorders.items) (seen c.meet.new.works) (c.in-Err.ensures.fails c.args.works.now.desk c.requires.sound) c.meet.ensures.met
+    turn-fails c.args.freewheel (seen g.G.Guest.sound c.args.works.now) (seen_with g.G.Guest.sound c.args.works.now.desk c.cycle.new.driver c.cycle.new.recorders.items) (seen g.G.Guest.sound c.meet.new.works) (c.in-Err.ensures.fails c.args.works.now.desk c.requires.sound) c.meet.ensures.met
 
 pub returns-in-Err-clause-stays : goal.returns-in-Err-clause-stays
 returns-in-Err-clause-stays g c =
-    stays-trans {S = g.row.S.Denot} {W = g.row.W.Denot} {G = g.row.G.Denot} c.args.works.now cycled c.meet.new.works (c.cycle.ensures.stays c.args.works.now.desk)
-    (stays-met {S = g.row.S.Denot} {W = g.row.W.Denot} {G = g.row.G.Denot} cycled c.meet.new.works c.meet.ensures.driver c.meet.ensures.recorders (c.cycle.ensures.stays c.args.works.now.desk).files)
+    stays-trans g.G.Guest.sound {S = g.row.S.Denot} {W = g.row.W.Denot} {G = g.row.G.Denot} c.args.works.now cycled c.meet.new.works (c.cycle.ensures.stays c.args.works.now.desk)
+    (stays-met g.G.Guest.sound {S = g.row.S.Denot} {W = g.row.W.Denot} {G = g.row.G.Denot} cycled c.meet.new.works c.meet.ensures.driver c.meet.ensures.recorders (c.cycle.ensures.stays c.args.works.now.desk).files)
   where
     cycled : Works g.row.S.Denot g.row.W.Denot g.row.G.Denot
     cycled = record { desk = c.args.works.now.desk; driver = c.cycle.new.driver; recorders = c.cycle.new.recorders }
@@ -37,12 +37,12 @@ returns-in-Err-clause-write g c is =
 
 pub returns-clause-turned : goal.returns-clause-turned
 returns-clause-turned g c =
-    goes-round c.args.freewheel (seen c.args.works.now) (seen_with c.args.works.now.desk c.cycle.new.driver c.cycle.new.recorders.items) (seen c.go_round.new.works) (c.in_default.ensures.goes c.args.works.now.desk c.requires.sound) c.go_round.ensures.round
+    goes-round c.args.freewheel (seen g.G.Guest.sound c.args.works.now) (seen_with g.G.Guest.sound c.args.works.now.desk c.cycle.new.driver c.cycle.new.recorders.items) (seen g.G.Guest.sound c.go_round.new.works) (c.in_default.ensures.goes c.args.works.now.desk c.requires.sound) c.go_round.ensures.round
 
 pub returns-clause-stays : goal.returns-clause-stays
 returns-clause-stays g c =
-    stays-trans {S = g.row.S.Denot} {W = g.row.W.Denot} {G = g.row.G.Denot} c.args.works.now cycled c.go_round.new.works (c.cycle.ensures.stays c.args.works.now.desk)
-    (stays-met {S = g.row.S.Denot} {W = g.row.W.Denot} {G = g.row.G.Denot} cycled c.go_round.new.works c.go_round.ensures.driver c.go_round.ensures.recorders (c.cycle.ensures.stays c.args.works.now.desk).files)
+    stays-trans g.G.Guest.sound {S = g.row.S.Denot} {W = g.row.W.Denot} {G = g.row.G.Denot} c.args.works.now cycled c.go_round.new.works (c.cycle.ensures.stays c.args.works.now.desk)
+    (stays-met g.G.Guest.sound {S = g.row.S.Denot} {W = g.row.W.Denot} {G = g.row.G.Denot} cycled c.go_round.new.works c.go_round.ensures.driver c.go_round.ensures.recorders (c.cycle.ensures.stays c.args.works.now.desk).files)
   where
     cycled : Works g.row.S.Denot g.row.W.Denot g.row.G.Denot
     cycled = record { desk = c.args.works.now.desk; driver = c.cycle.new.driver; recorders = c.cycle.new.recorders }

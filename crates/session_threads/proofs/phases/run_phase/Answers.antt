@@ -11,10 +11,10 @@ use Rattle.session_threads.proofs.StayLemmas.{stays-begun}
 use Rattle.session_threads.proofs.phases.run_phase.Goals as goal
 
 pub begin-requires-clause-may : goal.begin-requires-clause-may
-begin-requires-clause-may g c = let of = (of-phase c.segments_are_the_phases.ensures.there c.args.rig.works.driver.script c.args.rig.works.driver.script c.args.phase c.args.segment refl c.requires.there) in may-begin (seen {S = g.row.S.Denot} {W = g.row.W.Denot} {G = g.row.G.Denot} c.args.rig.works) c.args.phase of.phase c.requires.sound c.requires.ran of.there
+begin-requires-clause-may g c = let of = (of-phase c.segments_are_the_phases.ensures.there c.args.rig.works.driver.script c.args.rig.works.driver.script c.args.phase c.args.segment refl c.requires.there) in may-begin (seen g.G.Guest.sound {S = g.row.S.Denot} {W = g.row.W.Denot} {G = g.row.G.Denot} c.args.rig.works) c.args.phase of.phase c.requires.sound c.requires.ran of.there
 
 pub run_segment-rig-requires-clause-sound : goal.run_segment-rig-requires-clause-sound
-run_segment-rig-requires-clause-sound g c κs within = opens-sound c.args.phase (seen {S = g.row.S.Denot} {W = g.row.W.Denot} {G = g.row.G.Denot} c.args.rig.works) (seen {S = g.row.S.Denot} {W = g.row.W.Denot} {G = g.row.G.Denot} c.begin.new.works) c.requires.sound c.begin.ensures.opens
+run_segment-rig-requires-clause-sound g c κs within = opens-sound c.args.phase (seen g.G.Guest.sound {S = g.row.S.Denot} {W = g.row.W.Denot} {G = g.row.G.Denot} c.args.rig.works) (seen g.G.Guest.sound {S = g.row.S.Denot} {W = g.row.W.Denot} {G = g.row.G.Denot} c.begin.new.works) c.requires.sound c.begin.ensures.opens
 
 pub run_segment-rig-requires-clause-files : goal.run_segment-rig-requires-clause-files
 run_segment-rig-requires-clause-files g c κs within = files-same c.args.rig.works.desk c.begin.new.works.desk c.args.rig.works.driver c.begin.new.works.driver c.args.rig.works.recorders.items c.begin.new.works.recorders.items (ap vec_items c.begin.ensures.recorders) c.requires.files
@@ -24,8 +24,8 @@ run_segment-rig-requires-clause-begun g c κs within = (let phase = c.begin.ensu
 
 pub run_segment-rig-requires-clause-next : goal.run_segment-rig-requires-clause-next
 run_segment-rig-requires-clause-next g c κs within some =
-    next-of c.cycles_of_a_phase.ensures.there c.cycles_of_a_phase.ensures.is (driver_of c.begin.new.works.driver) c.args.phase c.args.segment (of-phase c.segments_are_the_phases.ensures.there c.args.rig.works.driver.script c.begin.new.works.driver.script c.args.phase c.args.segment (ap (λ (gear : Gear). gear.script) c.begin.ensures.driver) c.requires.there)
-    (subst (λ (gear : Gear). run (driver_of gear) ≡ cycles_before gear.script c.args.phase) (sym c.begin.ensures.driver) c.requires.ran.cycles) (ap (λ (gear : Gear). gear.set) c.begin.ensures.driver) some
+    next-of c.cycles_of_a_phase.ensures.there c.cycles_of_a_phase.ensures.is (driver_of g.G.Guest.sound c.begin.new.works.driver) c.args.phase c.args.segment (of-phase c.segments_are_the_phases.ensures.there c.args.rig.works.driver.script c.begin.new.works.driver.script c.args.phase c.args.segment (ap (λ (gear : Gear). gear.script) c.begin.ensures.driver) c.requires.there)
+    (subst (λ (gear : Gear). run (driver_of g.G.Guest.sound gear) ≡ cycles_before gear.script c.args.phase) (sym c.begin.ensures.driver) c.requires.ran.cycles) (ap (λ (gear : Gear). gear.set) c.begin.ensures.driver) some
 
 pub run_segment-rig-requires-clause-ring : goal.run_segment-rig-requires-clause-ring
 run_segment-rig-requires-clause-ring g c κs within = c.requires.ring ∙ ap (λ (gear : Gear). gear.script.header.ring) (sym c.begin.ensures.driver)
@@ -47,24 +47,24 @@ stop-requires-clause-files g c = c.run_segment-rig.ensures.stays.files
 
 pub returns-in-Ok-clause-whole : goal.returns-in-Ok-clause-whole
 returns-in-Ok-clause-whole g c =
-    phase-whole c.args.phase c.args.segment.cycles c.args.segment.is_freewheel (seen {S = g.row.S.Denot} {W = g.row.W.Denot} {G = g.row.G.Denot} c.args.rig.works) (seen {S = g.row.S.Denot} {W = g.row.W.Denot} {G = g.row.G.Denot} c.begin.new.works) (seen {S = g.row.S.Denot} {W = g.row.W.Denot} {G = g.row.G.Denot} c.run_segment-rig.result.0.works) (seen {S = g.row.S.Denot} {W = g.row.W.Denot} {G = g.row.G.Denot} c.settle.new.works) c.begin.ensures.opens
+    phase-whole c.args.phase c.args.segment.cycles c.args.segment.is_freewheel (seen g.G.Guest.sound {S = g.row.S.Denot} {W = g.row.W.Denot} {G = g.row.G.Denot} c.args.rig.works) (seen g.G.Guest.sound {S = g.row.S.Denot} {W = g.row.W.Denot} {G = g.row.G.Denot} c.begin.new.works) (seen g.G.Guest.sound {S = g.row.S.Denot} {W = g.row.W.Denot} {G = g.row.G.Denot} c.run_segment-rig.result.0.works) (seen g.G.Guest.sound {S = g.row.S.Denot} {W = g.row.W.Denot} {G = g.row.G.Denot} c.settle.new.works) c.begin.ensures.opens
     (at-ok c.run_segment-rig.result.1 _ c.in-Ok.is c.run_segment-rig.ensures.whole) c.settle.ensures.settled
 
 pub returns-in-Ok-clause-stays : goal.returns-in-Ok-clause-stays
-returns-in-Ok-clause-stays g c = stays-over {S = g.row.S.Denot} {W = g.row.W.Denot} {G = g.row.G.Denot} c.args.rig.works c.begin.new.works c.run_segment-rig.result.0.works c.settle.new.works c.args.segment.period c.begin.ensures.driver c.begin.ensures.recorders c.requires.files c.run_segment-rig.ensures.stays c.settle.ensures.stays
+returns-in-Ok-clause-stays g c = stays-over g.G.Guest.sound {S = g.row.S.Denot} {W = g.row.W.Denot} {G = g.row.G.Denot} c.args.rig.works c.begin.new.works c.run_segment-rig.result.0.works c.settle.new.works c.args.segment.period c.begin.ensures.driver c.begin.ensures.recorders c.requires.files c.run_segment-rig.ensures.stays c.settle.ensures.stays
 
 pub returns-in-Err-clause-fault : goal.returns-in-Err-clause-fault
 returns-in-Err-clause-fault g c =
     let fails = at-err c.run_segment-rig.result.1 _ c.in-Err.is c.run_segment-rig.ensures.fails in
-    (fails.0, phase-fails c.args.phase c.args.segment.cycles fails.0 c.args.segment.is_freewheel (seen {S = g.row.S.Denot} {W = g.row.W.Denot} {G = g.row.G.Denot} c.args.rig.works) (seen {S = g.row.S.Denot} {W = g.row.W.Denot} {G = g.row.G.Denot} c.begin.new.works) (seen {S = g.row.S.Denot} {W = g.row.W.Denot} {G = g.row.G.Denot} c.run_segment-rig.result.0.works) (seen {S = g.row.S.Denot} {W = g.row.W.Denot} {G = g.row.G.Denot} c.stop.new.works) c.begin.ensures.opens fails.1 c.stop.ensures.stopped)
+    (fails.0, phase-fails c.args.phase c.args.segment.cycles fails.0 c.args.segment.is_freewheel (seen g.G.Guest.sound {S = g.row.S.Denot} {W = g.row.W.Denot} {G = g.row.G.Denot} c.args.rig.works) (seen g.G.Guest.sound {S = g.row.S.Denot} {W = g.row.W.Denot} {G = g.row.G.Denot} c.begin.new.works) (seen g.G.Guest.sound {S = g.row.S.Denot} {W = g.row.W.Denot} {G = g.row.G.Denot} c.run_segment-rig.result.0.works) (seen g.G.Guest.sound {S = g.row.S.Denot} {W = g.row.W.Denot} {G = g.row.G.Denot} c.stop.new.works) c.begin.ensures.opens fails.1 c.stop.ensures.stopped)
 
 pub returns-in-Err-clause-stays : goal.returns-in-Err-clause-stays
-returns-in-Err-clause-stays g c = stays-over {S = g.row.S.Denot} {W = g.row.W.Denot} {G = g.row.G.Denot} c.args.rig.works c.begin.new.works c.run_segment-rig.result.0.works c.stop.new.works c.args.segment.period c.begin.ensures.driver c.begin.ensures.recorders c.requires.files c.run_segment-rig.ensures.stays c.stop.ensures.stays
+returns-in-Err-clause-stays g c = stays-over g.G.Guest.sound {S = g.row.S.Denot} {W = g.row.W.Denot} {G = g.row.G.Denot} c.args.rig.works c.begin.new.works c.run_segment-rig.result.0.works c.stop.new.works c.args.segment.period c.begin.ensures.driver c.begin.ensures.recorders c.requires.files c.run_segment-rig.ensures.stays c.stop.ensures.stays
 
 pub returns-in-Err-clause-read : goal.returns-in-Err-clause-read
 returns-in-Err-clause-read g c is =
-    read-between {S = g.row.S.Denot} {W = g.row.W.Denot} {G = g.row.G.Denot} c.args.rig.works c.begin.new.works c.run_segment-rig.result.0.works c.stop.new.works (stays-begun {S = g.row.S.Denot} {W = g.row.W.Denot} {G = g.row.G.Denot} c.args.rig.works c.begin.new.works c.args.segment.period c.begin.ensures.driver c.begin.ensures.recorders c.requires.files) (c.run_segment-rig.ensures.read (c.in-Err.is ∙ is)) c.stop.ensures.stays
+    read-between g.G.Guest.sound {S = g.row.S.Denot} {W = g.row.W.Denot} {G = g.row.G.Denot} c.args.rig.works c.begin.new.works c.run_segment-rig.result.0.works c.stop.new.works (stays-begun g.G.Guest.sound {S = g.row.S.Denot} {W = g.row.W.Denot} {G = g.row.G.Denot} c.args.rig.works c.begin.new.works c.args.segment.period c.begin.ensures.driver c.begin.ensures.recorders c.requires.files) (c.run_segment-rig.ensures.read (c.in-Err.is ∙ is)) c.stop.ensures.stays
 
 pub returns-in-Err-clause-write : goal.returns-in-Err-clause-write
 returns-in-Err-clause-write g c is =
-    write-between {S = g.row.S.Denot} {W = g.row.W.Denot} {G = g.row.G.Denot} c.args.rig.works c.begin.new.works c.run_segment-rig.result.0.works c.stop.new.works (stays-begun {S = g.row.S.Denot} {W = g.row.W.Denot} {G = g.row.G.Denot} c.args.rig.works c.begin.new.works c.args.segment.period c.begin.ensures.driver c.begin.ensures.recorders c.requires.files) (c.run_segment-rig.ensures.write (c.in-Err.is ∙ is)) c.stop.ensures.stays
+    write-between g.G.Guest.sound {S = g.row.S.Denot} {W = g.row.W.Denot} {G = g.row.G.Denot} c.args.rig.works c.begin.new.works c.run_segment-rig.result.0.works c.stop.new.works (stays-begun g.G.Guest.sound {S = g.row.S.Denot} {W = g.row.W.Denot} {G = g.row.G.Denot} c.args.rig.works c.begin.new.works c.args.segment.period c.begin.ensures.driver c.begin.ensures.recorders c.requires.files) (c.run_segment-rig.ensures.write (c.in-Err.is ∙ is)) c.stop.ensures.stays

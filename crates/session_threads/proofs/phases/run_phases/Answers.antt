@@ -24,33 +24,33 @@ loop-phase-init g c = record {
   sound = c.requires.sound;
   at = λ given at. at;
   within = omega arith;
-  stays = stays-refl {S = g.row.S.Denot} {W = g.row.W.Denot} {G = g.row.G.Denot} c.args.rig.works c.requires.files;
+  stays = stays-refl g.G.Guest.sound {S = g.row.S.Denot} {W = g.row.W.Denot} {G = g.row.G.Denot} c.args.rig.works c.requires.files;
 }
 
 pub loop-phase-preserved : goal.loop-phase-preserved
 loop-phase-preserved g c = record {
-  ran = (ran-on c.a_phase_is_behind.ensures.ran (seen {S = g.row.S.Denot} {W = g.row.W.Denot} {G = g.row.G.Denot} c.loop-phase.rig.works) (seen {S = g.row.S.Denot} {W = g.row.W.Denot} {G = g.row.G.Denot} c.run_phase-next.result.0.works) c.loop-phase.phase (get_or c.args.segments.now c.loop-phase.phase (record { period = 0; is_freewheel = false; cycles = 0 })) (of-phase c.segments_are_the_phases.ensures.there c.loop-phase.rig.works.driver.script c.loop-phase.rig.works.driver.script c.loop-phase.phase (get_or c.args.segments.now c.loop-phase.phase (record { period = 0; is_freewheel = false; cycles = 0 })) refl (segment_there c.segments_are_the_phases.ensures.there c.args.segments.now c.args.rig.works.driver.script c.loop-phase.rig.works.driver.script c.requires.segments c.loop-phase.invariant.stays.script c.loop-phase.phase c.loop-phase-test.true (record { period = 0; is_freewheel = false; cycles = 0 }))) c.loop-phase.invariant.sound c.loop-phase.invariant.ran (at-ok c.run_phase-next.result.1 _ c.in-Ok.is c.run_phase-next.ensures.whole)).1;
-  sound = (ran-on c.a_phase_is_behind.ensures.ran (seen {S = g.row.S.Denot} {W = g.row.W.Denot} {G = g.row.G.Denot} c.loop-phase.rig.works) (seen {S = g.row.S.Denot} {W = g.row.W.Denot} {G = g.row.G.Denot} c.run_phase-next.result.0.works) c.loop-phase.phase (get_or c.args.segments.now c.loop-phase.phase (record { period = 0; is_freewheel = false; cycles = 0 })) (of-phase c.segments_are_the_phases.ensures.there c.loop-phase.rig.works.driver.script c.loop-phase.rig.works.driver.script c.loop-phase.phase (get_or c.args.segments.now c.loop-phase.phase (record { period = 0; is_freewheel = false; cycles = 0 })) refl (segment_there c.segments_are_the_phases.ensures.there c.args.segments.now c.args.rig.works.driver.script c.loop-phase.rig.works.driver.script c.requires.segments c.loop-phase.invariant.stays.script c.loop-phase.phase c.loop-phase-test.true (record { period = 0; is_freewheel = false; cycles = 0 }))) c.loop-phase.invariant.sound c.loop-phase.invariant.ran (at-ok c.run_phase-next.result.1 _ c.in-Ok.is c.run_phase-next.ensures.whole)).0;
-  at = λ given at. ran-at c.a_phase_is_behind.ensures.at given (seen {S = g.row.S.Denot} {W = g.row.W.Denot} {G = g.row.G.Denot} c.loop-phase.rig.works) (seen {S = g.row.S.Denot} {W = g.row.W.Denot} {G = g.row.G.Denot} c.run_phase-next.result.0.works) c.loop-phase.phase (get_or c.args.segments.now c.loop-phase.phase (record { period = 0; is_freewheel = false; cycles = 0 })) (of-phase c.segments_are_the_phases.ensures.there c.loop-phase.rig.works.driver.script c.loop-phase.rig.works.driver.script c.loop-phase.phase (get_or c.args.segments.now c.loop-phase.phase (record { period = 0; is_freewheel = false; cycles = 0 })) refl (segment_there c.segments_are_the_phases.ensures.there c.args.segments.now c.args.rig.works.driver.script c.loop-phase.rig.works.driver.script c.requires.segments c.loop-phase.invariant.stays.script c.loop-phase.phase c.loop-phase-test.true (record { period = 0; is_freewheel = false; cycles = 0 }))) (subst (λ (s : Script). IsSome s.header.threads) (sym c.loop-phase.invariant.stays.script) c.requires.threads) c.loop-phase.invariant.sound (c.loop-phase.invariant.at given at) (at-ok c.run_phase-next.result.1 _ c.in-Ok.is c.run_phase-next.ensures.whole);
+  ran = (ran-on c.a_phase_is_behind.ensures.ran (seen g.G.Guest.sound {S = g.row.S.Denot} {W = g.row.W.Denot} {G = g.row.G.Denot} c.loop-phase.rig.works) (seen g.G.Guest.sound {S = g.row.S.Denot} {W = g.row.W.Denot} {G = g.row.G.Denot} c.run_phase-next.result.0.works) c.loop-phase.phase (get_or c.args.segments.now c.loop-phase.phase (record { period = 0; is_freewheel = false; cycles = 0 })) (of-phase c.segments_are_the_phases.ensures.there c.loop-phase.rig.works.driver.script c.loop-phase.rig.works.driver.script c.loop-phase.phase (get_or c.args.segments.now c.loop-phase.phase (record { period = 0; is_freewheel = false; cycles = 0 })) refl (segment_there c.segments_are_the_phases.ensures.there c.args.segments.now c.args.rig.works.driver.script c.loop-phase.rig.works.driver.script c.requires.segments c.loop-phase.invariant.stays.script c.loop-phase.phase c.loop-phase-test.true (record { period = 0; is_freewheel = false; cycles = 0 }))) c.loop-phase.invariant.sound c.loop-phase.invariant.ran (at-ok c.run_phase-next.result.1 _ c.in-Ok.is c.run_phase-next.ensures.whole)).1;
+  sound = (ran-on c.a_phase_is_behind.ensures.ran (seen g.G.Guest.sound {S = g.row.S.Denot} {W = g.row.W.Denot} {G = g.row.G.Denot} c.loop-phase.rig.works) (seen g.G.Guest.sound {S = g.row.S.Denot} {W = g.row.W.Denot} {G = g.row.G.Denot} c.run_phase-next.result.0.works) c.loop-phase.phase (get_or c.args.segments.now c.loop-phase.phase (record { period = 0; is_freewheel = false; cycles = 0 })) (of-phase c.segments_are_the_phases.ensures.there c.loop-phase.rig.works.driver.script c.loop-phase.rig.works.driver.script c.loop-phase.phase (get_or c.args.segments.now c.loop-phase.phase (record { period = 0; is_freewheel = false; cycles = 0 })) refl (segment_there c.segments_are_the_phases.ensures.there c.args.segments.now c.args.rig.works.driver.script c.loop-phase.rig.works.driver.script c.requires.segments c.loop-phase.invariant.stays.script c.loop-phase.phase c.loop-phase-test.true (record { period = 0; is_freewheel = false; cycles = 0 }))) c.loop-phase.invariant.sound c.loop-phase.invariant.ran (at-ok c.run_phase-next.result.1 _ c.in-Ok.is c.run_phase-next.ensures.whole)).0;
+  at = λ given at. ran-at c.a_phase_is_behind.ensures.at given (seen g.G.Guest.sound {S = g.row.S.Denot} {W = g.row.W.Denot} {G = g.row.G.Denot} c.loop-phase.rig.works) (seen g.G.Guest.sound {S = g.row.S.Denot} {W = g.row.W.Denot} {G = g.row.G.Denot} c.run_phase-next.result.0.works) c.loop-phase.phase (get_or c.args.segments.now c.loop-phase.phase (record { period = 0; is_freewheel = false; cycles = 0 })) (of-phase c.segments_are_the_phases.ensures.there c.loop-phase.rig.works.driver.script c.loop-phase.rig.works.driver.script c.loop-phase.phase (get_or c.args.segments.now c.loop-phase.phase (record { period = 0; is_freewheel = false; cycles = 0 })) refl (segment_there c.segments_are_the_phases.ensures.there c.args.segments.now c.args.rig.works.driver.script c.loop-phase.rig.works.driver.script c.requires.segments c.loop-phase.invariant.stays.script c.loop-phase.phase c.loop-phase-test.true (record { period = 0; is_freewheel = false; cycles = 0 }))) (subst (λ (s : Script). IsSome s.header.threads) (sym c.loop-phase.invariant.stays.script) c.requires.threads) c.loop-phase.invariant.sound (c.loop-phase.invariant.at given at) (at-ok c.run_phase-next.result.1 _ c.in-Ok.is c.run_phase-next.ensures.whole);
   within = let low = c.loop-phase-test.true in omega (arith, low);
-  stays = stays-trans {S = g.row.S.Denot} {W = g.row.W.Denot} {G = g.row.G.Denot} c.args.rig.works c.loop-phase.rig.works c.run_phase-next.result.0.works c.loop-phase.invariant.stays c.run_phase-next.ensures.stays;
+  stays = stays-trans g.G.Guest.sound {S = g.row.S.Denot} {W = g.row.W.Denot} {G = g.row.G.Denot} c.args.rig.works c.loop-phase.rig.works c.run_phase-next.result.0.works c.loop-phase.invariant.stays c.run_phase-next.ensures.stays;
 }
 
 pub returns-in-Err-clause-fault : goal.returns-in-Err-clause-fault
 returns-in-Err-clause-fault g c =
     let fault = at-err c.run_phase-next.result.1 _ c.in-Err.is c.run_phase-next.ensures.fault in
-    (fault.0, λ given at. stands-failed c.a_phase_that_fails_leaves_fronts.ensures c.unfinished_files_have_fronts.ensures given (seen {S = g.row.S.Denot} {W = g.row.W.Denot} {G = g.row.G.Denot} c.loop-phase.rig.works) (parts_of {S = g.row.S.Denot} {W = g.row.W.Denot} {G = g.row.G.Denot} c.run_phase-next.result.0.works) c.loop-phase.phase (get_or c.args.segments.now c.loop-phase.phase (record { period = 0; is_freewheel = false; cycles = 0 })).cycles fault.0 (get_or c.args.segments.now c.loop-phase.phase (record { period = 0; is_freewheel = false; cycles = 0 })).is_freewheel (c.loop-phase.invariant.at given at) (subst (λ (s : Script). IsSome s.header.threads) (sym c.loop-phase.invariant.stays.script) c.requires.threads) refl fault.1 c.run_phase-next.ensures.stays.files)
+    (fault.0, λ given at. stands-failed g.G.Guest.sound c.a_phase_that_fails_leaves_fronts.ensures c.unfinished_files_have_fronts.ensures given (seen g.G.Guest.sound {S = g.row.S.Denot} {W = g.row.W.Denot} {G = g.row.G.Denot} c.loop-phase.rig.works) (parts_of {S = g.row.S.Denot} {W = g.row.W.Denot} {G = g.row.G.Denot} c.run_phase-next.result.0.works) c.loop-phase.phase (get_or c.args.segments.now c.loop-phase.phase (record { period = 0; is_freewheel = false; cycles = 0 })).cycles fault.0 (get_or c.args.segments.now c.loop-phase.phase (record { period = 0; is_freewheel = false; cycles = 0 })).is_freewheel (c.loop-phase.invariant.at given at) (subst (λ (s : Script). IsSome s.header.threads) (sym c.loop-phase.invariant.stays.script) c.requires.threads) refl fault.1 c.run_phase-next.ensures.stays.files)
 
 pub returns-in-Err-clause-come : goal.returns-in-Err-clause-come
 returns-in-Err-clause-come g c =
     let fault = at-err c.run_phase-next.result.1 _ c.in-Err.is c.run_phase-next.ensures.fault in
     subst (λ (s : Script). HasCome s c.run_phase-next.result.0.works.desk.history c.run_phase-next.result.0.works.driver.numbers) (sym c.run_phase-next.ensures.stays.script)
-    (come-failed c.a_session_comes_up_to_its_fault.ensures (seen {S = g.row.S.Denot} {W = g.row.W.Denot} {G = g.row.G.Denot} c.loop-phase.rig.works) (seen {S = g.row.S.Denot} {W = g.row.W.Denot} {G = g.row.G.Denot} c.run_phase-next.result.0.works) c.loop-phase.phase fault.0 (get_or c.args.segments.now c.loop-phase.phase (record { period = 0; is_freewheel = false; cycles = 0 }))
+    (come-failed c.a_session_comes_up_to_its_fault.ensures (seen g.G.Guest.sound {S = g.row.S.Denot} {W = g.row.W.Denot} {G = g.row.G.Denot} c.loop-phase.rig.works) (seen g.G.Guest.sound {S = g.row.S.Denot} {W = g.row.W.Denot} {G = g.row.G.Denot} c.run_phase-next.result.0.works) c.loop-phase.phase fault.0 (get_or c.args.segments.now c.loop-phase.phase (record { period = 0; is_freewheel = false; cycles = 0 }))
     (of-phase c.segments_are_the_phases.ensures.there c.loop-phase.rig.works.driver.script c.loop-phase.rig.works.driver.script c.loop-phase.phase (get_or c.args.segments.now c.loop-phase.phase (record { period = 0; is_freewheel = false; cycles = 0 })) refl (segment_there c.segments_are_the_phases.ensures.there c.args.segments.now c.args.rig.works.driver.script c.loop-phase.rig.works.driver.script c.requires.segments c.loop-phase.invariant.stays.script c.loop-phase.phase c.loop-phase-test.true (record { period = 0; is_freewheel = false; cycles = 0 })))
     c.loop-phase.invariant.ran fault.1)
 
 pub returns-in-Err-clause-stays : goal.returns-in-Err-clause-stays
-returns-in-Err-clause-stays g c = stays-trans {S = g.row.S.Denot} {W = g.row.W.Denot} {G = g.row.G.Denot} c.args.rig.works c.loop-phase.rig.works c.run_phase-next.result.0.works c.loop-phase.invariant.stays c.run_phase-next.ensures.stays
+returns-in-Err-clause-stays g c = stays-trans g.G.Guest.sound {S = g.row.S.Denot} {W = g.row.W.Denot} {G = g.row.G.Denot} c.args.rig.works c.loop-phase.rig.works c.run_phase-next.result.0.works c.loop-phase.invariant.stays c.run_phase-next.ensures.stays
 
 pub returns-in-Err-clause-read : goal.returns-in-Err-clause-read
 returns-in-Err-clause-read g c is = rose-later _ _ _ c.loop-phase.invariant.stays.capture.later (c.run_phase-next.ensures.read (c.in-Err.is ∙ is))
@@ -62,10 +62,10 @@ pub returns-clause-ran : goal.returns-clause-ran
 returns-clause-ran g c =
     let count = ap length c.requires.segments ∙ c.segments_are_the_phases.ensures.count c.args.rig.works.driver.script ∙ ap (λ (s : Script). length (phases s)) (sym c.loop-phase.invariant.stays.script) in
     let all : c.loop-phase.phase ≡ length (phases c.loop-phase.rig.works.driver.script) = omega (arith, count, c.loop-phase.invariant.within, c.loop-phase-test.false) in
-    subst (λ n. RanPhases (seen {S = g.row.S.Denot} {W = g.row.W.Denot} {G = g.row.G.Denot} c.loop-phase.rig.works) n) all c.loop-phase.invariant.ran
+    subst (λ n. RanPhases (seen g.G.Guest.sound {S = g.row.S.Denot} {W = g.row.W.Denot} {G = g.row.G.Denot} c.loop-phase.rig.works) n) all c.loop-phase.invariant.ran
 
 pub returns-clause-at : goal.returns-clause-at
 returns-clause-at g c given at =
     let count = ap length c.requires.segments ∙ c.segments_are_the_phases.ensures.count c.args.rig.works.driver.script ∙ ap (λ (s : Script). length (phases s)) (sym c.loop-phase.invariant.stays.script) in
     let all : c.loop-phase.phase ≡ length (phases c.loop-phase.rig.works.driver.script) = omega (arith, count, c.loop-phase.invariant.within, c.loop-phase-test.false) in
-    subst (λ n. AtPhase (seen {S = g.row.S.Denot} {W = g.row.W.Denot} {G = g.row.G.Denot} c.loop-phase.rig.works) given n) all (c.loop-phase.invariant.at given at)
+    subst (λ n. AtPhase (seen g.G.Guest.sound {S = g.row.S.Denot} {W = g.row.W.Denot} {G = g.row.G.Denot} c.loop-phase.rig.works) given n) all (c.loop-phase.invariant.at given at)

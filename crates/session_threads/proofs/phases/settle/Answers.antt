@@ -20,8 +20,8 @@ renew_rings-requires g c =
 pub returns-clause-settled : goal.returns-clause-settled
 returns-clause-settled g c = record {
   heard = c.finish_lanes.ensures.filled.0;
-  filled = seen {S = g.row.S.Denot} {W = g.row.W.Denot} {G = g.row.G.Denot} c.finish_lanes.new.works;
-  renewed = seen_with c.finish_lanes.new.works.desk c.renew_rings.new.driver c.renew_rings.new.recorders.items;
+  filled = seen g.G.Guest.sound {S = g.row.S.Denot} {W = g.row.W.Denot} {G = g.row.G.Denot} c.finish_lanes.new.works;
+  renewed = seen_with g.G.Guest.sound c.finish_lanes.new.works.desk c.renew_rings.new.driver c.renew_rings.new.recorders.items;
   hears = c.finish_lanes.ensures.filled.1;
   fills = c.finish_lanes.ensures.filled.2;
   renews = c.renew_rings.ensures.renewed c.finish_lanes.new.works.desk;
@@ -30,7 +30,7 @@ returns-clause-settled g c = record {
 
 pub returns-clause-stays : goal.returns-clause-stays
 returns-clause-stays g c =
-    let first = stays-met {S = g.row.S.Denot} {W = g.row.W.Denot} {G = g.row.G.Denot} c.args.works.now c.finish_lanes.new.works c.finish_lanes.ensures.driver c.finish_lanes.ensures.recorders c.requires.files in
+    let first = stays-met g.G.Guest.sound {S = g.row.S.Denot} {W = g.row.W.Denot} {G = g.row.G.Denot} c.args.works.now c.finish_lanes.new.works c.finish_lanes.ensures.driver c.finish_lanes.ensures.recorders c.requires.files in
     let second = c.renew_rings.ensures.stays c.finish_lanes.new.works.desk first.files in
-    stays-trans {S = g.row.S.Denot} {W = g.row.W.Denot} {G = g.row.G.Denot} c.args.works.now c.finish_lanes.new.works c.meet.new.works first
-    (stays-trans {S = g.row.S.Denot} {W = g.row.W.Denot} {G = g.row.G.Denot} c.finish_lanes.new.works (record { desk = c.finish_lanes.new.works.desk; driver = c.renew_rings.new.driver; recorders = c.renew_rings.new.recorders }) c.meet.new.works second (stays-met {S = g.row.S.Denot} {W = g.row.W.Denot} {G = g.row.G.Denot} (record { desk = c.finish_lanes.new.works.desk; driver = c.renew_rings.new.driver; recorders = c.renew_rings.new.recorders }) c.meet.new.works c.meet.ensures.driver c.meet.ensures.recorders second.files))
+    stays-trans g.G.Guest.sound {S = g.row.S.Denot} {W = g.row.W.Denot} {G = g.row.G.Denot} c.args.works.now c.finish_lanes.new.works c.meet.new.works first
+    (stays-trans g.G.Guest.sound {S = g.row.S.Denot} {W = g.row.W.Denot} {G = g.row.G.Denot} c.finish_lanes.new.works (record { desk = c.finish_lanes.new.works.desk; driver = c.renew_rings.new.driver; recorders = c.renew_rings.new.recorders }) c.meet.new.works second (stays-met g.G.Guest.sound {S = g.row.S.Denot} {W = g.row.W.Denot} {G = g.row.G.Denot} (record { desk = c.finish_lanes.new.works.desk; driver = c.renew_rings.new.driver; recorders = c.renew_rings.new.recorders }) c.meet.new.works c.meet.ensures.driver c.meet.ensures.recorders second.files))

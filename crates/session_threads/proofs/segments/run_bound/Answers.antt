@@ -25,16 +25,16 @@ run_beside-passes-requires-clause-open g c κs within k d low =
     subst (IsOpen c.open-turn.result.0.table) (sym is) (record { table_is = refl; live = omega arith; free = refl; opened = c.args.rig.works.desk; open_is = refl; begun = c.requires.begun.0; group = c.requires.begun.1 })
 
 pub run_beside-passes-requires-clause-may : goal.run_beside-passes-requires-clause-may
-run_beside-passes-requires-clause-may g c κs within = may-serve-all (parts_with c.args.rig.works.desk c.args.rig.works.driver c.args.rig.works.recorders.items) c.requires.sound c.requires.files
+run_beside-passes-requires-clause-may g c κs within = may-serve-all g.G.Guest.sound (parts_with c.args.rig.works.desk c.args.rig.works.driver c.args.rig.works.recorders.items) c.requires.sound c.requires.files
 
 pub run_beside-passes-requires-clause-few : goal.run_beside-passes-requires-clause-few
-run_beside-passes-requires-clause-few g c κs within = few-recorders (parts_with c.args.rig.works.desk c.args.rig.works.driver c.args.rig.works.recorders.items) c.requires.sound
+run_beside-passes-requires-clause-few g c κs within = few-recorders g.G.Guest.sound (parts_with c.args.rig.works.desk c.args.rig.works.driver c.args.rig.works.recorders.items) c.requires.sound
 
 pub run_beside-passes-requires-clause-many : goal.run_beside-passes-requires-clause-many
-run_beside-passes-requires-clause-many g c κs within = ends-many (parts_with c.args.rig.works.desk c.args.rig.works.driver c.args.rig.works.recorders.items) c.requires.sound
+run_beside-passes-requires-clause-many g c κs within = ends-many g.G.Guest.sound (parts_with c.args.rig.works.desk c.args.rig.works.driver c.args.rig.works.recorders.items) c.requires.sound
 
 pub run_beside-passes-requires-clause-going : goal.run_beside-passes-requires-clause-going
-run_beside-passes-requires-clause-going g c κs within = going-of (seen_with c.args.rig.works.desk c.args.rig.works.driver c.args.rig.works.recorders.items) c.requires.sound
+run_beside-passes-requires-clause-going g c κs within = going-of (seen_with g.G.Guest.sound c.args.rig.works.desk c.args.rig.works.driver c.args.rig.works.recorders.items) c.requires.sound
 
 pub shut-lanes-requires-clause-open : goal.shut-lanes-requires-clause-open
 shut-lanes-requires-clause-open g c =
@@ -42,25 +42,25 @@ shut-lanes-requires-clause-open g c =
 
 pub returns-clause-whole : goal.returns-clause-whole
 returns-clause-whole g c =
-    subst (λ (gear : Gear). OnOk c.outcome_of-outcome.result (Segmented c.args.cycles false (seen_with c.args.rig.works.desk c.args.rig.works.driver c.args.rig.works.recorders.items) (seen_with c.shut-lanes.result.1 gear c.run_beside-passes.result.0.1.items))) (sym c.run_beside-passes.ensures.driven.2)
-    (on-both c.outcome_of-outcome.result c.run_beside-passes.result.1.1 c.outcome_of-outcome.ensures.whole c.outcome_of-outcome.ensures.ok c.run_beside-passes.ensures.driven.1.ok (λ going cycles. bound-whole c.args.cycles c.args.rig.works.desk c.args.rig.works.driver c.run_beside-passes.ensures.driven.0 c.args.rig.works.recorders.items c.run_beside-passes.result.0.1.items c.shut-lanes.result.1 c.requires.sound c.requires.files c.run_beside-passes.ensures.driven.1.stays c.run_beside-passes.ensures.many c.run_beside-passes.ensures.served goes c.shut-lanes.ensures.desk cycles (subst (λ (l : List Recording). All IsUntorn l) c.deref.ensures.value going)))
+    subst (λ (gear : Gear). OnOk c.outcome_of-outcome.result (Segmented c.args.cycles false (seen_with g.G.Guest.sound c.args.rig.works.desk c.args.rig.works.driver c.args.rig.works.recorders.items) (seen_with g.G.Guest.sound c.shut-lanes.result.1 gear c.run_beside-passes.result.0.1.items))) (sym c.run_beside-passes.ensures.driven.2)
+    (on-both c.outcome_of-outcome.result c.run_beside-passes.result.1.1 c.outcome_of-outcome.ensures.whole c.outcome_of-outcome.ensures.ok c.run_beside-passes.ensures.driven.1.ok (λ going cycles. bound-whole g.G.Guest.sound c.args.cycles c.args.rig.works.desk c.args.rig.works.driver c.run_beside-passes.ensures.driven.0 c.args.rig.works.recorders.items c.run_beside-passes.result.0.1.items c.shut-lanes.result.1 c.requires.sound c.requires.files c.run_beside-passes.ensures.driven.1.stays c.run_beside-passes.ensures.many c.run_beside-passes.ensures.served goes c.shut-lanes.ensures.desk cycles (subst (λ (l : List Recording). All IsUntorn l) c.deref.ensures.value going)))
   where
     goes : GoesOn c.args.rig.works.desk c.shut-lanes.result.1
     goes = c.shut-lanes.ensures.goes c.args.rig.works.desk (subst (λ l. AreAll c.open-turn.result.0.table c.open-turn.result.0.passes (Some c.args.rig.works.desk) l) (sym c.run_beside-passes.ensures.passes) c.open-turn.ensures.open)
 
 pub returns-clause-fails : goal.returns-clause-fails
 returns-clause-fails g c =
-    subst (λ (gear : Gear). OnErr c.outcome_of-outcome.result ((kept : ℕ) × SegmentFails c.args.cycles false kept (seen_with c.args.rig.works.desk c.args.rig.works.driver c.args.rig.works.recorders.items) (seen_with c.shut-lanes.result.1 gear c.run_beside-passes.result.0.1.items))) (sym c.run_beside-passes.ensures.driven.2)
-    (by-outcome c.outcome_of-outcome.result c.run_beside-passes.result.1.1 c.outcome_of-outcome.ensures.read c.outcome_of-outcome.ensures.write (λ is. bound-read c.args.cycles c.args.rig.works.desk c.args.rig.works.driver c.run_beside-passes.ensures.driven.0 c.args.rig.works.recorders.items c.run_beside-passes.result.0.1.items c.shut-lanes.result.1 c.requires.sound c.requires.files c.run_beside-passes.ensures.driven.1.stays c.run_beside-passes.ensures.many c.run_beside-passes.ensures.served goes c.shut-lanes.ensures.desk (c.run_beside-passes.ensures.driven.1.read is)) (λ is. bound-write c.args.cycles c.args.rig.works.desk c.args.rig.works.driver c.run_beside-passes.ensures.driven.0 c.args.rig.works.recorders.items c.run_beside-passes.result.0.1.items c.shut-lanes.result.1 c.requires.sound c.requires.files c.run_beside-passes.ensures.driven.1.stays c.run_beside-passes.ensures.many c.run_beside-passes.ensures.served goes c.shut-lanes.ensures.desk (c.run_beside-passes.ensures.driven.1.write is))
-    (λ ok failed. bound-torn c.args.cycles c.args.rig.works.desk c.args.rig.works.driver c.run_beside-passes.ensures.driven.0 c.args.rig.works.recorders.items c.run_beside-passes.result.0.1.items c.shut-lanes.result.1 c.requires.sound c.requires.files c.run_beside-passes.ensures.driven.1.stays c.run_beside-passes.ensures.many c.run_beside-passes.ensures.served goes c.shut-lanes.ensures.desk (of-ok c.run_beside-passes.result.1.1 ok c.run_beside-passes.ensures.driven.1.ok)))
+    subst (λ (gear : Gear). OnErr c.outcome_of-outcome.result ((kept : ℕ) × SegmentFails c.args.cycles false kept (seen_with g.G.Guest.sound c.args.rig.works.desk c.args.rig.works.driver c.args.rig.works.recorders.items) (seen_with g.G.Guest.sound c.shut-lanes.result.1 gear c.run_beside-passes.result.0.1.items))) (sym c.run_beside-passes.ensures.driven.2)
+    (by-outcome c.outcome_of-outcome.result c.run_beside-passes.result.1.1 c.outcome_of-outcome.ensures.read c.outcome_of-outcome.ensures.write (λ is. bound-read g.G.Guest.sound c.args.cycles c.args.rig.works.desk c.args.rig.works.driver c.run_beside-passes.ensures.driven.0 c.args.rig.works.recorders.items c.run_beside-passes.result.0.1.items c.shut-lanes.result.1 c.requires.sound c.requires.files c.run_beside-passes.ensures.driven.1.stays c.run_beside-passes.ensures.many c.run_beside-passes.ensures.served goes c.shut-lanes.ensures.desk (c.run_beside-passes.ensures.driven.1.read is)) (λ is. bound-write g.G.Guest.sound c.args.cycles c.args.rig.works.desk c.args.rig.works.driver c.run_beside-passes.ensures.driven.0 c.args.rig.works.recorders.items c.run_beside-passes.result.0.1.items c.shut-lanes.result.1 c.requires.sound c.requires.files c.run_beside-passes.ensures.driven.1.stays c.run_beside-passes.ensures.many c.run_beside-passes.ensures.served goes c.shut-lanes.ensures.desk (c.run_beside-passes.ensures.driven.1.write is))
+    (λ ok failed. bound-torn g.G.Guest.sound c.args.cycles c.args.rig.works.desk c.args.rig.works.driver c.run_beside-passes.ensures.driven.0 c.args.rig.works.recorders.items c.run_beside-passes.result.0.1.items c.shut-lanes.result.1 c.requires.sound c.requires.files c.run_beside-passes.ensures.driven.1.stays c.run_beside-passes.ensures.many c.run_beside-passes.ensures.served goes c.shut-lanes.ensures.desk (of-ok c.run_beside-passes.result.1.1 ok c.run_beside-passes.ensures.driven.1.ok)))
   where
     goes : GoesOn c.args.rig.works.desk c.shut-lanes.result.1
     goes = c.shut-lanes.ensures.goes c.args.rig.works.desk (subst (λ l. AreAll c.open-turn.result.0.table c.open-turn.result.0.passes (Some c.args.rig.works.desk) l) (sym c.run_beside-passes.ensures.passes) c.open-turn.ensures.open)
 
 pub returns-clause-stays : goal.returns-clause-stays
 returns-clause-stays g c =
-    subst (λ (gear : Gear). Stays (parts_with c.args.rig.works.desk c.args.rig.works.driver c.args.rig.works.recorders.items) (parts_with c.shut-lanes.result.1 gear c.run_beside-passes.result.0.1.items)) (sym c.run_beside-passes.ensures.driven.2)
-    (bound-stays c.args.cycles c.args.rig.works.desk c.args.rig.works.driver c.run_beside-passes.ensures.driven.0 c.args.rig.works.recorders.items c.run_beside-passes.result.0.1.items c.shut-lanes.result.1 c.requires.sound c.requires.files c.run_beside-passes.ensures.driven.1.stays c.run_beside-passes.ensures.many c.run_beside-passes.ensures.served goes c.shut-lanes.ensures.desk c.run_beside-passes.ensures.driven.1.capture)
+    subst (λ (gear : Gear). Stays g.G.Guest.sound (parts_with c.args.rig.works.desk c.args.rig.works.driver c.args.rig.works.recorders.items) (parts_with c.shut-lanes.result.1 gear c.run_beside-passes.result.0.1.items)) (sym c.run_beside-passes.ensures.driven.2)
+    (bound-stays g.G.Guest.sound c.args.cycles c.args.rig.works.desk c.args.rig.works.driver c.run_beside-passes.ensures.driven.0 c.args.rig.works.recorders.items c.run_beside-passes.result.0.1.items c.shut-lanes.result.1 c.requires.sound c.requires.files c.run_beside-passes.ensures.driven.1.stays c.run_beside-passes.ensures.many c.run_beside-passes.ensures.served goes c.shut-lanes.ensures.desk c.run_beside-passes.ensures.driven.1.capture)
   where
     goes : GoesOn c.args.rig.works.desk c.shut-lanes.result.1
     goes = c.shut-lanes.ensures.goes c.args.rig.works.desk (subst (λ l. AreAll c.open-turn.result.0.table c.open-turn.result.0.passes (Some c.args.rig.works.desk) l) (sym c.run_beside-passes.ensures.passes) c.open-turn.ensures.open)
@@ -68,7 +68,7 @@ returns-clause-stays g c =
 pub returns-clause-pairs : goal.returns-clause-pairs
 returns-clause-pairs g c =
     subst (λ (gear : Gear). ArePaired gear c.run_beside-passes.result.0.1.items) (sym c.run_beside-passes.ensures.driven.2)
-    (bound-pairs c.args.cycles c.args.rig.works.desk c.args.rig.works.driver c.run_beside-passes.ensures.driven.0 c.args.rig.works.recorders.items c.run_beside-passes.result.0.1.items c.shut-lanes.result.1 c.requires.sound c.requires.files c.run_beside-passes.ensures.driven.1.stays c.run_beside-passes.ensures.many c.run_beside-passes.ensures.served goes c.shut-lanes.ensures.desk)
+    (bound-pairs g.G.Guest.sound c.args.cycles c.args.rig.works.desk c.args.rig.works.driver c.run_beside-passes.ensures.driven.0 c.args.rig.works.recorders.items c.run_beside-passes.result.0.1.items c.shut-lanes.result.1 c.requires.sound c.requires.files c.run_beside-passes.ensures.driven.1.stays c.run_beside-passes.ensures.many c.run_beside-passes.ensures.served goes c.shut-lanes.ensures.desk)
   where
     goes : GoesOn c.args.rig.works.desk c.shut-lanes.result.1
     goes = c.shut-lanes.ensures.goes c.args.rig.works.desk (subst (λ l. AreAll c.open-turn.result.0.table c.open-turn.result.0.passes (Some c.args.rig.works.desk) l) (sym c.run_beside-passes.ensures.passes) c.open-turn.ensures.open)
@@ -76,7 +76,7 @@ returns-clause-pairs g c =
 pub returns-clause-write : goal.returns-clause-write
 returns-clause-write g c is =
     subst (λ (gear : Gear). OneRose (stores_in (parts_with c.args.rig.works.desk c.args.rig.works.driver c.args.rig.works.recorders.items)) (stores_in (parts_with c.shut-lanes.result.1 gear c.run_beside-passes.result.0.1.items))) (sym c.run_beside-passes.ensures.driven.2)
-    (by-either (c.outcome_of-outcome.ensures.write is) (λ wrote. bound-unwritten c.args.cycles c.args.rig.works.desk c.args.rig.works.driver c.run_beside-passes.ensures.driven.0 c.args.rig.works.recorders.items c.run_beside-passes.result.0.1.items c.shut-lanes.result.1 c.requires.sound c.requires.files c.run_beside-passes.ensures.driven.1.stays c.run_beside-passes.ensures.many c.run_beside-passes.ensures.served goes c.shut-lanes.ensures.desk (c.run_beside-passes.ensures.driven.1.write_cause wrote)) (λ torn. bound-rose c.args.cycles c.args.rig.works.desk c.args.rig.works.driver c.run_beside-passes.ensures.driven.0 c.args.rig.works.recorders.items c.run_beside-passes.result.0.1.items c.shut-lanes.result.1 c.requires.sound c.requires.files c.run_beside-passes.ensures.driven.1.stays c.run_beside-passes.ensures.many c.run_beside-passes.ensures.served goes c.shut-lanes.ensures.desk (subst (λ (l : List Recording). HaveFailed l) c.deref.ensures.value torn.1)))
+    (by-either (c.outcome_of-outcome.ensures.write is) (λ wrote. bound-unwritten g.G.Guest.sound c.args.cycles c.args.rig.works.desk c.args.rig.works.driver c.run_beside-passes.ensures.driven.0 c.args.rig.works.recorders.items c.run_beside-passes.result.0.1.items c.shut-lanes.result.1 c.requires.sound c.requires.files c.run_beside-passes.ensures.driven.1.stays c.run_beside-passes.ensures.many c.run_beside-passes.ensures.served goes c.shut-lanes.ensures.desk (c.run_beside-passes.ensures.driven.1.write_cause wrote)) (λ torn. bound-rose g.G.Guest.sound c.args.cycles c.args.rig.works.desk c.args.rig.works.driver c.run_beside-passes.ensures.driven.0 c.args.rig.works.recorders.items c.run_beside-passes.result.0.1.items c.shut-lanes.result.1 c.requires.sound c.requires.files c.run_beside-passes.ensures.driven.1.stays c.run_beside-passes.ensures.many c.run_beside-passes.ensures.served goes c.shut-lanes.ensures.desk (subst (λ (l : List Recording). HaveFailed l) c.deref.ensures.value torn.1)))
   where
     goes : GoesOn c.args.rig.works.desk c.shut-lanes.result.1
     goes = c.shut-lanes.ensures.goes c.args.rig.works.desk (subst (λ l. AreAll c.open-turn.result.0.table c.open-turn.result.0.passes (Some c.args.rig.works.desk) l) (sym c.run_beside-passes.ensures.passes) c.open-turn.ensures.open)
@@ -88,7 +88,7 @@ pub returns-clause-phase : goal.returns-clause-phase
 returns-clause-phase g c = (c.shut-lanes.ensures.goes c.args.rig.works.desk (subst (λ l. AreAll c.open-turn.result.0.table c.open-turn.result.0.passes (Some c.args.rig.works.desk) l) (sym c.run_beside-passes.ensures.passes) c.open-turn.ensures.open)).phase
 
 pub returns-clause-group : goal.returns-clause-group
-returns-clause-group g c = on-ok_any c.outcome_of-outcome.result (group-behind c.goes_on.ensures.done (seen_with c.args.rig.works.desk c.args.rig.works.driver c.args.rig.works.recorders.items) c.shut-lanes.result.1 c.requires.sound c.shut-lanes.ensures.desk (c.shut-lanes.ensures.goes c.args.rig.works.desk (subst (λ l. AreAll c.open-turn.result.0.table c.open-turn.result.0.passes (Some c.args.rig.works.desk) l) (sym c.run_beside-passes.ensures.passes) c.open-turn.ensures.open)) c.requires.begun.1)
+returns-clause-group g c = on-ok_any c.outcome_of-outcome.result (group-behind c.goes_on.ensures.done (seen_with g.G.Guest.sound c.args.rig.works.desk c.args.rig.works.driver c.args.rig.works.recorders.items) c.shut-lanes.result.1 c.requires.sound c.shut-lanes.ensures.desk (c.shut-lanes.ensures.goes c.args.rig.works.desk (subst (λ l. AreAll c.open-turn.result.0.table c.open-turn.result.0.passes (Some c.args.rig.works.desk) l) (sym c.run_beside-passes.ensures.passes) c.open-turn.ensures.open)) c.requires.begun.1)
 
 pub returns-clause-read : goal.returns-clause-read
 returns-clause-read g c is =

@@ -32,24 +32,24 @@ shut-lanes-requires-clause-open g c =
 
 pub returns-clause-whole : goal.returns-clause-whole
 returns-clause-whole g c =
-    on-ok_then c.wheel_beside-passes.result.1.1 (λ wheeled. record { served = (seen_with c.args.rig.works.desk c.wheel_beside-passes.result.1.0.driver c.wheel_beside-passes.result.1.0.recorders.items); joins = Wheels refl wheeled; goes = (record { goes = (c.shut-lanes.ensures.goes c.args.rig.works.desk (subst (λ l. AreAll c.open-turn.result.0.table c.open-turn.result.0.passes (Some c.args.rig.works.desk) l) (sym c.wheel_beside-passes.ensures.passes) c.open-turn.ensures.open)); desk = c.shut-lanes.ensures.desk; same = refl }) }) (c.wheel_beside-passes.ensures.wheeled.wheeled c.args.rig.works.desk c.requires.sound)
+    on-ok_then c.wheel_beside-passes.result.1.1 (λ wheeled. record { served = (seen_with g.G.Guest.sound c.args.rig.works.desk c.wheel_beside-passes.result.1.0.driver c.wheel_beside-passes.result.1.0.recorders.items); joins = Wheels refl wheeled; goes = (record { goes = (c.shut-lanes.ensures.goes c.args.rig.works.desk (subst (λ l. AreAll c.open-turn.result.0.table c.open-turn.result.0.passes (Some c.args.rig.works.desk) l) (sym c.wheel_beside-passes.ensures.passes) c.open-turn.ensures.open)); desk = c.shut-lanes.ensures.desk; same = refl }) }) (c.wheel_beside-passes.ensures.wheeled.wheeled c.args.rig.works.desk c.requires.sound)
 
 pub returns-clause-fails : goal.returns-clause-fails
 returns-clause-fails g c =
-    on_err_then c.wheel_beside-passes.result.1.1 (λ (broke : WheelBroke c.args.cycles (seen_with c.args.rig.works.desk c.args.rig.works.driver c.args.rig.works.recorders.items) (seen_with c.args.rig.works.desk c.wheel_beside-passes.result.1.0.driver c.wheel_beside-passes.result.1.0.recorders.items)). (broke.kept, record { served = (seen_with c.args.rig.works.desk c.wheel_beside-passes.result.1.0.driver c.wheel_beside-passes.result.1.0.recorders.items); joins = InWheel broke.whole broke.wheeled refl broke.fewer broke.wheels broke.fails; goes = (record { goes = (c.shut-lanes.ensures.goes c.args.rig.works.desk (subst (λ l. AreAll c.open-turn.result.0.table c.open-turn.result.0.passes (Some c.args.rig.works.desk) l) (sym c.wheel_beside-passes.ensures.passes) c.open-turn.ensures.open)); desk = c.shut-lanes.ensures.desk; same = refl }) }))
+    on_err_then c.wheel_beside-passes.result.1.1 (λ (broke : WheelBroke c.args.cycles (seen_with g.G.Guest.sound c.args.rig.works.desk c.args.rig.works.driver c.args.rig.works.recorders.items) (seen_with g.G.Guest.sound c.args.rig.works.desk c.wheel_beside-passes.result.1.0.driver c.wheel_beside-passes.result.1.0.recorders.items)). (broke.kept, record { served = (seen_with g.G.Guest.sound c.args.rig.works.desk c.wheel_beside-passes.result.1.0.driver c.wheel_beside-passes.result.1.0.recorders.items); joins = InWheel broke.whole broke.wheeled refl broke.fewer broke.wheels broke.fails; goes = (record { goes = (c.shut-lanes.ensures.goes c.args.rig.works.desk (subst (λ l. AreAll c.open-turn.result.0.table c.open-turn.result.0.passes (Some c.args.rig.works.desk) l) (sym c.wheel_beside-passes.ensures.passes) c.open-turn.ensures.open)); desk = c.shut-lanes.ensures.desk; same = refl }) }))
     (c.wheel_beside-passes.ensures.wheeled.failed c.args.rig.works.desk c.requires.sound)
 
 pub returns-clause-stays : goal.returns-clause-stays
-returns-clause-stays g c = stays-given_back (parts_with c.args.rig.works.desk c.args.rig.works.driver c.args.rig.works.recorders.items) c.args.rig.works.desk c.shut-lanes.result.1 c.wheel_beside-passes.result.1.0.driver c.wheel_beside-passes.result.1.0.recorders.items (c.wheel_beside-passes.ensures.wheeled.stays c.args.rig.works.desk)
+returns-clause-stays g c = stays-given_back g.G.Guest.sound (parts_with c.args.rig.works.desk c.args.rig.works.driver c.args.rig.works.recorders.items) c.args.rig.works.desk c.shut-lanes.result.1 c.wheel_beside-passes.result.1.0.driver c.wheel_beside-passes.result.1.0.recorders.items (c.wheel_beside-passes.ensures.wheeled.stays c.args.rig.works.desk)
 
 pub returns-clause-pairs : goal.returns-clause-pairs
-returns-clause-pairs g c = c.wheel_beside-passes.ensures.wheeled.pairs (paired-sound (parts_with c.args.rig.works.desk c.args.rig.works.driver c.args.rig.works.recorders.items) c.requires.sound)
+returns-clause-pairs g c = c.wheel_beside-passes.ensures.wheeled.pairs (paired-sound g.G.Guest.sound (parts_with c.args.rig.works.desk c.args.rig.works.driver c.args.rig.works.recorders.items) c.requires.sound)
 
 pub returns-clause-table : goal.returns-clause-table
 returns-clause-table g c = (c.shut-lanes.ensures.goes c.args.rig.works.desk (subst (λ l. AreAll c.open-turn.result.0.table c.open-turn.result.0.passes (Some c.args.rig.works.desk) l) (sym c.wheel_beside-passes.ensures.passes) c.open-turn.ensures.open)).table ∙ c.requires.sound.one.table ∙ sym c.wheel_beside-passes.ensures.wheeled.table
 
 pub returns-clause-group : goal.returns-clause-group
-returns-clause-group g c = on-ok_any c.wheel_beside-passes.result.1.1 (group-behind c.goes_on.ensures.done (seen_with c.args.rig.works.desk c.args.rig.works.driver c.args.rig.works.recorders.items) c.shut-lanes.result.1 c.requires.sound c.shut-lanes.ensures.desk (c.shut-lanes.ensures.goes c.args.rig.works.desk (subst (λ l. AreAll c.open-turn.result.0.table c.open-turn.result.0.passes (Some c.args.rig.works.desk) l) (sym c.wheel_beside-passes.ensures.passes) c.open-turn.ensures.open)) c.requires.begun.1)
+returns-clause-group g c = on-ok_any c.wheel_beside-passes.result.1.1 (group-behind c.goes_on.ensures.done (seen_with g.G.Guest.sound c.args.rig.works.desk c.args.rig.works.driver c.args.rig.works.recorders.items) c.shut-lanes.result.1 c.requires.sound c.shut-lanes.ensures.desk (c.shut-lanes.ensures.goes c.args.rig.works.desk (subst (λ l. AreAll c.open-turn.result.0.table c.open-turn.result.0.passes (Some c.args.rig.works.desk) l) (sym c.wheel_beside-passes.ensures.passes) c.open-turn.ensures.open)) c.requires.begun.1)
 
 pub returns-clause-write : goal.returns-clause-write
 returns-clause-write g c is = c.wheel_beside-passes.ensures.wheeled.write c.args.rig.works.desk is

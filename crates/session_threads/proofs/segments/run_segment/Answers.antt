@@ -10,17 +10,17 @@ use Rattle.session_threads.proofs.segments.run_segment.Goals as goal
 
 pub returns-then-segment-eq0-clause-whole : goal.returns-then-segment-eq0-clause-whole
 returns-then-segment-eq0-clause-whole g c =
-    subst (λ many. Segmented many c.args.segment.is_freewheel (seen {S = g.row.S.Denot} {W = g.row.W.Denot} {G = g.row.G.Denot} c.args.rig.works) (seen {S = g.row.S.Denot} {W = g.row.W.Denot} {G = g.row.G.Denot} c.args.rig.works)) (sym c.if-segment-eq0.true)
-    (rests c.args.segment.is_freewheel (seen {S = g.row.S.Denot} {W = g.row.W.Denot} {G = g.row.G.Denot} c.args.rig.works) c.requires.sound)
+    subst (λ many. Segmented many c.args.segment.is_freewheel (seen g.G.Guest.sound {S = g.row.S.Denot} {W = g.row.W.Denot} {G = g.row.G.Denot} c.args.rig.works) (seen g.G.Guest.sound {S = g.row.S.Denot} {W = g.row.W.Denot} {G = g.row.G.Denot} c.args.rig.works)) (sym c.if-segment-eq0.true)
+    (rests c.args.segment.is_freewheel (seen g.G.Guest.sound {S = g.row.S.Denot} {W = g.row.W.Denot} {G = g.row.G.Denot} c.args.rig.works) c.requires.sound)
 
 pub returns-then-segment-eq0-clause-stays : goal.returns-then-segment-eq0-clause-stays
-returns-then-segment-eq0-clause-stays g c = stays-refl {S = g.row.S.Denot} {W = g.row.W.Denot} {G = g.row.G.Denot} c.args.rig.works c.requires.files
+returns-then-segment-eq0-clause-stays g c = stays-refl g.G.Guest.sound {S = g.row.S.Denot} {W = g.row.W.Denot} {G = g.row.G.Denot} c.args.rig.works c.requires.files
 
 pub returns-then-segment-eq0-clause-pairs : goal.returns-then-segment-eq0-clause-pairs
-returns-then-segment-eq0-clause-pairs g c = paired-sound (parts_of {S = g.row.S.Denot} {W = g.row.W.Denot} {G = g.row.G.Denot} c.args.rig.works) c.requires.sound
+returns-then-segment-eq0-clause-pairs g c = paired-sound g.G.Guest.sound (parts_of {S = g.row.S.Denot} {W = g.row.W.Denot} {G = g.row.G.Denot} c.args.rig.works) c.requires.sound
 
 pub run_free-requires-clause-next : goal.run_free-requires-clause-next
-run_free-requires-clause-next g c κs within = let some = c.if-segment-eq0.false in subst (λ free. AreNext c.args.segment.cycles free (driver_of c.args.rig.works.driver)) c.if-free.true (c.requires.next (omega (arith, some)))
+run_free-requires-clause-next g c κs within = let some = c.if-segment-eq0.false in subst (λ free. AreNext c.args.segment.cycles free (driver_of g.G.Guest.sound c.args.rig.works.driver)) c.if-free.true (c.requires.next (omega (arith, some)))
 
 pub run_bound-requires-clause-next : goal.run_bound-requires-clause-next
-run_bound-requires-clause-next g c κs within = let some = c.if-segment-eq0.false in subst (λ free. AreNext c.args.segment.cycles free (driver_of c.args.rig.works.driver)) c.if-free.false (c.requires.next (omega (arith, some)))
+run_bound-requires-clause-next g c κs within = let some = c.if-segment-eq0.false in subst (λ free. AreNext c.args.segment.cycles free (driver_of g.G.Guest.sound c.args.rig.works.driver)) c.if-free.false (c.requires.next (omega (arith, some)))

@@ -3,22 +3,22 @@ use Rattle.task_laws.proofs.PlayingLemmas.{empty-kept, fed-kept, idle-kept, peak
 use Rattle.task_laws.proofs.playing.playing_keeps_a_bench.Goals as goal
 
 pub returns-clause-kind : goal.returns-clause-kind
-returns-clause-kind c kept given = refl
+returns-clause-kind c sound kept given = refl
 
 pub returns-clause-period : goal.returns-clause-period
-returns-clause-period c kept given = refl
+returns-clause-period c sound kept given = refl
 
 pub returns-clause-score : goal.returns-clause-score
-returns-clause-score c kept given = refl
+returns-clause-score c sound kept given = refl
 
 pub returns-clause-turn : goal.returns-clause-turn
-returns-clause-turn c kept given = refl
+returns-clause-turn c sound kept given = refl
 
 pub returns-clause-wires : goal.returns-clause-wires
-returns-clause-wires c kept given = refl
+returns-clause-wires c sound kept given = refl
 
 pub returns-clause-routes : goal.returns-clause-routes
-returns-clause-routes c kept given = refl
+returns-clause-routes c sound kept given = refl
 
 pub returns-clause-fed : goal.returns-clause-fed
 returns-clause-fed c = fed-kept

@@ -23,7 +23,7 @@ invariant_of-self g c =
     let same : (with_items c.self.inside.benches c.play_front.new.benches).items ≡ c.play_front.new.benches = with_items_is c.self.inside.benches c.play_front.new.benches (c.play_front.ensures.count ∙ c.deref_mut.ensures.len) in
     subst (λ (benches : List Seen). IsWhole (racked benches c.self.inside.links) c.self.inside.spare c.self.inside.spare_links) (sym same)
     (whole-played c.deref_mut.result.now c.play_front.new.benches c.self.inside.links c.self.inside.spare c.self.inside.spare_links c.play_front.ensures.count
-    (λ n h. wires-played c.deref_mut.result.now c.play_front.new.benches c.args.ensemble.now.nodes c.args.links.now c.play_front.ensures.played c.play_front.ensures.others n)
+    (λ n h. wires-played g.G.Guest.sound c.deref_mut.result.now c.play_front.new.benches c.args.ensemble.now.nodes c.args.links.now c.play_front.ensures.played c.play_front.ensures.others n)
     c.play_front.ensures.rooms
     (subst (λ (benches : List Seen). IsWhole (racked benches c.self.inside.links) c.self.inside.spare c.self.inside.spare_links) (sym c.deref_mut.ensures.value) c.self.invariant))
 
@@ -42,7 +42,7 @@ returns-clause-played g c = λ n low.
     let e : racked c.deref_mut.result.now c.self.inside.links ≡ c.args.self.now = ap (λ (benches : List Seen). racked benches c.self.inside.links) c.deref_mut.ensures.value ∙ c.self.view_is in
     ap (λ (benches : List Seen). (bench_among benches n).kept) same
     ∙ c.play_front.ensures.played n low
-    ∙ ap (λ (rack : Racked). sequential kept_after kept_gives c.args.links.now (λ m. (bench_at rack m).kept) n) e
+    ∙ ap (λ (rack : Racked). sequential (kept_after g.G.Guest.sound) (kept_gives g.G.Guest.sound) c.args.links.now (λ m. (bench_at rack m).kept) n) e
 
 pub returns-clause-rooms : goal.returns-clause-rooms
 returns-clause-rooms g c = λ n place.

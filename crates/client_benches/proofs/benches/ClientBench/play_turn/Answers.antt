@@ -7,7 +7,7 @@ use Rattle.client_kinds.specs.Buffers.{buffers_of}
 use Rattle.client_benches.specs.declared.values.Route.{Route}
 use Rattle.client_benches.specs.declared.wires.Wire.{Wire}
 use Rattle.client_benches.specs.Routes.{carried_by}
-use Rattle.client_benches.specs.Seen.{Remembered, Seen, kept_after, kept_gives, own_scores, room_at}
+use Rattle.client_benches.specs.Seen.{Remembered, Seen, kept_after, kept_gives, own_sounds, room_at}
 use Rattle.client_benches.specs.Wires.{inputs_of}
 use Rattle.client_benches.proofs.SliceLemmas.{front}
 use Rattle.client_benches.proofs.InsideLemmas.{reached-filled, room-stays, shape-played, sound-played}
@@ -25,7 +25,7 @@ invariant_of-self g c =
           (ap length (front c.deref_mut-parts.result.now.rooms.len c.fill_rooms.new.rooms _ (rooms ∙ sym c.deref_mut-parts.result.now.rooms.ok.0)) ∙ rooms)
           holds.0,
       shape-played c.deref_mut-parts.result.now.bench c.play_front.new.bench _ c.args.turn c.play_front.ensures.bench (holds.2.task c.args.turn busy),
-      sound-played c.deref_mut-parts.result.now.bench c.play_front.new.bench c.deref_mut-parts.result.now.turn c.args.turn c.deref_mut-parts.result.now.routes.items _ busy c.play_front.ensures.bench holds.2,
+      sound-played g.G.Guest.sound c.deref_mut-parts.result.now.bench c.play_front.new.bench c.deref_mut-parts.result.now.turn c.args.turn c.deref_mut-parts.result.now.routes.items _ busy c.play_front.ensures.bench holds.2,
       rw rooms_is (reached-filled c.deref_mut-parts.result.now.reached c.args.turn.links c.deref_mut-4.result.now c.fill_rooms.new.rooms _ c.fill_rooms.ensures.filled (rw c.deref_mut-4.ensures.value holds.3)),
     )
   where
@@ -53,12 +53,12 @@ returns-clause-kept g c =
     let seen = rw (← c.deref_mut-parts.ensures.value) at c.self.view_is in
     ap₂ (λ (heard sounded : List ℤ). record { standing = c.play_front.new.bench; turn = c.deref_mut-parts.result.now.turn; wires = c.deref_mut-parts.result.now.wires.items; routes = c.deref_mut-parts.result.now.routes.items; sounds = buffers_of c.args.turn.ports.inputs c.args.turn.ports.period heard; audio = buffers_of c.args.turn.ports.outputs c.args.turn.ports.period sounded })
     input_is output_is
-    ∙ kept-played kept (values_of c.args.given.now) c.args.turn c.play_front.new.bench (buffers_of c.args.turn.ports.inputs c.args.turn.ports.period c.mix_inputs.new.inputs) (buffers_of c.args.turn.ports.outputs c.args.turn.ports.period c.play_front.new.output)
+    ∙ kept-played g.G.Guest.sound kept (values_of c.args.given.now) c.args.turn c.play_front.new.bench (buffers_of c.args.turn.ports.inputs c.args.turn.ports.period c.mix_inputs.new.inputs) (buffers_of c.args.turn.ports.outputs c.args.turn.ports.period c.play_front.new.output)
     (ap (λ (seen : Seen). seen.kept.turn) seen ∙ c.requires.turn) holds.2.log
     (c.mix_inputs.ensures.mixed ∙ ap (λ (wires : List Wire). inputs_of c.args.turn.ports.period wires (values_of c.args.given.now) c.args.turn.ports.inputs) c.as_slice.ensures.value)
-    (c.play_front.ensures.bench ∙ ap (λ (heard : List ℤ). record c.deref_mut-parts.result.now.bench { memory = (play (own_scores c.deref_mut-parts.result.now.bench) c.deref_mut-parts.result.now.bench.kind c.deref_mut-parts.result.now.bench.memory c.args.turn.ports.outputs c.args.turn.moment c.args.turn.ports.period (buffers_of c.args.turn.ports.inputs c.args.turn.ports.period heard)).memory }) (c.deref.ensures.value ∙ input_is))
-    (c.play_front.ensures.output ∙ ap (λ (heard : List ℤ). (play (own_scores c.deref_mut-parts.result.now.bench) c.deref_mut-parts.result.now.bench.kind c.deref_mut-parts.result.now.bench.memory c.args.turn.ports.outputs c.args.turn.moment c.args.turn.ports.period (buffers_of c.args.turn.ports.inputs c.args.turn.ports.period heard)).outputs) (c.deref.ensures.value ∙ input_is))
-    ∙ ap (λ (seen : Seen). kept_after seen.kept (values_of c.args.given.now)) seen
+    (c.play_front.ensures.bench ∙ ap (λ (heard : List ℤ). record c.deref_mut-parts.result.now.bench { memory = (play (own_sounds g.G.Guest.sound c.deref_mut-parts.result.now.bench) c.deref_mut-parts.result.now.bench.kind c.deref_mut-parts.result.now.bench.memory c.args.turn.ports.outputs c.args.turn.moment c.args.turn.ports.period (buffers_of c.args.turn.ports.inputs c.args.turn.ports.period heard)).memory }) (c.deref.ensures.value ∙ input_is))
+    (c.play_front.ensures.output ∙ ap (λ (heard : List ℤ). (play (own_sounds g.G.Guest.sound c.deref_mut-parts.result.now.bench) c.deref_mut-parts.result.now.bench.kind c.deref_mut-parts.result.now.bench.memory c.args.turn.ports.outputs c.args.turn.moment c.args.turn.ports.period (buffers_of c.args.turn.ports.inputs c.args.turn.ports.period heard)).outputs) (c.deref.ensures.value ∙ input_is))
+    ∙ ap (λ (seen : Seen). kept_after g.G.Guest.sound seen.kept (values_of c.args.given.now)) seen
   where
     kept : Remembered
     kept = record {
@@ -83,11 +83,11 @@ returns-clause-rooms g c place =
     ∙ c.fill_rooms.ensures.filled place
     ∙ ap (λ (rooms : List (Option (List Signal))). filled c.deref-2.result.now c.as_slice-2.result.now rooms) c.deref_mut-4.ensures.value
     ∙ ap₂ (λ (sounded : List ℤ) (routes : List Route). filled sounded routes c.deref_mut-parts.result.now.rooms.items) (c.deref-2.ensures.value ∙ output_is) c.as_slice-2.ensures.value
-    ∙ ap (λ (value : List Signal). option_map (λ _. value) (slice_index_or c.deref_mut-parts.result.now.rooms.items place None)) (gives-carried kept (values_of c.args.given.now) c.args.turn (buffers_of c.args.turn.ports.inputs c.args.turn.ports.period c.mix_inputs.new.inputs) (buffers_of c.args.turn.ports.outputs c.args.turn.ports.period c.play_front.new.output) place
+    ∙ ap (λ (value : List Signal). option_map (λ _. value) (slice_index_or c.deref_mut-parts.result.now.rooms.items place None)) (gives-carried g.G.Guest.sound kept (values_of c.args.given.now) c.args.turn (buffers_of c.args.turn.ports.inputs c.args.turn.ports.period c.mix_inputs.new.inputs) (buffers_of c.args.turn.ports.outputs c.args.turn.ports.period c.play_front.new.output) place
     (ap (λ (seen : Seen). seen.kept.turn) seen ∙ c.requires.turn)
     (c.mix_inputs.ensures.mixed ∙ ap (λ (wires : List Wire). inputs_of c.args.turn.ports.period wires (values_of c.args.given.now) c.args.turn.ports.inputs) c.as_slice.ensures.value)
-    (c.play_front.ensures.output ∙ ap (λ (heard : List ℤ). (play (own_scores c.deref_mut-parts.result.now.bench) c.deref_mut-parts.result.now.bench.kind c.deref_mut-parts.result.now.bench.memory c.args.turn.ports.outputs c.args.turn.moment c.args.turn.ports.period (buffers_of c.args.turn.ports.inputs c.args.turn.ports.period heard)).outputs) (c.deref.ensures.value ∙ input_is)))
-    ∙ ap (λ (seen : Seen). option_map (λ _. kept_gives seen.kept (values_of c.args.given.now) place) (room_at seen place)) seen
+    (c.play_front.ensures.output ∙ ap (λ (heard : List ℤ). (play (own_sounds g.G.Guest.sound c.deref_mut-parts.result.now.bench) c.deref_mut-parts.result.now.bench.kind c.deref_mut-parts.result.now.bench.memory c.args.turn.ports.outputs c.args.turn.moment c.args.turn.ports.period (buffers_of c.args.turn.ports.inputs c.args.turn.ports.period heard)).outputs) (c.deref.ensures.value ∙ input_is)))
+    ∙ ap (λ (seen : Seen). option_map (λ _. kept_gives g.G.Guest.sound seen.kept (values_of c.args.given.now) place) (room_at seen place)) seen
   where
     kept : Remembered
     kept = record {

@@ -1,4 +1,4 @@
-use Rattle.std.proofs.Common.{◌≡◌, ◌≤◌, length, take, pos, true, refl, sym, ◌∙◌, ap, subst}
+use Rattle.std.proofs.Common.{◌≡◌, ◌≤◌, length, take, pos, true, refl, sym, ◌∙◌, ap, subst, map}
 use Rattle.std.specs.List.Sorted.{IsPermutation}
 use Rattle.std.proofs.lemmas.List.{take-replicate}
 use Rattle.session_model.specs.Samples.{silence}
@@ -54,7 +54,7 @@ invariant_of-self g c =
     by = subst (λ k. StandsBy (staged_by {G = g.row.G.Denot} c.turn_to.new.parts k c.args.plan.now.nodes) c.args.plan.now) c.nodes-crew.ensures (c.turn_to.ensures.stands (plan_in c.self.inside.plan.items) on goes c.self.invariant.number)
 
     refused : StandsOn (staged_by {G = g.row.G.Denot} c.set_period.new.parts c.self.inside.ensemble.nodes c.args.plan.now.nodes) c.args.plan.now
-    refused = refused-moved_on c.self.inside.parts c.turn_to.new.parts c.set_period.new.parts c.self.inside.ensemble.nodes c.args.period (plan_in c.self.inside.plan.items) c.args.plan.now c.args.moment.now by c.set_period.ensures.rest c.if-not-self.true
+    refused = refused-moved_on g.G.Guest.sound c.self.inside.parts c.turn_to.new.parts c.set_period.new.parts c.self.inside.ensemble.nodes c.args.period (plan_in c.self.inside.plan.items) c.args.plan.now c.args.moment.now by c.set_period.ensures.rest c.if-not-self.true
 
 pub returns-then-not-self-clause-stands : goal.returns-then-not-self-clause-stands
 returns-then-not-self-clause-stands g c = subst (λ p. StandsOn (staged_by {G = g.row.G.Denot} c.set_period.new.parts c.self.inside.ensemble.nodes p.nodes) p) (sym (plan-noted c.note-self-inside.result.items c.args.plan.now c.note-self-inside.ensures)) refused
@@ -74,10 +74,10 @@ returns-then-not-self-clause-stands g c = subst (λ p. StandsOn (staged_by {G = 
     by = subst (λ k. StandsBy (staged_by {G = g.row.G.Denot} c.turn_to.new.parts k c.args.plan.now.nodes) c.args.plan.now) c.nodes-crew.ensures (c.turn_to.ensures.stands (plan_in c.self.inside.plan.items) on goes c.self.invariant.number)
 
     refused : StandsOn (staged_by {G = g.row.G.Denot} c.set_period.new.parts c.self.inside.ensemble.nodes c.args.plan.now.nodes) c.args.plan.now
-    refused = refused-moved_on c.self.inside.parts c.turn_to.new.parts c.set_period.new.parts c.self.inside.ensemble.nodes c.args.period (plan_in c.self.inside.plan.items) c.args.plan.now c.args.moment.now by c.set_period.ensures.rest c.if-not-self.true
+    refused = refused-moved_on g.G.Guest.sound c.self.inside.parts c.turn_to.new.parts c.set_period.new.parts c.self.inside.ensemble.nodes c.args.period (plan_in c.self.inside.plan.items) c.args.plan.now c.args.moment.now by c.set_period.ensures.rest c.if-not-self.true
 
 pub perform-requires-clause-few : goal.perform-requires-clause-few
-perform-requires-clause-few g c κs within = few-there c.self.inside.parts c.turn_to.new.parts c.set_period.new.parts c.self.inside.ensemble.nodes c.args.period (plan_in c.self.inside.plan.items) c.args.plan.now c.args.moment.now by c.set_period.ensures.rest casts c.if-not-self.false
+perform-requires-clause-few g c κs within = few-there g.G.Guest.sound c.self.inside.parts c.turn_to.new.parts c.set_period.new.parts c.self.inside.ensemble.nodes c.args.period (plan_in c.self.inside.plan.items) c.args.plan.now c.args.moment.now by c.set_period.ensures.rest casts c.if-not-self.false
   where
     goes : GoesOn (plan_in c.self.inside.plan.items) c.args.plan.now
     goes = record {
@@ -93,11 +93,11 @@ perform-requires-clause-few g c κs within = few-there c.self.inside.parts c.tur
     by : StandsBy (staged_by {G = g.row.G.Denot} c.turn_to.new.parts c.self.inside.ensemble.nodes c.args.plan.now.nodes) c.args.plan.now
     by = subst (λ k. StandsBy (staged_by {G = g.row.G.Denot} c.turn_to.new.parts k c.args.plan.now.nodes) c.args.plan.now) c.nodes-crew.ensures (c.turn_to.ensures.stands (plan_in c.self.inside.plan.items) on goes c.self.invariant.number)
 
-    casts : c.turn_to.new.parts.is_staffed ≡ true → Casts (staged_by {G = g.row.G.Denot} c.self.inside.parts c.self.inside.ensemble.nodes (plan_in c.self.inside.plan.items).nodes) (plan_in c.self.inside.plan.items) c.args.plan.now c.args.moment.now c.args.period (staged_by {G = g.row.G.Denot} c.turn_to.new.parts c.self.inside.ensemble.nodes c.args.plan.now.nodes)
-    casts = subst (λ k. c.turn_to.new.parts.is_staffed ≡ true → Casts (staged_by {G = g.row.G.Denot} c.self.inside.parts k (plan_in c.self.inside.plan.items).nodes) (plan_in c.self.inside.plan.items) c.args.plan.now c.args.moment.now c.args.period (staged_by {G = g.row.G.Denot} c.turn_to.new.parts k c.args.plan.now.nodes)) c.nodes-crew.ensures (c.turn_to.ensures.cast (plan_in c.self.inside.plan.items) on goes c.self.invariant.number)
+    casts : c.turn_to.new.parts.is_staffed ≡ true → Casts g.G.Guest.sound (staged_by {G = g.row.G.Denot} c.self.inside.parts c.self.inside.ensemble.nodes (plan_in c.self.inside.plan.items).nodes) (plan_in c.self.inside.plan.items) c.args.plan.now c.args.moment.now c.args.period (staged_by {G = g.row.G.Denot} c.turn_to.new.parts c.self.inside.ensemble.nodes c.args.plan.now.nodes)
+    casts = subst (λ k. c.turn_to.new.parts.is_staffed ≡ true → Casts g.G.Guest.sound (staged_by {G = g.row.G.Denot} c.self.inside.parts k (plan_in c.self.inside.plan.items).nodes) (plan_in c.self.inside.plan.items) c.args.plan.now c.args.moment.now c.args.period (staged_by {G = g.row.G.Denot} c.turn_to.new.parts k c.args.plan.now.nodes)) c.nodes-crew.ensures (c.turn_to.ensures.cast (plan_in c.self.inside.plan.items) on goes c.self.invariant.number)
 
 pub perform-requires-clause-set : goal.perform-requires-clause-set
-perform-requires-clause-set g c κs within = (c.args.moment.now, c.args.period, the.sources, set-there c.self.inside.parts c.turn_to.new.parts c.set_period.new.parts c.self.inside.ensemble.nodes c.args.period (plan_in c.self.inside.plan.items) c.args.plan.now c.args.moment.now by c.set_period.ensures.rest casts c.if-not-self.false)
+perform-requires-clause-set g c κs within = (c.args.moment.now, c.args.period, the.sources, set-there g.G.Guest.sound c.self.inside.parts c.turn_to.new.parts c.set_period.new.parts c.self.inside.ensemble.nodes c.args.period (plan_in c.self.inside.plan.items) c.args.plan.now c.args.moment.now by c.set_period.ensures.rest casts c.if-not-self.false)
   where
     goes : GoesOn (plan_in c.self.inside.plan.items) c.args.plan.now
     goes = record {
@@ -113,11 +113,11 @@ perform-requires-clause-set g c κs within = (c.args.moment.now, c.args.period, 
     by : StandsBy (staged_by {G = g.row.G.Denot} c.turn_to.new.parts c.self.inside.ensemble.nodes c.args.plan.now.nodes) c.args.plan.now
     by = subst (λ k. StandsBy (staged_by {G = g.row.G.Denot} c.turn_to.new.parts k c.args.plan.now.nodes) c.args.plan.now) c.nodes-crew.ensures (c.turn_to.ensures.stands (plan_in c.self.inside.plan.items) on goes c.self.invariant.number)
 
-    casts : c.turn_to.new.parts.is_staffed ≡ true → Casts (staged_by {G = g.row.G.Denot} c.self.inside.parts c.self.inside.ensemble.nodes (plan_in c.self.inside.plan.items).nodes) (plan_in c.self.inside.plan.items) c.args.plan.now c.args.moment.now c.args.period (staged_by {G = g.row.G.Denot} c.turn_to.new.parts c.self.inside.ensemble.nodes c.args.plan.now.nodes)
-    casts = subst (λ k. c.turn_to.new.parts.is_staffed ≡ true → Casts (staged_by {G = g.row.G.Denot} c.self.inside.parts k (plan_in c.self.inside.plan.items).nodes) (plan_in c.self.inside.plan.items) c.args.plan.now c.args.moment.now c.args.period (staged_by {G = g.row.G.Denot} c.turn_to.new.parts k c.args.plan.now.nodes)) c.nodes-crew.ensures (c.turn_to.ensures.cast (plan_in c.self.inside.plan.items) on goes c.self.invariant.number)
+    casts : c.turn_to.new.parts.is_staffed ≡ true → Casts g.G.Guest.sound (staged_by {G = g.row.G.Denot} c.self.inside.parts c.self.inside.ensemble.nodes (plan_in c.self.inside.plan.items).nodes) (plan_in c.self.inside.plan.items) c.args.plan.now c.args.moment.now c.args.period (staged_by {G = g.row.G.Denot} c.turn_to.new.parts c.self.inside.ensemble.nodes c.args.plan.now.nodes)
+    casts = subst (λ k. c.turn_to.new.parts.is_staffed ≡ true → Casts g.G.Guest.sound (staged_by {G = g.row.G.Denot} c.self.inside.parts k (plan_in c.self.inside.plan.items).nodes) (plan_in c.self.inside.plan.items) c.args.plan.now c.args.moment.now c.args.period (staged_by {G = g.row.G.Denot} c.turn_to.new.parts k c.args.plan.now.nodes)) c.nodes-crew.ensures (c.turn_to.ensures.cast (plan_in c.self.inside.plan.items) on goes c.self.invariant.number)
 
-    the : Casts (staged_by {G = g.row.G.Denot} c.self.inside.parts c.self.inside.ensemble.nodes (plan_in c.self.inside.plan.items).nodes) (plan_in c.self.inside.plan.items) c.args.plan.now c.args.moment.now c.args.period (staged_by {G = g.row.G.Denot} c.turn_to.new.parts c.self.inside.ensemble.nodes c.args.plan.now.nodes)
-    the = the-cast c.self.inside.parts c.turn_to.new.parts c.set_period.new.parts c.self.inside.ensemble.nodes c.args.period (plan_in c.self.inside.plan.items) c.args.plan.now c.args.moment.now by c.set_period.ensures.rest casts c.if-not-self.false
+    the : Casts g.G.Guest.sound (staged_by {G = g.row.G.Denot} c.self.inside.parts c.self.inside.ensemble.nodes (plan_in c.self.inside.plan.items).nodes) (plan_in c.self.inside.plan.items) c.args.plan.now c.args.moment.now c.args.period (staged_by {G = g.row.G.Denot} c.turn_to.new.parts c.self.inside.ensemble.nodes c.args.plan.now.nodes)
+    the = the-cast g.G.Guest.sound c.self.inside.parts c.turn_to.new.parts c.set_period.new.parts c.self.inside.ensemble.nodes c.args.period (plan_in c.self.inside.plan.items) c.args.plan.now c.args.moment.now by c.set_period.ensures.rest casts c.if-not-self.false
 
 pub invariant_of-self-2 : goal.invariant_of-self-2
 invariant_of-self-2 g c =
@@ -140,27 +140,27 @@ invariant_of-self-2 g c =
     by : StandsBy (staged_by {G = g.row.G.Denot} c.turn_to.new.parts c.self.inside.ensemble.nodes c.args.plan.now.nodes) c.args.plan.now
     by = subst (λ k. StandsBy (staged_by {G = g.row.G.Denot} c.turn_to.new.parts k c.args.plan.now.nodes) c.args.plan.now) c.nodes-crew.ensures (c.turn_to.ensures.stands (plan_in c.self.inside.plan.items) on goes c.self.invariant.number)
 
-    casts : c.turn_to.new.parts.is_staffed ≡ true → Casts (staged_by {G = g.row.G.Denot} c.self.inside.parts c.self.inside.ensemble.nodes (plan_in c.self.inside.plan.items).nodes) (plan_in c.self.inside.plan.items) c.args.plan.now c.args.moment.now c.args.period (staged_by {G = g.row.G.Denot} c.turn_to.new.parts c.self.inside.ensemble.nodes c.args.plan.now.nodes)
-    casts = subst (λ k. c.turn_to.new.parts.is_staffed ≡ true → Casts (staged_by {G = g.row.G.Denot} c.self.inside.parts k (plan_in c.self.inside.plan.items).nodes) (plan_in c.self.inside.plan.items) c.args.plan.now c.args.moment.now c.args.period (staged_by {G = g.row.G.Denot} c.turn_to.new.parts k c.args.plan.now.nodes)) c.nodes-crew.ensures (c.turn_to.ensures.cast (plan_in c.self.inside.plan.items) on goes c.self.invariant.number)
+    casts : c.turn_to.new.parts.is_staffed ≡ true → Casts g.G.Guest.sound (staged_by {G = g.row.G.Denot} c.self.inside.parts c.self.inside.ensemble.nodes (plan_in c.self.inside.plan.items).nodes) (plan_in c.self.inside.plan.items) c.args.plan.now c.args.moment.now c.args.period (staged_by {G = g.row.G.Denot} c.turn_to.new.parts c.self.inside.ensemble.nodes c.args.plan.now.nodes)
+    casts = subst (λ k. c.turn_to.new.parts.is_staffed ≡ true → Casts g.G.Guest.sound (staged_by {G = g.row.G.Denot} c.self.inside.parts k (plan_in c.self.inside.plan.items).nodes) (plan_in c.self.inside.plan.items) c.args.plan.now c.args.moment.now c.args.period (staged_by {G = g.row.G.Denot} c.turn_to.new.parts k c.args.plan.now.nodes)) c.nodes-crew.ensures (c.turn_to.ensures.cast (plan_in c.self.inside.plan.items) on goes c.self.invariant.number)
 
-    the : Casts (staged_by {G = g.row.G.Denot} c.self.inside.parts c.self.inside.ensemble.nodes (plan_in c.self.inside.plan.items).nodes) (plan_in c.self.inside.plan.items) c.args.plan.now c.args.moment.now c.args.period (staged_by {G = g.row.G.Denot} c.turn_to.new.parts c.self.inside.ensemble.nodes c.args.plan.now.nodes)
-    the = the-cast c.self.inside.parts c.turn_to.new.parts c.set_period.new.parts c.self.inside.ensemble.nodes c.args.period (plan_in c.self.inside.plan.items) c.args.plan.now c.args.moment.now by c.set_period.ensures.rest casts c.if-not-self.false
+    the : Casts g.G.Guest.sound (staged_by {G = g.row.G.Denot} c.self.inside.parts c.self.inside.ensemble.nodes (plan_in c.self.inside.plan.items).nodes) (plan_in c.self.inside.plan.items) c.args.plan.now c.args.moment.now c.args.period (staged_by {G = g.row.G.Denot} c.turn_to.new.parts c.self.inside.ensemble.nodes c.args.plan.now.nodes)
+    the = the-cast g.G.Guest.sound c.self.inside.parts c.turn_to.new.parts c.set_period.new.parts c.self.inside.ensemble.nodes c.args.period (plan_in c.self.inside.plan.items) c.args.plan.now c.args.moment.now by c.set_period.ensures.rest casts c.if-not-self.false
 
     silent : take c.args.period c.deref-2.result.now ≡ silence c.args.period
     silent = ap (take c.args.period) (c.deref-2.ensures.value ∙ c.self.invariant.silence) ∙ take-replicate c.args.period c.self.inside.parts.room (pos 0) (subst (λ k. c.args.period ≤ k) (ap (λ s. s.staged.room) (sym c.self.view_is)) c.requires.period)
 
-    was : (filled : Racked) × Fills (staged_by {G = g.row.G.Denot} c.turn_to.new.parts c.self.inside.ensemble.nodes c.args.plan.now.nodes) c.args.plan.now c.args.moment.now c.args.period c.args.capture.now.channels c.set_period.new.parts.last.items filled × Performs filled c.args.plan.now c.self.inside.ensemble.nodes c.perform.new.rack
-    was = subst (λ places. (filled : Racked) × Fills (staged_by {G = g.row.G.Denot} c.turn_to.new.parts c.self.inside.ensemble.nodes c.args.plan.now.nodes) c.args.plan.now c.args.moment.now c.args.period c.args.capture.now.channels places filled × Performs filled c.args.plan.now c.self.inside.ensemble.nodes c.perform.new.rack) c.deref.ensures.value
-        (c.perform.ensures.performed (staged_by {G = g.row.G.Denot} c.turn_to.new.parts c.self.inside.ensemble.nodes c.args.plan.now.nodes) c.args.moment.now c.args.period the.sources (sym (ap (λ p. p.rack) c.set_period.ensures.rest)) silent (set-there c.self.inside.parts c.turn_to.new.parts c.set_period.new.parts c.self.inside.ensemble.nodes c.args.period (plan_in c.self.inside.plan.items) c.args.plan.now c.args.moment.now by c.set_period.ensures.rest casts c.if-not-self.false) (unused-there c.self.inside.parts c.turn_to.new.parts c.set_period.new.parts c.self.inside.ensemble.nodes c.args.period (plan_in c.self.inside.plan.items) c.args.plan.now c.args.moment.now by c.set_period.ensures.rest casts c.if-not-self.false))
+    was : (filled : Racked) × Fills (staged_by {G = g.row.G.Denot} c.turn_to.new.parts c.self.inside.ensemble.nodes c.args.plan.now.nodes) c.args.plan.now c.args.moment.now c.args.period c.args.capture.now.channels c.set_period.new.parts.last.items filled × Performs g.G.Guest.sound filled c.args.plan.now c.self.inside.ensemble.nodes c.perform.new.rack
+    was = subst (λ places. (filled : Racked) × Fills (staged_by {G = g.row.G.Denot} c.turn_to.new.parts c.self.inside.ensemble.nodes c.args.plan.now.nodes) c.args.plan.now c.args.moment.now c.args.period c.args.capture.now.channels places filled × Performs g.G.Guest.sound filled c.args.plan.now c.self.inside.ensemble.nodes c.perform.new.rack) c.deref.ensures.value
+        (c.perform.ensures.performed (staged_by {G = g.row.G.Denot} c.turn_to.new.parts c.self.inside.ensemble.nodes c.args.plan.now.nodes) c.args.moment.now c.args.period the.sources (sym (ap (λ p. p.rack) c.set_period.ensures.rest)) silent (set-there g.G.Guest.sound c.self.inside.parts c.turn_to.new.parts c.set_period.new.parts c.self.inside.ensemble.nodes c.args.period (plan_in c.self.inside.plan.items) c.args.plan.now c.args.moment.now by c.set_period.ensures.rest casts c.if-not-self.false) (unused-there g.G.Guest.sound c.self.inside.parts c.turn_to.new.parts c.set_period.new.parts c.self.inside.ensemble.nodes c.args.period (plan_in c.self.inside.plan.items) c.args.plan.now c.args.moment.now by c.set_period.ensures.rest casts c.if-not-self.false))
 
     kinds : kinds_of c.perform.new.rack ≡ kinds_of c.turn_to.new.parts.rack
-    kinds = c.a_stage_stands_behind_its_cycle.ensures.kinds (staged_by {G = g.row.G.Denot} c.self.inside.parts c.self.inside.ensemble.nodes (plan_in c.self.inside.plan.items).nodes) (plan_in c.self.inside.plan.items) c.args.plan.now c.args.moment.now c.args.period c.args.capture.now.channels (staged_by {G = g.row.G.Denot} c.turn_to.new.parts c.self.inside.ensemble.nodes c.args.plan.now.nodes) c.set_period.new.parts.last.items was.0 c.self.inside.ensemble.nodes c.perform.new.rack the was.1 was.2
+    kinds = c.a_stage_stands_behind_its_cycle.ensures.kinds g.G.Guest.sound (staged_by {G = g.row.G.Denot} c.self.inside.parts c.self.inside.ensemble.nodes (plan_in c.self.inside.plan.items).nodes) (plan_in c.self.inside.plan.items) c.args.plan.now c.args.moment.now c.args.period c.args.capture.now.channels (staged_by {G = g.row.G.Denot} c.turn_to.new.parts c.self.inside.ensemble.nodes c.args.plan.now.nodes) c.set_period.new.parts.last.items was.0 c.self.inside.ensemble.nodes c.perform.new.rack the was.1 was.2
 
     known : AreKnown c.args.plan.now c.perform.new.rack c.turn_to.new.parts.owners
     known = c.kinds_alone_count.ensures c.args.plan.now c.turn_to.new.parts.rack c.turn_to.new.parts.owners c.perform.new.rack by.known kinds
 
     stands : StandsOn (staged_by {G = g.row.G.Denot} (record c.set_period.new.parts { rack = c.perform.new.rack }) c.self.inside.ensemble.nodes c.args.plan.now.nodes) c.args.plan.now
-    stands = stands-behind c.self.inside.parts c.turn_to.new.parts c.set_period.new.parts c.self.inside.ensemble.nodes c.args.period (plan_in c.self.inside.plan.items) c.args.plan.now c.args.moment.now by c.set_period.ensures.rest casts c.if-not-self.false c.args.capture.now.channels was.0 c.perform.new.rack was.1 was.2 known c.perform.ensures.rooms c.perform.ensures.links c.perform.ensures.others
+    stands = stands-behind g.G.Guest.sound c.self.inside.parts c.turn_to.new.parts c.set_period.new.parts c.self.inside.ensemble.nodes c.args.period (plan_in c.self.inside.plan.items) c.args.plan.now c.args.moment.now by c.set_period.ensures.rest casts c.if-not-self.false c.args.capture.now.channels was.0 c.perform.new.rack was.1 was.2 known c.perform.ensures.rooms c.perform.ensures.links c.perform.ensures.others
 
 pub returns-clause-stands : goal.returns-clause-stands
 returns-clause-stands g c = subst (λ p. StandsOn (staged_by {G = g.row.G.Denot} (record c.set_period.new.parts { rack = c.perform.new.rack }) c.perform.new.ensemble.nodes p.nodes) p) (sym (plan-noted c.note-self-inside.result.items c.args.plan.now c.note-self-inside.ensures))
@@ -180,32 +180,32 @@ returns-clause-stands g c = subst (λ p. StandsOn (staged_by {G = g.row.G.Denot}
     by : StandsBy (staged_by {G = g.row.G.Denot} c.turn_to.new.parts c.self.inside.ensemble.nodes c.args.plan.now.nodes) c.args.plan.now
     by = subst (λ k. StandsBy (staged_by {G = g.row.G.Denot} c.turn_to.new.parts k c.args.plan.now.nodes) c.args.plan.now) c.nodes-crew.ensures (c.turn_to.ensures.stands (plan_in c.self.inside.plan.items) on goes c.self.invariant.number)
 
-    casts : c.turn_to.new.parts.is_staffed ≡ true → Casts (staged_by {G = g.row.G.Denot} c.self.inside.parts c.self.inside.ensemble.nodes (plan_in c.self.inside.plan.items).nodes) (plan_in c.self.inside.plan.items) c.args.plan.now c.args.moment.now c.args.period (staged_by {G = g.row.G.Denot} c.turn_to.new.parts c.self.inside.ensemble.nodes c.args.plan.now.nodes)
-    casts = subst (λ k. c.turn_to.new.parts.is_staffed ≡ true → Casts (staged_by {G = g.row.G.Denot} c.self.inside.parts k (plan_in c.self.inside.plan.items).nodes) (plan_in c.self.inside.plan.items) c.args.plan.now c.args.moment.now c.args.period (staged_by {G = g.row.G.Denot} c.turn_to.new.parts k c.args.plan.now.nodes)) c.nodes-crew.ensures (c.turn_to.ensures.cast (plan_in c.self.inside.plan.items) on goes c.self.invariant.number)
+    casts : c.turn_to.new.parts.is_staffed ≡ true → Casts g.G.Guest.sound (staged_by {G = g.row.G.Denot} c.self.inside.parts c.self.inside.ensemble.nodes (plan_in c.self.inside.plan.items).nodes) (plan_in c.self.inside.plan.items) c.args.plan.now c.args.moment.now c.args.period (staged_by {G = g.row.G.Denot} c.turn_to.new.parts c.self.inside.ensemble.nodes c.args.plan.now.nodes)
+    casts = subst (λ k. c.turn_to.new.parts.is_staffed ≡ true → Casts g.G.Guest.sound (staged_by {G = g.row.G.Denot} c.self.inside.parts k (plan_in c.self.inside.plan.items).nodes) (plan_in c.self.inside.plan.items) c.args.plan.now c.args.moment.now c.args.period (staged_by {G = g.row.G.Denot} c.turn_to.new.parts k c.args.plan.now.nodes)) c.nodes-crew.ensures (c.turn_to.ensures.cast (plan_in c.self.inside.plan.items) on goes c.self.invariant.number)
 
-    the : Casts (staged_by {G = g.row.G.Denot} c.self.inside.parts c.self.inside.ensemble.nodes (plan_in c.self.inside.plan.items).nodes) (plan_in c.self.inside.plan.items) c.args.plan.now c.args.moment.now c.args.period (staged_by {G = g.row.G.Denot} c.turn_to.new.parts c.self.inside.ensemble.nodes c.args.plan.now.nodes)
-    the = the-cast c.self.inside.parts c.turn_to.new.parts c.set_period.new.parts c.self.inside.ensemble.nodes c.args.period (plan_in c.self.inside.plan.items) c.args.plan.now c.args.moment.now by c.set_period.ensures.rest casts c.if-not-self.false
+    the : Casts g.G.Guest.sound (staged_by {G = g.row.G.Denot} c.self.inside.parts c.self.inside.ensemble.nodes (plan_in c.self.inside.plan.items).nodes) (plan_in c.self.inside.plan.items) c.args.plan.now c.args.moment.now c.args.period (staged_by {G = g.row.G.Denot} c.turn_to.new.parts c.self.inside.ensemble.nodes c.args.plan.now.nodes)
+    the = the-cast g.G.Guest.sound c.self.inside.parts c.turn_to.new.parts c.set_period.new.parts c.self.inside.ensemble.nodes c.args.period (plan_in c.self.inside.plan.items) c.args.plan.now c.args.moment.now by c.set_period.ensures.rest casts c.if-not-self.false
 
     silent : take c.args.period c.deref-2.result.now ≡ silence c.args.period
     silent = ap (take c.args.period) (c.deref-2.ensures.value ∙ c.self.invariant.silence) ∙ take-replicate c.args.period c.self.inside.parts.room (pos 0) (subst (λ k. c.args.period ≤ k) (ap (λ s. s.staged.room) (sym c.self.view_is)) c.requires.period)
 
-    was : (filled : Racked) × Fills (staged_by {G = g.row.G.Denot} c.turn_to.new.parts c.self.inside.ensemble.nodes c.args.plan.now.nodes) c.args.plan.now c.args.moment.now c.args.period c.args.capture.now.channels c.set_period.new.parts.last.items filled × Performs filled c.args.plan.now c.self.inside.ensemble.nodes c.perform.new.rack
-    was = subst (λ places. (filled : Racked) × Fills (staged_by {G = g.row.G.Denot} c.turn_to.new.parts c.self.inside.ensemble.nodes c.args.plan.now.nodes) c.args.plan.now c.args.moment.now c.args.period c.args.capture.now.channels places filled × Performs filled c.args.plan.now c.self.inside.ensemble.nodes c.perform.new.rack) c.deref.ensures.value
-        (c.perform.ensures.performed (staged_by {G = g.row.G.Denot} c.turn_to.new.parts c.self.inside.ensemble.nodes c.args.plan.now.nodes) c.args.moment.now c.args.period the.sources (sym (ap (λ p. p.rack) c.set_period.ensures.rest)) silent (set-there c.self.inside.parts c.turn_to.new.parts c.set_period.new.parts c.self.inside.ensemble.nodes c.args.period (plan_in c.self.inside.plan.items) c.args.plan.now c.args.moment.now by c.set_period.ensures.rest casts c.if-not-self.false) (unused-there c.self.inside.parts c.turn_to.new.parts c.set_period.new.parts c.self.inside.ensemble.nodes c.args.period (plan_in c.self.inside.plan.items) c.args.plan.now c.args.moment.now by c.set_period.ensures.rest casts c.if-not-self.false))
+    was : (filled : Racked) × Fills (staged_by {G = g.row.G.Denot} c.turn_to.new.parts c.self.inside.ensemble.nodes c.args.plan.now.nodes) c.args.plan.now c.args.moment.now c.args.period c.args.capture.now.channels c.set_period.new.parts.last.items filled × Performs g.G.Guest.sound filled c.args.plan.now c.self.inside.ensemble.nodes c.perform.new.rack
+    was = subst (λ places. (filled : Racked) × Fills (staged_by {G = g.row.G.Denot} c.turn_to.new.parts c.self.inside.ensemble.nodes c.args.plan.now.nodes) c.args.plan.now c.args.moment.now c.args.period c.args.capture.now.channels places filled × Performs g.G.Guest.sound filled c.args.plan.now c.self.inside.ensemble.nodes c.perform.new.rack) c.deref.ensures.value
+        (c.perform.ensures.performed (staged_by {G = g.row.G.Denot} c.turn_to.new.parts c.self.inside.ensemble.nodes c.args.plan.now.nodes) c.args.moment.now c.args.period the.sources (sym (ap (λ p. p.rack) c.set_period.ensures.rest)) silent (set-there g.G.Guest.sound c.self.inside.parts c.turn_to.new.parts c.set_period.new.parts c.self.inside.ensemble.nodes c.args.period (plan_in c.self.inside.plan.items) c.args.plan.now c.args.moment.now by c.set_period.ensures.rest casts c.if-not-self.false) (unused-there g.G.Guest.sound c.self.inside.parts c.turn_to.new.parts c.set_period.new.parts c.self.inside.ensemble.nodes c.args.period (plan_in c.self.inside.plan.items) c.args.plan.now c.args.moment.now by c.set_period.ensures.rest casts c.if-not-self.false))
 
     kinds : kinds_of c.perform.new.rack ≡ kinds_of c.turn_to.new.parts.rack
-    kinds = c.a_stage_stands_behind_its_cycle.ensures.kinds (staged_by {G = g.row.G.Denot} c.self.inside.parts c.self.inside.ensemble.nodes (plan_in c.self.inside.plan.items).nodes) (plan_in c.self.inside.plan.items) c.args.plan.now c.args.moment.now c.args.period c.args.capture.now.channels (staged_by {G = g.row.G.Denot} c.turn_to.new.parts c.self.inside.ensemble.nodes c.args.plan.now.nodes) c.set_period.new.parts.last.items was.0 c.self.inside.ensemble.nodes c.perform.new.rack the was.1 was.2
+    kinds = c.a_stage_stands_behind_its_cycle.ensures.kinds g.G.Guest.sound (staged_by {G = g.row.G.Denot} c.self.inside.parts c.self.inside.ensemble.nodes (plan_in c.self.inside.plan.items).nodes) (plan_in c.self.inside.plan.items) c.args.plan.now c.args.moment.now c.args.period c.args.capture.now.channels (staged_by {G = g.row.G.Denot} c.turn_to.new.parts c.self.inside.ensemble.nodes c.args.plan.now.nodes) c.set_period.new.parts.last.items was.0 c.self.inside.ensemble.nodes c.perform.new.rack the was.1 was.2
 
     known : AreKnown c.args.plan.now c.perform.new.rack c.turn_to.new.parts.owners
     known = c.kinds_alone_count.ensures c.args.plan.now c.turn_to.new.parts.rack c.turn_to.new.parts.owners c.perform.new.rack by.known kinds
 
     stands : StandsOn (staged_by {G = g.row.G.Denot} (record c.set_period.new.parts { rack = c.perform.new.rack }) c.self.inside.ensemble.nodes c.args.plan.now.nodes) c.args.plan.now
-    stands = stands-behind c.self.inside.parts c.turn_to.new.parts c.set_period.new.parts c.self.inside.ensemble.nodes c.args.period (plan_in c.self.inside.plan.items) c.args.plan.now c.args.moment.now by c.set_period.ensures.rest casts c.if-not-self.false c.args.capture.now.channels was.0 c.perform.new.rack was.1 was.2 known c.perform.ensures.rooms c.perform.ensures.links c.perform.ensures.others
+    stands = stands-behind g.G.Guest.sound c.self.inside.parts c.turn_to.new.parts c.set_period.new.parts c.self.inside.ensemble.nodes c.args.period (plan_in c.self.inside.plan.items) c.args.plan.now c.args.moment.now by c.set_period.ensures.rest casts c.if-not-self.false c.args.capture.now.channels was.0 c.perform.new.rack was.1 was.2 known c.perform.ensures.rooms c.perform.ensures.links c.perform.ensures.others
 
 pub returns-clause-plays : goal.returns-clause-plays
 returns-clause-plays g c course at was_staffed now_staffed settled scores no_events as_many old_kinds =
-    subst (λ (s : OnStage). s.staged.is_staffed ≡ true → IsSettledOn s.staged s.plan c.args.plan.now c.args.moment.now c.args.period c.args.capture.now.channels at → course.scores ≡ s.staged.owned.scores → PlaysPlan course s.staged c.args.plan.now at (staged_by {G = g.row.G.Denot} record { rack = c.perform.new.rack; owners = c.set_period.new.parts.owners; wiring = c.set_period.new.parts.wiring; earlier = c.set_period.new.parts.earlier; last = c.set_period.new.parts.last; room = c.set_period.new.parts.room; period = c.set_period.new.parts.period; number = c.number-number.result; is_staffed = c.set_period.new.parts.is_staffed } c.perform.new.ensemble.nodes (plan_in c.note-self-inside.result.items).nodes)) c.self.view_is
-    (λ staffed settled scores. c.a_stage_plays_its_plan.ensures course (staged_by {G = g.row.G.Denot} c.self.inside.parts c.self.inside.ensemble.nodes (plan_in c.self.inside.plan.items).nodes) (plan_in c.self.inside.plan.items) c.args.plan.now c.args.moment.now c.args.period c.args.capture.now.channels at (staged_by {G = g.row.G.Denot} c.turn_to.new.parts c.self.inside.ensemble.nodes c.args.plan.now.nodes) c.set_period.new.parts.last.items was.0 c.self.inside.ensemble.nodes c.perform.new.rack (staged_by {G = g.row.G.Denot} record { rack = c.perform.new.rack; owners = c.set_period.new.parts.owners; wiring = c.set_period.new.parts.wiring; earlier = c.set_period.new.parts.earlier; last = c.set_period.new.parts.last; room = c.set_period.new.parts.room; period = c.set_period.new.parts.period; number = c.number-number.result; is_staffed = c.set_period.new.parts.is_staffed } c.perform.new.ensemble.nodes (plan_in c.note-self-inside.result.items).nodes)
+    subst (λ (s : OnStage). s.staged.is_staffed ≡ true → IsSettledOn g.G.Guest.sound s.staged s.plan c.args.plan.now c.args.moment.now c.args.period c.args.capture.now.channels at → course.scores ≡ map g.G.Guest.sound s.staged.owned.scores → PlaysPlan g.G.Guest.sound course s.staged c.args.plan.now at (staged_by {G = g.row.G.Denot} record { rack = c.perform.new.rack; owners = c.set_period.new.parts.owners; wiring = c.set_period.new.parts.wiring; earlier = c.set_period.new.parts.earlier; last = c.set_period.new.parts.last; room = c.set_period.new.parts.room; period = c.set_period.new.parts.period; number = c.number-number.result; is_staffed = c.set_period.new.parts.is_staffed } c.perform.new.ensemble.nodes (plan_in c.note-self-inside.result.items).nodes)) c.self.view_is
+    (λ staffed settled scores. c.a_stage_plays_its_plan.ensures g.G.Guest.sound course (staged_by {G = g.row.G.Denot} c.self.inside.parts c.self.inside.ensemble.nodes (plan_in c.self.inside.plan.items).nodes) (plan_in c.self.inside.plan.items) c.args.plan.now c.args.moment.now c.args.period c.args.capture.now.channels at (staged_by {G = g.row.G.Denot} c.turn_to.new.parts c.self.inside.ensemble.nodes c.args.plan.now.nodes) c.set_period.new.parts.last.items was.0 c.self.inside.ensemble.nodes c.perform.new.rack (staged_by {G = g.row.G.Denot} record { rack = c.perform.new.rack; owners = c.set_period.new.parts.owners; wiring = c.set_period.new.parts.wiring; earlier = c.set_period.new.parts.earlier; last = c.set_period.new.parts.last; room = c.set_period.new.parts.room; period = c.set_period.new.parts.period; number = c.number-number.result; is_staffed = c.set_period.new.parts.is_staffed } c.perform.new.ensemble.nodes (plan_in c.note-self-inside.result.items).nodes)
     c.self.invariant.stands.stands.seating c.self.invariant.stands.stands.wiring (c.self.invariant.stands.staffed staffed) goes settled scores no_events as_many no_past old_kinds the places was.1 was.2 refl (ap (λ p. p.owners) c.set_period.ensures.rest))
     was_staffed settled scores
   where
@@ -223,30 +223,30 @@ returns-clause-plays g c course at was_staffed now_staffed settled scores no_eve
     by : StandsBy (staged_by {G = g.row.G.Denot} c.turn_to.new.parts c.self.inside.ensemble.nodes c.args.plan.now.nodes) c.args.plan.now
     by = subst (λ k. StandsBy (staged_by {G = g.row.G.Denot} c.turn_to.new.parts k c.args.plan.now.nodes) c.args.plan.now) c.nodes-crew.ensures (c.turn_to.ensures.stands (plan_in c.self.inside.plan.items) on goes c.self.invariant.number)
 
-    casts : c.turn_to.new.parts.is_staffed ≡ true → Casts (staged_by {G = g.row.G.Denot} c.self.inside.parts c.self.inside.ensemble.nodes (plan_in c.self.inside.plan.items).nodes) (plan_in c.self.inside.plan.items) c.args.plan.now c.args.moment.now c.args.period (staged_by {G = g.row.G.Denot} c.turn_to.new.parts c.self.inside.ensemble.nodes c.args.plan.now.nodes)
-    casts = subst (λ k. c.turn_to.new.parts.is_staffed ≡ true → Casts (staged_by {G = g.row.G.Denot} c.self.inside.parts k (plan_in c.self.inside.plan.items).nodes) (plan_in c.self.inside.plan.items) c.args.plan.now c.args.moment.now c.args.period (staged_by {G = g.row.G.Denot} c.turn_to.new.parts k c.args.plan.now.nodes)) c.nodes-crew.ensures (c.turn_to.ensures.cast (plan_in c.self.inside.plan.items) on goes c.self.invariant.number)
+    casts : c.turn_to.new.parts.is_staffed ≡ true → Casts g.G.Guest.sound (staged_by {G = g.row.G.Denot} c.self.inside.parts c.self.inside.ensemble.nodes (plan_in c.self.inside.plan.items).nodes) (plan_in c.self.inside.plan.items) c.args.plan.now c.args.moment.now c.args.period (staged_by {G = g.row.G.Denot} c.turn_to.new.parts c.self.inside.ensemble.nodes c.args.plan.now.nodes)
+    casts = subst (λ k. c.turn_to.new.parts.is_staffed ≡ true → Casts g.G.Guest.sound (staged_by {G = g.row.G.Denot} c.self.inside.parts k (plan_in c.self.inside.plan.items).nodes) (plan_in c.self.inside.plan.items) c.args.plan.now c.args.moment.now c.args.period (staged_by {G = g.row.G.Denot} c.turn_to.new.parts k c.args.plan.now.nodes)) c.nodes-crew.ensures (c.turn_to.ensures.cast (plan_in c.self.inside.plan.items) on goes c.self.invariant.number)
 
-    the : Casts (staged_by {G = g.row.G.Denot} c.self.inside.parts c.self.inside.ensemble.nodes (plan_in c.self.inside.plan.items).nodes) (plan_in c.self.inside.plan.items) c.args.plan.now c.args.moment.now c.args.period (staged_by {G = g.row.G.Denot} c.turn_to.new.parts c.self.inside.ensemble.nodes c.args.plan.now.nodes)
-    the = the-cast c.self.inside.parts c.turn_to.new.parts c.set_period.new.parts c.self.inside.ensemble.nodes c.args.period (plan_in c.self.inside.plan.items) c.args.plan.now c.args.moment.now by c.set_period.ensures.rest casts c.if-not-self.false
+    the : Casts g.G.Guest.sound (staged_by {G = g.row.G.Denot} c.self.inside.parts c.self.inside.ensemble.nodes (plan_in c.self.inside.plan.items).nodes) (plan_in c.self.inside.plan.items) c.args.plan.now c.args.moment.now c.args.period (staged_by {G = g.row.G.Denot} c.turn_to.new.parts c.self.inside.ensemble.nodes c.args.plan.now.nodes)
+    the = the-cast g.G.Guest.sound c.self.inside.parts c.turn_to.new.parts c.set_period.new.parts c.self.inside.ensemble.nodes c.args.period (plan_in c.self.inside.plan.items) c.args.plan.now c.args.moment.now by c.set_period.ensures.rest casts c.if-not-self.false
 
     silent : take c.args.period c.deref-2.result.now ≡ silence c.args.period
     silent = ap (take c.args.period) (c.deref-2.ensures.value ∙ c.self.invariant.silence) ∙ take-replicate c.args.period c.self.inside.parts.room (pos 0) (subst (λ k. c.args.period ≤ k) (ap (λ s. s.staged.room) (sym c.self.view_is)) c.requires.period)
 
-    was : (filled : Racked) × Fills (staged_by {G = g.row.G.Denot} c.turn_to.new.parts c.self.inside.ensemble.nodes c.args.plan.now.nodes) c.args.plan.now c.args.moment.now c.args.period c.args.capture.now.channels c.set_period.new.parts.last.items filled × Performs filled c.args.plan.now c.self.inside.ensemble.nodes c.perform.new.rack
-    was = subst (λ places. (filled : Racked) × Fills (staged_by {G = g.row.G.Denot} c.turn_to.new.parts c.self.inside.ensemble.nodes c.args.plan.now.nodes) c.args.plan.now c.args.moment.now c.args.period c.args.capture.now.channels places filled × Performs filled c.args.plan.now c.self.inside.ensemble.nodes c.perform.new.rack) c.deref.ensures.value
-        (c.perform.ensures.performed (staged_by {G = g.row.G.Denot} c.turn_to.new.parts c.self.inside.ensemble.nodes c.args.plan.now.nodes) c.args.moment.now c.args.period the.sources (sym (ap (λ p. p.rack) c.set_period.ensures.rest)) silent (set-there c.self.inside.parts c.turn_to.new.parts c.set_period.new.parts c.self.inside.ensemble.nodes c.args.period (plan_in c.self.inside.plan.items) c.args.plan.now c.args.moment.now by c.set_period.ensures.rest casts c.if-not-self.false) (unused-there c.self.inside.parts c.turn_to.new.parts c.set_period.new.parts c.self.inside.ensemble.nodes c.args.period (plan_in c.self.inside.plan.items) c.args.plan.now c.args.moment.now by c.set_period.ensures.rest casts c.if-not-self.false))
+    was : (filled : Racked) × Fills (staged_by {G = g.row.G.Denot} c.turn_to.new.parts c.self.inside.ensemble.nodes c.args.plan.now.nodes) c.args.plan.now c.args.moment.now c.args.period c.args.capture.now.channels c.set_period.new.parts.last.items filled × Performs g.G.Guest.sound filled c.args.plan.now c.self.inside.ensemble.nodes c.perform.new.rack
+    was = subst (λ places. (filled : Racked) × Fills (staged_by {G = g.row.G.Denot} c.turn_to.new.parts c.self.inside.ensemble.nodes c.args.plan.now.nodes) c.args.plan.now c.args.moment.now c.args.period c.args.capture.now.channels places filled × Performs g.G.Guest.sound filled c.args.plan.now c.self.inside.ensemble.nodes c.perform.new.rack) c.deref.ensures.value
+        (c.perform.ensures.performed (staged_by {G = g.row.G.Denot} c.turn_to.new.parts c.self.inside.ensemble.nodes c.args.plan.now.nodes) c.args.moment.now c.args.period the.sources (sym (ap (λ p. p.rack) c.set_period.ensures.rest)) silent (set-there g.G.Guest.sound c.self.inside.parts c.turn_to.new.parts c.set_period.new.parts c.self.inside.ensemble.nodes c.args.period (plan_in c.self.inside.plan.items) c.args.plan.now c.args.moment.now by c.set_period.ensures.rest casts c.if-not-self.false) (unused-there g.G.Guest.sound c.self.inside.parts c.turn_to.new.parts c.set_period.new.parts c.self.inside.ensemble.nodes c.args.period (plan_in c.self.inside.plan.items) c.args.plan.now c.args.moment.now by c.set_period.ensures.rest casts c.if-not-self.false))
 
     kinds : kinds_of c.perform.new.rack ≡ kinds_of c.turn_to.new.parts.rack
-    kinds = c.a_stage_stands_behind_its_cycle.ensures.kinds (staged_by {G = g.row.G.Denot} c.self.inside.parts c.self.inside.ensemble.nodes (plan_in c.self.inside.plan.items).nodes) (plan_in c.self.inside.plan.items) c.args.plan.now c.args.moment.now c.args.period c.args.capture.now.channels (staged_by {G = g.row.G.Denot} c.turn_to.new.parts c.self.inside.ensemble.nodes c.args.plan.now.nodes) c.set_period.new.parts.last.items was.0 c.self.inside.ensemble.nodes c.perform.new.rack the was.1 was.2
+    kinds = c.a_stage_stands_behind_its_cycle.ensures.kinds g.G.Guest.sound (staged_by {G = g.row.G.Denot} c.self.inside.parts c.self.inside.ensemble.nodes (plan_in c.self.inside.plan.items).nodes) (plan_in c.self.inside.plan.items) c.args.plan.now c.args.moment.now c.args.period c.args.capture.now.channels (staged_by {G = g.row.G.Denot} c.turn_to.new.parts c.self.inside.ensemble.nodes c.args.plan.now.nodes) c.set_period.new.parts.last.items was.0 c.self.inside.ensemble.nodes c.perform.new.rack the was.1 was.2
 
     places : ArePlaces (staged_by {G = g.row.G.Denot} c.self.inside.parts c.self.inside.ensemble.nodes (plan_in c.self.inside.plan.items).nodes) (staged_by {G = g.row.G.Denot} c.turn_to.new.parts c.self.inside.ensemble.nodes c.args.plan.now.nodes) c.args.period c.set_period.new.parts.last.items
-    places = places-there c.self.inside.parts c.turn_to.new.parts c.set_period.new.parts c.self.inside.ensemble.nodes c.args.period (plan_in c.self.inside.plan.items) c.args.plan.now c.args.moment.now by c.set_period.ensures.rest casts c.if-not-self.false c.turn_to.ensures.same.1 c.set_period.ensures.same c.set_period.ensures.other
+    places = places-there g.G.Guest.sound c.self.inside.parts c.turn_to.new.parts c.set_period.new.parts c.self.inside.ensemble.nodes c.args.period (plan_in c.self.inside.plan.items) c.args.plan.now c.args.moment.now by c.set_period.ensures.rest casts c.if-not-self.false c.turn_to.ensures.same.1 c.set_period.ensures.same c.set_period.ensures.other
 
     no_past : HasNoPast (open_clients c.args.plan.now.nodes) c.self.inside.parts.owners
     no_past = c.owners_stay_known.ensures.no_past c.args.plan.now c.self.inside.parts.rack c.self.inside.parts.owners c.number-number.ensures.planned (c.owners_stay_known.ensures.known (plan_in c.self.inside.plan.items) c.args.plan.now c.self.inside.parts.rack c.self.inside.parts.owners goes c.self.invariant.stands.stands.known)
 
 pub returns-clause-kinds : goal.returns-clause-kinds
-returns-clause-kinds g c = subst (λ (s : OnStage). IsPermutation (kinds_of s.staged.racked) (kinds_of c.perform.new.rack)) c.self.view_is (kinds-behind c.self.inside.parts c.turn_to.new.parts c.set_period.new.parts c.self.inside.ensemble.nodes c.args.period (plan_in c.self.inside.plan.items) c.args.plan.now c.args.moment.now by c.set_period.ensures.rest casts c.if-not-self.false c.args.capture.now.channels was.0 c.perform.new.rack was.1 was.2 kinds c.turn_to.ensures.kinds)
+returns-clause-kinds g c = subst (λ (s : OnStage). IsPermutation (kinds_of s.staged.racked) (kinds_of c.perform.new.rack)) c.self.view_is (kinds-behind g.G.Guest.sound c.self.inside.parts c.turn_to.new.parts c.set_period.new.parts c.self.inside.ensemble.nodes c.args.period (plan_in c.self.inside.plan.items) c.args.plan.now c.args.moment.now by c.set_period.ensures.rest casts c.if-not-self.false c.args.capture.now.channels was.0 c.perform.new.rack was.1 was.2 kinds c.turn_to.ensures.kinds)
   where
     goes : GoesOn (plan_in c.self.inside.plan.items) c.args.plan.now
     goes = record {
@@ -262,18 +262,18 @@ returns-clause-kinds g c = subst (λ (s : OnStage). IsPermutation (kinds_of s.st
     by : StandsBy (staged_by {G = g.row.G.Denot} c.turn_to.new.parts c.self.inside.ensemble.nodes c.args.plan.now.nodes) c.args.plan.now
     by = subst (λ k. StandsBy (staged_by {G = g.row.G.Denot} c.turn_to.new.parts k c.args.plan.now.nodes) c.args.plan.now) c.nodes-crew.ensures (c.turn_to.ensures.stands (plan_in c.self.inside.plan.items) on goes c.self.invariant.number)
 
-    casts : c.turn_to.new.parts.is_staffed ≡ true → Casts (staged_by {G = g.row.G.Denot} c.self.inside.parts c.self.inside.ensemble.nodes (plan_in c.self.inside.plan.items).nodes) (plan_in c.self.inside.plan.items) c.args.plan.now c.args.moment.now c.args.period (staged_by {G = g.row.G.Denot} c.turn_to.new.parts c.self.inside.ensemble.nodes c.args.plan.now.nodes)
-    casts = subst (λ k. c.turn_to.new.parts.is_staffed ≡ true → Casts (staged_by {G = g.row.G.Denot} c.self.inside.parts k (plan_in c.self.inside.plan.items).nodes) (plan_in c.self.inside.plan.items) c.args.plan.now c.args.moment.now c.args.period (staged_by {G = g.row.G.Denot} c.turn_to.new.parts k c.args.plan.now.nodes)) c.nodes-crew.ensures (c.turn_to.ensures.cast (plan_in c.self.inside.plan.items) on goes c.self.invariant.number)
+    casts : c.turn_to.new.parts.is_staffed ≡ true → Casts g.G.Guest.sound (staged_by {G = g.row.G.Denot} c.self.inside.parts c.self.inside.ensemble.nodes (plan_in c.self.inside.plan.items).nodes) (plan_in c.self.inside.plan.items) c.args.plan.now c.args.moment.now c.args.period (staged_by {G = g.row.G.Denot} c.turn_to.new.parts c.self.inside.ensemble.nodes c.args.plan.now.nodes)
+    casts = subst (λ k. c.turn_to.new.parts.is_staffed ≡ true → Casts g.G.Guest.sound (staged_by {G = g.row.G.Denot} c.self.inside.parts k (plan_in c.self.inside.plan.items).nodes) (plan_in c.self.inside.plan.items) c.args.plan.now c.args.moment.now c.args.period (staged_by {G = g.row.G.Denot} c.turn_to.new.parts k c.args.plan.now.nodes)) c.nodes-crew.ensures (c.turn_to.ensures.cast (plan_in c.self.inside.plan.items) on goes c.self.invariant.number)
 
-    the : Casts (staged_by {G = g.row.G.Denot} c.self.inside.parts c.self.inside.ensemble.nodes (plan_in c.self.inside.plan.items).nodes) (plan_in c.self.inside.plan.items) c.args.plan.now c.args.moment.now c.args.period (staged_by {G = g.row.G.Denot} c.turn_to.new.parts c.self.inside.ensemble.nodes c.args.plan.now.nodes)
-    the = the-cast c.self.inside.parts c.turn_to.new.parts c.set_period.new.parts c.self.inside.ensemble.nodes c.args.period (plan_in c.self.inside.plan.items) c.args.plan.now c.args.moment.now by c.set_period.ensures.rest casts c.if-not-self.false
+    the : Casts g.G.Guest.sound (staged_by {G = g.row.G.Denot} c.self.inside.parts c.self.inside.ensemble.nodes (plan_in c.self.inside.plan.items).nodes) (plan_in c.self.inside.plan.items) c.args.plan.now c.args.moment.now c.args.period (staged_by {G = g.row.G.Denot} c.turn_to.new.parts c.self.inside.ensemble.nodes c.args.plan.now.nodes)
+    the = the-cast g.G.Guest.sound c.self.inside.parts c.turn_to.new.parts c.set_period.new.parts c.self.inside.ensemble.nodes c.args.period (plan_in c.self.inside.plan.items) c.args.plan.now c.args.moment.now by c.set_period.ensures.rest casts c.if-not-self.false
 
     silent : take c.args.period c.deref-2.result.now ≡ silence c.args.period
     silent = ap (take c.args.period) (c.deref-2.ensures.value ∙ c.self.invariant.silence) ∙ take-replicate c.args.period c.self.inside.parts.room (pos 0) (subst (λ k. c.args.period ≤ k) (ap (λ s. s.staged.room) (sym c.self.view_is)) c.requires.period)
 
-    was : (filled : Racked) × Fills (staged_by {G = g.row.G.Denot} c.turn_to.new.parts c.self.inside.ensemble.nodes c.args.plan.now.nodes) c.args.plan.now c.args.moment.now c.args.period c.args.capture.now.channels c.set_period.new.parts.last.items filled × Performs filled c.args.plan.now c.self.inside.ensemble.nodes c.perform.new.rack
-    was = subst (λ places. (filled : Racked) × Fills (staged_by {G = g.row.G.Denot} c.turn_to.new.parts c.self.inside.ensemble.nodes c.args.plan.now.nodes) c.args.plan.now c.args.moment.now c.args.period c.args.capture.now.channels places filled × Performs filled c.args.plan.now c.self.inside.ensemble.nodes c.perform.new.rack) c.deref.ensures.value
-        (c.perform.ensures.performed (staged_by {G = g.row.G.Denot} c.turn_to.new.parts c.self.inside.ensemble.nodes c.args.plan.now.nodes) c.args.moment.now c.args.period the.sources (sym (ap (λ p. p.rack) c.set_period.ensures.rest)) silent (set-there c.self.inside.parts c.turn_to.new.parts c.set_period.new.parts c.self.inside.ensemble.nodes c.args.period (plan_in c.self.inside.plan.items) c.args.plan.now c.args.moment.now by c.set_period.ensures.rest casts c.if-not-self.false) (unused-there c.self.inside.parts c.turn_to.new.parts c.set_period.new.parts c.self.inside.ensemble.nodes c.args.period (plan_in c.self.inside.plan.items) c.args.plan.now c.args.moment.now by c.set_period.ensures.rest casts c.if-not-self.false))
+    was : (filled : Racked) × Fills (staged_by {G = g.row.G.Denot} c.turn_to.new.parts c.self.inside.ensemble.nodes c.args.plan.now.nodes) c.args.plan.now c.args.moment.now c.args.period c.args.capture.now.channels c.set_period.new.parts.last.items filled × Performs g.G.Guest.sound filled c.args.plan.now c.self.inside.ensemble.nodes c.perform.new.rack
+    was = subst (λ places. (filled : Racked) × Fills (staged_by {G = g.row.G.Denot} c.turn_to.new.parts c.self.inside.ensemble.nodes c.args.plan.now.nodes) c.args.plan.now c.args.moment.now c.args.period c.args.capture.now.channels places filled × Performs g.G.Guest.sound filled c.args.plan.now c.self.inside.ensemble.nodes c.perform.new.rack) c.deref.ensures.value
+        (c.perform.ensures.performed (staged_by {G = g.row.G.Denot} c.turn_to.new.parts c.self.inside.ensemble.nodes c.args.plan.now.nodes) c.args.moment.now c.args.period the.sources (sym (ap (λ p. p.rack) c.set_period.ensures.rest)) silent (set-there g.G.Guest.sound c.self.inside.parts c.turn_to.new.parts c.set_period.new.parts c.self.inside.ensemble.nodes c.args.period (plan_in c.self.inside.plan.items) c.args.plan.now c.args.moment.now by c.set_period.ensures.rest casts c.if-not-self.false) (unused-there g.G.Guest.sound c.self.inside.parts c.turn_to.new.parts c.set_period.new.parts c.self.inside.ensemble.nodes c.args.period (plan_in c.self.inside.plan.items) c.args.plan.now c.args.moment.now by c.set_period.ensures.rest casts c.if-not-self.false))
 
     kinds : kinds_of c.perform.new.rack ≡ kinds_of c.turn_to.new.parts.rack
-    kinds = c.a_stage_stands_behind_its_cycle.ensures.kinds (staged_by {G = g.row.G.Denot} c.self.inside.parts c.self.inside.ensemble.nodes (plan_in c.self.inside.plan.items).nodes) (plan_in c.self.inside.plan.items) c.args.plan.now c.args.moment.now c.args.period c.args.capture.now.channels (staged_by {G = g.row.G.Denot} c.turn_to.new.parts c.self.inside.ensemble.nodes c.args.plan.now.nodes) c.set_period.new.parts.last.items was.0 c.self.inside.ensemble.nodes c.perform.new.rack the was.1 was.2
+    kinds = c.a_stage_stands_behind_its_cycle.ensures.kinds g.G.Guest.sound (staged_by {G = g.row.G.Denot} c.self.inside.parts c.self.inside.ensemble.nodes (plan_in c.self.inside.plan.items).nodes) (plan_in c.self.inside.plan.items) c.args.plan.now c.args.moment.now c.args.period c.args.capture.now.channels (staged_by {G = g.row.G.Denot} c.turn_to.new.parts c.self.inside.ensemble.nodes c.args.plan.now.nodes) c.set_period.new.parts.last.items was.0 c.self.inside.ensemble.nodes c.perform.new.rack the was.1 was.2

@@ -36,8 +36,8 @@ invariant_of-self g c = record {
     fails = err-held c.turn.result (FailsToRead c.self.inside.works c.turn.new.self) c.if-is_err.ensures.value c.turn.ensures.failed
 
 pub returns-then-is_err-clause-read : goal.returns-then-is_err-clause-read
-returns-then-is_err-clause-read g c is_read = subst (λ gear. FailsAtRead (driver_of gear) (driver_of (with_playback c.turn.new.self c.self.inside.playback))) c.self.view_is
-    (failed-at-read c.self.inside.works c.turn.new.self c.self.inside.playback (err-held c.turn.result (FailsToRead c.self.inside.works c.turn.new.self) c.if-is_err.ensures.value c.turn.ensures.failed))
+returns-then-is_err-clause-read g c is_read = subst (λ gear. FailsAtRead (driver_of g.G.Guest.sound gear) (driver_of g.G.Guest.sound (with_playback c.turn.new.self c.self.inside.playback))) c.self.view_is
+    (failed-at-read g.G.Guest.sound c.self.inside.works c.turn.new.self c.self.inside.playback (err-held c.turn.result (FailsToRead c.self.inside.works c.turn.new.self) c.if-is_err.ensures.value c.turn.ensures.failed))
 
 pub returns-then-is_err-clause-read_cause : goal.returns-then-is_err-clause-read_cause
 returns-then-is_err-clause-read_cause g c is_read = subst (λ (gear : Gear). Rose gear.capture.reading.faults c.turn.new.self.capture.reading.faults) c.self.view_is
@@ -51,85 +51,85 @@ invariant_of-self-then-freewheel g c = record {
   channels = c.self.invariant.channels ∙ ap (λ (s : Script). s.header.playback) (sym turned.2.script);
   room = c.self.invariant.room ∙ ap greatest_period (sym turned.2.script);
   format = c.self.invariant.format ∙ ap playback_format (sym turned.2.script);
-  file = λ sound. if-some c.self.inside.playback (IsOwnFile (with_playback c.self.inside.works c.self.inside.playback)) (IsOwnFile (with_playback c.turn.new.self c.self.inside.playback)) (λ file own. file-stays (with_playback c.self.inside.works c.self.inside.playback) (with_playback c.turn.new.self c.self.inside.playback) file turned.2.script frames own) (c.self.invariant.file may.sound);
+  file = λ sound. if-some c.self.inside.playback (IsOwnFile g.G.Guest.sound (with_playback c.self.inside.works c.self.inside.playback)) (IsOwnFile g.G.Guest.sound (with_playback c.turn.new.self c.self.inside.playback)) (λ file own. file-stays g.G.Guest.sound (with_playback c.self.inside.works c.self.inside.playback) (with_playback c.turn.new.self c.self.inside.playback) file turned.2.script frames own) (c.self.invariant.file may.sound);
 }
   where
-    may : MayCycle (driver_of (with_playback c.self.inside.works c.self.inside.playback)) c.args.freewheel
-    may = subst (λ gear. MayCycle (driver_of gear) c.args.freewheel) (sym c.self.view_is) c.requires
+    may : MayCycle (driver_of g.G.Guest.sound (with_playback c.self.inside.works c.self.inside.playback)) c.args.freewheel
+    may = subst (λ gear. MayCycle (driver_of g.G.Guest.sound gear) c.args.freewheel) (sym c.self.view_is) c.requires
 
-    turned : (plan : Planned) × (moment : Moment) × Turns c.args.freewheel c.self.inside.works plan moment c.turn.new.self
-    turned = ok-held c.turn.result ((plan : Planned) × (moment : Moment) × Turns c.args.freewheel c.self.inside.works plan moment c.turn.new.self) c.if-is_err.ensures.value c.turn.ensures.turned
+    turned : (plan : Planned) × (moment : Moment) × Turns g.G.Guest.sound c.args.freewheel c.self.inside.works plan moment c.turn.new.self
+    turned = ok-held c.turn.result ((plan : Planned) × (moment : Moment) × Turns g.G.Guest.sound c.args.freewheel c.self.inside.works plan moment c.turn.new.self) c.if-is_err.ensures.value c.turn.ensures.turned
 
-    is : IsGear (with_playback c.self.inside.works c.self.inside.playback)
-    is = IsGear-playback c.self.inside.works c.self.inside.playback c.turn.ensures.stands.0
+    is : IsGear g.G.Guest.sound (with_playback c.self.inside.works c.self.inside.playback)
+    is = IsGear-playback g.G.Guest.sound c.self.inside.works c.self.inside.playback c.turn.ensures.stands.0
 
-    turns : Turns c.args.freewheel (with_playback c.self.inside.works c.self.inside.playback) turned.0 turned.1 (with_playback c.turn.new.self c.self.inside.playback)
-    turns = Turns-playback c.args.freewheel c.self.inside.works turned.0 turned.1 c.turn.new.self turned.2 c.self.inside.playback c.self.inside.playback c.turn.new.self.failed
+    turns : Turns g.G.Guest.sound c.args.freewheel (with_playback c.self.inside.works c.self.inside.playback) turned.0 turned.1 (with_playback c.turn.new.self c.self.inside.playback)
+    turns = Turns-playback g.G.Guest.sound c.args.freewheel c.self.inside.works turned.0 turned.1 c.turn.new.self turned.2 c.self.inside.playback c.self.inside.playback c.turn.new.self.failed
 
-    frames : frames_run (driver_of (with_playback c.turn.new.self c.self.inside.playback)) ≡ frames_run (driver_of (with_playback c.self.inside.works c.self.inside.playback)) + c.self.inside.works.set
-    frames = frames-is c.args.freewheel (with_playback c.self.inside.works c.self.inside.playback) (with_playback c.turn.new.self c.self.inside.playback) turned.0 turned.1 is may turns
+    frames : frames_run (driver_of g.G.Guest.sound (with_playback c.turn.new.self c.self.inside.playback)) ≡ frames_run (driver_of g.G.Guest.sound (with_playback c.self.inside.works c.self.inside.playback)) + c.self.inside.works.set
+    frames = frames-is g.G.Guest.sound c.args.freewheel (with_playback c.self.inside.works c.self.inside.playback) (with_playback c.turn.new.self c.self.inside.playback) turned.0 turned.1 is may turns
 
 pub returns-then-freewheel-clause-ok : goal.returns-then-freewheel-clause-ok
-returns-then-freewheel-clause-ok g c = subst (λ gear. CyclesOnce (driver_of gear) (driver_of (with_playback c.turn.new.self c.self.inside.playback))) c.self.view_is
-    (c.steps_that_play_are_a_cycle.ensures.ok (driver_of (with_playback c.self.inside.works c.self.inside.playback)) (driver_of (with_playback c.turn.new.self c.self.inside.playback)) steps (writes-nothing (with_playback c.self.inside.works c.self.inside.playback) (with_playback c.turn.new.self c.self.inside.playback) c.args.freewheel may (c.turn.ensures.sound ∙ sym c.if-is_err.ensures.value ∙ sym may.sound) refl)
+returns-then-freewheel-clause-ok g c = subst (λ gear. CyclesOnce (driver_of g.G.Guest.sound gear) (driver_of g.G.Guest.sound (with_playback c.turn.new.self c.self.inside.playback))) c.self.view_is
+    (c.steps_that_play_are_a_cycle.ensures.ok (driver_of g.G.Guest.sound (with_playback c.self.inside.works c.self.inside.playback)) (driver_of g.G.Guest.sound (with_playback c.turn.new.self c.self.inside.playback)) steps (writes-nothing g.G.Guest.sound (with_playback c.self.inside.works c.self.inside.playback) (with_playback c.turn.new.self c.self.inside.playback) c.args.freewheel may (c.turn.ensures.sound ∙ sym c.if-is_err.ensures.value ∙ sym may.sound) refl)
     (λ left course fits keeps told. (plays left course fits keeps told, λ run samples has. absurd (true≢false (sym c.if-freewheel.true ∙ sym may.turn_is ∙ run)))))
   where
-    may : MayCycle (driver_of (with_playback c.self.inside.works c.self.inside.playback)) c.args.freewheel
-    may = subst (λ gear. MayCycle (driver_of gear) c.args.freewheel) (sym c.self.view_is) c.requires
+    may : MayCycle (driver_of g.G.Guest.sound (with_playback c.self.inside.works c.self.inside.playback)) c.args.freewheel
+    may = subst (λ gear. MayCycle (driver_of g.G.Guest.sound gear) c.args.freewheel) (sym c.self.view_is) c.requires
 
-    turned : (plan : Planned) × (moment : Moment) × Turns c.args.freewheel c.self.inside.works plan moment c.turn.new.self
-    turned = ok-held c.turn.result ((plan : Planned) × (moment : Moment) × Turns c.args.freewheel c.self.inside.works plan moment c.turn.new.self) c.if-is_err.ensures.value c.turn.ensures.turned
+    turned : (plan : Planned) × (moment : Moment) × Turns g.G.Guest.sound c.args.freewheel c.self.inside.works plan moment c.turn.new.self
+    turned = ok-held c.turn.result ((plan : Planned) × (moment : Moment) × Turns g.G.Guest.sound c.args.freewheel c.self.inside.works plan moment c.turn.new.self) c.if-is_err.ensures.value c.turn.ensures.turned
 
-    is : IsGear (with_playback c.self.inside.works c.self.inside.playback)
-    is = IsGear-playback c.self.inside.works c.self.inside.playback c.turn.ensures.stands.0
+    is : IsGear g.G.Guest.sound (with_playback c.self.inside.works c.self.inside.playback)
+    is = IsGear-playback g.G.Guest.sound c.self.inside.works c.self.inside.playback c.turn.ensures.stands.0
 
-    turns : Turns c.args.freewheel (with_playback c.self.inside.works c.self.inside.playback) turned.0 turned.1 (with_playback c.turn.new.self c.self.inside.playback)
-    turns = Turns-playback c.args.freewheel c.self.inside.works turned.0 turned.1 c.turn.new.self turned.2 c.self.inside.playback c.self.inside.playback c.turn.new.self.failed
+    turns : Turns g.G.Guest.sound c.args.freewheel (with_playback c.self.inside.works c.self.inside.playback) turned.0 turned.1 (with_playback c.turn.new.self c.self.inside.playback)
+    turns = Turns-playback g.G.Guest.sound c.args.freewheel c.self.inside.works turned.0 turned.1 c.turn.new.self turned.2 c.self.inside.playback c.self.inside.playback c.turn.new.self.failed
 
-    steps : StepsOnce (driver_of (with_playback c.self.inside.works c.self.inside.playback)) (driver_of (with_playback c.turn.new.self c.self.inside.playback))
-    steps = c.a_cycle_is_a_step.ensures c.args.freewheel (with_playback c.self.inside.works c.self.inside.playback) (with_playback c.turn.new.self c.self.inside.playback) turned.0 turned.1 is may turns
+    steps : StepsOnce (driver_of g.G.Guest.sound (with_playback c.self.inside.works c.self.inside.playback)) (driver_of g.G.Guest.sound (with_playback c.turn.new.self c.self.inside.playback))
+    steps = c.a_cycle_is_a_step.ensures g.G.Guest.sound c.args.freewheel (with_playback c.self.inside.works c.self.inside.playback) (with_playback c.turn.new.self c.self.inside.playback) turned.0 turned.1 is may turns
 
-    plays : (left : List ℤ) (course : Course) → Fits (driver_of (with_playback c.turn.new.self c.self.inside.playback)) course → Keeps (driver_of (with_playback c.self.inside.works c.self.inside.playback)) course → (driver_of (with_playback c.self.inside.works c.self.inside.playback)).left ≡ Some left → PlaysOwn (driver_of (with_playback c.self.inside.works c.self.inside.playback)) (driver_of (with_playback c.turn.new.self c.self.inside.playback)) left
-    plays = c.a_cycle_plays_its_own.ensures c.args.freewheel (with_playback c.self.inside.works c.self.inside.playback) (with_playback c.turn.new.self c.self.inside.playback) turned.0 turned.1 is may turns
+    plays : (left : List ℤ) (course : Course) → Fits (driver_of g.G.Guest.sound (with_playback c.turn.new.self c.self.inside.playback)) course → Keeps (driver_of g.G.Guest.sound (with_playback c.self.inside.works c.self.inside.playback)) course → (driver_of g.G.Guest.sound (with_playback c.self.inside.works c.self.inside.playback)).left ≡ Some left → PlaysOwn (driver_of g.G.Guest.sound (with_playback c.self.inside.works c.self.inside.playback)) (driver_of g.G.Guest.sound (with_playback c.turn.new.self c.self.inside.playback)) left
+    plays = c.a_cycle_plays_its_own.ensures g.G.Guest.sound c.args.freewheel (with_playback c.self.inside.works c.self.inside.playback) (with_playback c.turn.new.self c.self.inside.playback) turned.0 turned.1 is may turns
 
 -- ---- a `run` cycle
 
 pub play_back-requires-clause-period : goal.play_back-requires-clause-period
 play_back-requires-clause-period g c =
-    let within : c.self.inside.works.set ≤ c.self.inside.works.rings.room = (c.a_cycle_may_be_played.ensures.sends (with_playback c.self.inside.works c.self.inside.playback) c.args.freewheel is may).period in
+    let within : c.self.inside.works.set ≤ c.self.inside.works.rings.room = (c.a_cycle_may_be_played.ensures.sends g.G.Guest.sound (with_playback c.self.inside.works c.self.inside.playback) c.args.freewheel is may).period in
     let rings : c.self.inside.works.rings.room ≡ greatest_period c.self.inside.works.script = is.rings_room in
     let room : c.self.inside.mix.room ≡ greatest_period c.self.inside.works.script = c.self.invariant.room in
     subst (λ set. set ≤ c.self.inside.mix.room) (sym turned.2.set) (omega (arith, within, rings, room))
   where
-    may : MayCycle (driver_of (with_playback c.self.inside.works c.self.inside.playback)) c.args.freewheel
-    may = subst (λ gear. MayCycle (driver_of gear) c.args.freewheel) (sym c.self.view_is) c.requires
+    may : MayCycle (driver_of g.G.Guest.sound (with_playback c.self.inside.works c.self.inside.playback)) c.args.freewheel
+    may = subst (λ gear. MayCycle (driver_of g.G.Guest.sound gear) c.args.freewheel) (sym c.self.view_is) c.requires
 
-    turned : (plan : Planned) × (moment : Moment) × Turns c.args.freewheel c.self.inside.works plan moment c.turn.new.self
-    turned = ok-held c.turn.result ((plan : Planned) × (moment : Moment) × Turns c.args.freewheel c.self.inside.works plan moment c.turn.new.self) c.if-is_err.ensures.value c.turn.ensures.turned
+    turned : (plan : Planned) × (moment : Moment) × Turns g.G.Guest.sound c.args.freewheel c.self.inside.works plan moment c.turn.new.self
+    turned = ok-held c.turn.result ((plan : Planned) × (moment : Moment) × Turns g.G.Guest.sound c.args.freewheel c.self.inside.works plan moment c.turn.new.self) c.if-is_err.ensures.value c.turn.ensures.turned
 
-    is : IsGear (with_playback c.self.inside.works c.self.inside.playback)
-    is = IsGear-playback c.self.inside.works c.self.inside.playback c.turn.ensures.stands.0
+    is : IsGear g.G.Guest.sound (with_playback c.self.inside.works c.self.inside.playback)
+    is = IsGear-playback g.G.Guest.sound c.self.inside.works c.self.inside.playback c.turn.ensures.stands.0
 
 pub play_back-requires-clause-room : goal.play_back-requires-clause-room
 play_back-requires-clause-room g c =
     subst (λ set. c.in-Some.file.written + set * c.self.inside.mix.channels * width c.in-Some.file.format.bits ≤ 4294967000) (sym turned.2.set)
     (subst (λ channels. c.in-Some.file.written + c.self.inside.works.set * channels * width c.in-Some.file.format.bits ≤ 4294967000) (sym c.self.invariant.channels)
-    (file-fits (with_playback c.self.inside.works c.self.inside.playback) c.args.freewheel may c.in-Some.file own (wide-of c.self.inside.works.script.header.bits is.served.lawful.header.bits) (c.samples_are_few.ensures.playback (later (with_playback c.self.inside.works c.self.inside.playback)) is.served.lawful)))
+    (file-fits g.G.Guest.sound (with_playback c.self.inside.works c.self.inside.playback) c.args.freewheel may c.in-Some.file own (wide-of c.self.inside.works.script.header.bits is.served.lawful.header.bits) (c.samples_are_few.ensures.playback (later g.G.Guest.sound (with_playback c.self.inside.works c.self.inside.playback)) is.served.lawful)))
   where
-    may : MayCycle (driver_of (with_playback c.self.inside.works c.self.inside.playback)) c.args.freewheel
-    may = subst (λ gear. MayCycle (driver_of gear) c.args.freewheel) (sym c.self.view_is) c.requires
+    may : MayCycle (driver_of g.G.Guest.sound (with_playback c.self.inside.works c.self.inside.playback)) c.args.freewheel
+    may = subst (λ gear. MayCycle (driver_of g.G.Guest.sound gear) c.args.freewheel) (sym c.self.view_is) c.requires
 
-    turned : (plan : Planned) × (moment : Moment) × Turns c.args.freewheel c.self.inside.works plan moment c.turn.new.self
-    turned = ok-held c.turn.result ((plan : Planned) × (moment : Moment) × Turns c.args.freewheel c.self.inside.works plan moment c.turn.new.self) c.if-is_err.ensures.value c.turn.ensures.turned
+    turned : (plan : Planned) × (moment : Moment) × Turns g.G.Guest.sound c.args.freewheel c.self.inside.works plan moment c.turn.new.self
+    turned = ok-held c.turn.result ((plan : Planned) × (moment : Moment) × Turns g.G.Guest.sound c.args.freewheel c.self.inside.works plan moment c.turn.new.self) c.if-is_err.ensures.value c.turn.ensures.turned
 
-    is : IsGear (with_playback c.self.inside.works c.self.inside.playback)
-    is = IsGear-playback c.self.inside.works c.self.inside.playback c.turn.ensures.stands.0
+    is : IsGear g.G.Guest.sound (with_playback c.self.inside.works c.self.inside.playback)
+    is = IsGear-playback g.G.Guest.sound c.self.inside.works c.self.inside.playback c.turn.ensures.stands.0
 
     was : c.self.inside.playback ≡ Some c.in-Some.file
     was = c.in-Some.is
 
-    own : IsOwnFile (with_playback c.self.inside.works c.self.inside.playback) c.in-Some.file
-    own = subst (λ o. IfSome o (IsOwnFile (with_playback c.self.inside.works c.self.inside.playback))) was (c.self.invariant.file may.sound)
+    own : IsOwnFile g.G.Guest.sound (with_playback c.self.inside.works c.self.inside.playback) c.in-Some.file
+    own = subst (λ o. IfSome o (IsOwnFile g.G.Guest.sound (with_playback c.self.inside.works c.self.inside.playback))) was (c.self.invariant.file may.sound)
 
 pub invariant_of-self-then-is_err-2 : goal.invariant_of-self-then-is_err-2
 invariant_of-self-then-is_err-2 g c = record {
@@ -140,14 +140,14 @@ invariant_of-self-then-is_err-2 g c = record {
   file = λ sound. absurd (true≢false (sym (ap (λ (gear : Gear). gear.failed) c.fail.ensures) ∙ sound));
 }
   where
-    turned : (plan : Planned) × (moment : Moment) × Turns c.args.freewheel c.self.inside.works plan moment c.turn.new.self
-    turned = ok-held c.turn.result ((plan : Planned) × (moment : Moment) × Turns c.args.freewheel c.self.inside.works plan moment c.turn.new.self) c.if-is_err.ensures.value c.turn.ensures.turned
+    turned : (plan : Planned) × (moment : Moment) × Turns g.G.Guest.sound c.args.freewheel c.self.inside.works plan moment c.turn.new.self
+    turned = ok-held c.turn.result ((plan : Planned) × (moment : Moment) × Turns g.G.Guest.sound c.args.freewheel c.self.inside.works plan moment c.turn.new.self) c.if-is_err.ensures.value c.turn.ensures.turned
 
 pub returns-then-is_err-2-clause-write : goal.returns-then-is_err-2-clause-write
 returns-then-is_err-2-clause-write g c is_write =
-    subst (λ gear. FailsAtWrite (driver_of gear) (driver_of (with_playback c.fail.new.self (Some c.play_back.new.file)))) c.self.view_is
-    (subst (λ gear. FailsAtWrite (driver_of (with_playback c.self.inside.works c.self.inside.playback)) (driver_of (with_playback gear (Some c.play_back.new.file)))) (sym c.fail.ensures)
-    (c.steps_that_play_are_a_cycle.ensures.failed (driver_of (with_playback c.self.inside.works c.self.inside.playback)) (driver_of (record c.turn.new.self { playback = (Some c.play_back.new.file); failed = true })) steps refl
+    subst (λ gear. FailsAtWrite (driver_of g.G.Guest.sound gear) (driver_of g.G.Guest.sound (with_playback c.fail.new.self (Some c.play_back.new.file)))) c.self.view_is
+    (subst (λ gear. FailsAtWrite (driver_of g.G.Guest.sound (with_playback c.self.inside.works c.self.inside.playback)) (driver_of g.G.Guest.sound (with_playback gear (Some c.play_back.new.file)))) (sym c.fail.ensures)
+    (c.steps_that_play_are_a_cycle.ensures.failed (driver_of g.G.Guest.sound (with_playback c.self.inside.works c.self.inside.playback)) (driver_of g.G.Guest.sound (record c.turn.new.self { playback = (Some c.play_back.new.file); failed = true })) steps refl
     (λ left course fits keeps told. (
       plays left course fits keeps told,
       record {
@@ -156,26 +156,26 @@ returns-then-is_err-2-clause-write g c is_write =
       },
     ))))
   where
-    may : MayCycle (driver_of (with_playback c.self.inside.works c.self.inside.playback)) c.args.freewheel
-    may = subst (λ gear. MayCycle (driver_of gear) c.args.freewheel) (sym c.self.view_is) c.requires
+    may : MayCycle (driver_of g.G.Guest.sound (with_playback c.self.inside.works c.self.inside.playback)) c.args.freewheel
+    may = subst (λ gear. MayCycle (driver_of g.G.Guest.sound gear) c.args.freewheel) (sym c.self.view_is) c.requires
 
-    turned : (plan : Planned) × (moment : Moment) × Turns c.args.freewheel c.self.inside.works plan moment c.turn.new.self
-    turned = ok-held c.turn.result ((plan : Planned) × (moment : Moment) × Turns c.args.freewheel c.self.inside.works plan moment c.turn.new.self) c.if-is_err.ensures.value c.turn.ensures.turned
+    turned : (plan : Planned) × (moment : Moment) × Turns g.G.Guest.sound c.args.freewheel c.self.inside.works plan moment c.turn.new.self
+    turned = ok-held c.turn.result ((plan : Planned) × (moment : Moment) × Turns g.G.Guest.sound c.args.freewheel c.self.inside.works plan moment c.turn.new.self) c.if-is_err.ensures.value c.turn.ensures.turned
 
-    is : IsGear (with_playback c.self.inside.works c.self.inside.playback)
-    is = IsGear-playback c.self.inside.works c.self.inside.playback c.turn.ensures.stands.0
+    is : IsGear g.G.Guest.sound (with_playback c.self.inside.works c.self.inside.playback)
+    is = IsGear-playback g.G.Guest.sound c.self.inside.works c.self.inside.playback c.turn.ensures.stands.0
 
-    turns : Turns c.args.freewheel (with_playback c.self.inside.works c.self.inside.playback) turned.0 turned.1 (record c.turn.new.self { playback = (Some c.play_back.new.file); failed = true })
-    turns = Turns-playback c.args.freewheel c.self.inside.works turned.0 turned.1 c.turn.new.self turned.2 c.self.inside.playback (Some c.play_back.new.file) true
+    turns : Turns g.G.Guest.sound c.args.freewheel (with_playback c.self.inside.works c.self.inside.playback) turned.0 turned.1 (record c.turn.new.self { playback = (Some c.play_back.new.file); failed = true })
+    turns = Turns-playback g.G.Guest.sound c.args.freewheel c.self.inside.works turned.0 turned.1 c.turn.new.self turned.2 c.self.inside.playback (Some c.play_back.new.file) true
 
-    steps : StepsOnce (driver_of (with_playback c.self.inside.works c.self.inside.playback)) (driver_of (record c.turn.new.self { playback = (Some c.play_back.new.file); failed = true }))
-    steps = c.a_cycle_is_a_step.ensures c.args.freewheel (with_playback c.self.inside.works c.self.inside.playback) (record c.turn.new.self { playback = (Some c.play_back.new.file); failed = true }) turned.0 turned.1 is may turns
+    steps : StepsOnce (driver_of g.G.Guest.sound (with_playback c.self.inside.works c.self.inside.playback)) (driver_of g.G.Guest.sound (record c.turn.new.self { playback = (Some c.play_back.new.file); failed = true }))
+    steps = c.a_cycle_is_a_step.ensures g.G.Guest.sound c.args.freewheel (with_playback c.self.inside.works c.self.inside.playback) (record c.turn.new.self { playback = (Some c.play_back.new.file); failed = true }) turned.0 turned.1 is may turns
 
-    plays : (left : List ℤ) (course : Course) → Fits (driver_of (record c.turn.new.self { playback = (Some c.play_back.new.file); failed = true })) course → Keeps (driver_of (with_playback c.self.inside.works c.self.inside.playback)) course → (driver_of (with_playback c.self.inside.works c.self.inside.playback)).left ≡ Some left → PlaysOwn (driver_of (with_playback c.self.inside.works c.self.inside.playback)) (driver_of (record c.turn.new.self { playback = (Some c.play_back.new.file); failed = true })) left
-    plays = c.a_cycle_plays_its_own.ensures c.args.freewheel (with_playback c.self.inside.works c.self.inside.playback) (record c.turn.new.self { playback = (Some c.play_back.new.file); failed = true }) turned.0 turned.1 is may turns
+    plays : (left : List ℤ) (course : Course) → Fits (driver_of g.G.Guest.sound (record c.turn.new.self { playback = (Some c.play_back.new.file); failed = true })) course → Keeps (driver_of g.G.Guest.sound (with_playback c.self.inside.works c.self.inside.playback)) course → (driver_of g.G.Guest.sound (with_playback c.self.inside.works c.self.inside.playback)).left ≡ Some left → PlaysOwn (driver_of g.G.Guest.sound (with_playback c.self.inside.works c.self.inside.playback)) (driver_of g.G.Guest.sound (record c.turn.new.self { playback = (Some c.play_back.new.file); failed = true })) left
+    plays = c.a_cycle_plays_its_own.ensures g.G.Guest.sound c.args.freewheel (with_playback c.self.inside.works c.self.inside.playback) (record c.turn.new.self { playback = (Some c.play_back.new.file); failed = true }) turned.0 turned.1 is may turns
 
-    mixes : (left : List ℤ) → (driver_of (with_playback c.self.inside.works c.self.inside.playback)).left ≡ Some left → mixed c.turn.new.self c.self.inside.mix.channels ≡ played_now (driver_of (with_playback c.self.inside.works c.self.inside.playback)) (driver_of (record c.turn.new.self { playback = (Some c.play_back.new.file); failed = true })) left
-    mixes left told = ap (mixed c.turn.new.self) c.self.invariant.channels ∙ mixed-turned c.args.freewheel c.self.inside.works turned.0 turned.1 c.turn.new.self turned.2 ∙ c.a_mix_is_played.ensures c.args.freewheel (with_playback c.self.inside.works c.self.inside.playback) (record c.turn.new.self { playback = (Some c.play_back.new.file); failed = true }) turned.0 turned.1 is may turns left told
+    mixes : (left : List ℤ) → (driver_of g.G.Guest.sound (with_playback c.self.inside.works c.self.inside.playback)).left ≡ Some left → mixed c.turn.new.self c.self.inside.mix.channels ≡ played_now (driver_of g.G.Guest.sound (with_playback c.self.inside.works c.self.inside.playback)) (driver_of g.G.Guest.sound (record c.turn.new.self { playback = (Some c.play_back.new.file); failed = true })) left
+    mixes left told = ap (mixed c.turn.new.self) c.self.invariant.channels ∙ mixed-turned g.G.Guest.sound c.args.freewheel c.self.inside.works turned.0 turned.1 c.turn.new.self turned.2 ∙ c.a_mix_is_played.ensures g.G.Guest.sound c.args.freewheel (with_playback c.self.inside.works c.self.inside.playback) (record c.turn.new.self { playback = (Some c.play_back.new.file); failed = true }) turned.0 turned.1 is may turns left told
 
     was : c.self.inside.playback ≡ Some c.in-Some.file
     was = c.in-Some.is
@@ -199,29 +199,29 @@ invariant_of-self-else-is_err-2 g c = record {
   channels = c.play_back.ensures.room.0 ∙ c.self.invariant.channels ∙ ap (λ (s : Script). s.header.playback) (sym turned.2.script);
   room = c.play_back.ensures.room.1 ∙ c.self.invariant.room ∙ ap greatest_period (sym turned.2.script);
   format = c.self.invariant.format ∙ ap playback_format (sym turned.2.script);
-  file = λ sound. file-next (with_playback c.self.inside.works c.self.inside.playback) (with_playback c.turn.new.self (Some c.play_back.new.file)) c.in-Some.file c.play_back.new.file turned.2.script frames own c.play_back.ensures.file.format (subst (λ n. c.play_back.new.file.written ≤ n) more (let same = written in omega (arith, same)));
+  file = λ sound. file-next g.G.Guest.sound (with_playback c.self.inside.works c.self.inside.playback) (with_playback c.turn.new.self (Some c.play_back.new.file)) c.in-Some.file c.play_back.new.file turned.2.script frames own c.play_back.ensures.file.format (subst (λ n. c.play_back.new.file.written ≤ n) more (let same = written in omega (arith, same)));
 }
   where
-    may : MayCycle (driver_of (with_playback c.self.inside.works c.self.inside.playback)) c.args.freewheel
-    may = subst (λ gear. MayCycle (driver_of gear) c.args.freewheel) (sym c.self.view_is) c.requires
+    may : MayCycle (driver_of g.G.Guest.sound (with_playback c.self.inside.works c.self.inside.playback)) c.args.freewheel
+    may = subst (λ gear. MayCycle (driver_of g.G.Guest.sound gear) c.args.freewheel) (sym c.self.view_is) c.requires
 
-    turned : (plan : Planned) × (moment : Moment) × Turns c.args.freewheel c.self.inside.works plan moment c.turn.new.self
-    turned = ok-held c.turn.result ((plan : Planned) × (moment : Moment) × Turns c.args.freewheel c.self.inside.works plan moment c.turn.new.self) c.if-is_err.ensures.value c.turn.ensures.turned
+    turned : (plan : Planned) × (moment : Moment) × Turns g.G.Guest.sound c.args.freewheel c.self.inside.works plan moment c.turn.new.self
+    turned = ok-held c.turn.result ((plan : Planned) × (moment : Moment) × Turns g.G.Guest.sound c.args.freewheel c.self.inside.works plan moment c.turn.new.self) c.if-is_err.ensures.value c.turn.ensures.turned
 
-    is : IsGear (with_playback c.self.inside.works c.self.inside.playback)
-    is = IsGear-playback c.self.inside.works c.self.inside.playback c.turn.ensures.stands.0
+    is : IsGear g.G.Guest.sound (with_playback c.self.inside.works c.self.inside.playback)
+    is = IsGear-playback g.G.Guest.sound c.self.inside.works c.self.inside.playback c.turn.ensures.stands.0
 
-    turns : Turns c.args.freewheel (with_playback c.self.inside.works c.self.inside.playback) turned.0 turned.1 (with_playback c.turn.new.self (Some c.play_back.new.file))
-    turns = Turns-playback c.args.freewheel c.self.inside.works turned.0 turned.1 c.turn.new.self turned.2 c.self.inside.playback (Some c.play_back.new.file) c.turn.new.self.failed
+    turns : Turns g.G.Guest.sound c.args.freewheel (with_playback c.self.inside.works c.self.inside.playback) turned.0 turned.1 (with_playback c.turn.new.self (Some c.play_back.new.file))
+    turns = Turns-playback g.G.Guest.sound c.args.freewheel c.self.inside.works turned.0 turned.1 c.turn.new.self turned.2 c.self.inside.playback (Some c.play_back.new.file) c.turn.new.self.failed
 
-    frames : frames_run (driver_of (with_playback c.turn.new.self (Some c.play_back.new.file))) ≡ frames_run (driver_of (with_playback c.self.inside.works c.self.inside.playback)) + c.self.inside.works.set
-    frames = frames-is c.args.freewheel (with_playback c.self.inside.works c.self.inside.playback) (with_playback c.turn.new.self (Some c.play_back.new.file)) turned.0 turned.1 is may turns
+    frames : frames_run (driver_of g.G.Guest.sound (with_playback c.turn.new.self (Some c.play_back.new.file))) ≡ frames_run (driver_of g.G.Guest.sound (with_playback c.self.inside.works c.self.inside.playback)) + c.self.inside.works.set
+    frames = frames-is g.G.Guest.sound c.args.freewheel (with_playback c.self.inside.works c.self.inside.playback) (with_playback c.turn.new.self (Some c.play_back.new.file)) turned.0 turned.1 is may turns
 
     was : c.self.inside.playback ≡ Some c.in-Some.file
     was = c.in-Some.is
 
-    own : IsOwnFile (with_playback c.self.inside.works c.self.inside.playback) c.in-Some.file
-    own = subst (λ o. IfSome o (IsOwnFile (with_playback c.self.inside.works c.self.inside.playback))) was (c.self.invariant.file may.sound)
+    own : IsOwnFile g.G.Guest.sound (with_playback c.self.inside.works c.self.inside.playback) c.in-Some.file
+    own = subst (λ o. IfSome o (IsOwnFile g.G.Guest.sound (with_playback c.self.inside.works c.self.inside.playback))) was (c.self.invariant.file may.sound)
 
     written : c.play_back.new.file.written ≡ c.in-Some.file.written + c.turn.new.self.set * c.self.inside.mix.channels * width c.in-Some.file.format.bits
     written = ok-held c.play_back.result (c.play_back.new.file.written ≡ c.in-Some.file.written + c.turn.new.self.set * c.self.inside.mix.channels * width c.in-Some.file.format.bits) c.if-is_err-2.ensures.value c.play_back.ensures.written
@@ -234,31 +234,31 @@ invariant_of-self-else-is_err-2 g c = record {
 
 pub returns-clause-ok : goal.returns-clause-ok
 returns-clause-ok g c =
-    subst (λ gear. CyclesOnce (driver_of gear) (driver_of (with_playback c.turn.new.self (Some c.play_back.new.file)))) c.self.view_is
-    (c.steps_that_play_are_a_cycle.ensures.ok (driver_of (with_playback c.self.inside.works c.self.inside.playback)) (driver_of (with_playback c.turn.new.self (Some c.play_back.new.file))) steps
-    (writes-file (with_playback c.self.inside.works c.self.inside.playback) (with_playback c.turn.new.self (Some c.play_back.new.file)) c.args.freewheel may (c.turn.ensures.sound ∙ sym c.if-is_err.ensures.value ∙ sym may.sound) c.if-freewheel.false c.in-Some.file c.play_back.new.file was refl c.play_back.ensures.file (c.play_back.ensures.stopped ∙ sym c.if-is_err-2.ensures.value))
+    subst (λ gear. CyclesOnce (driver_of g.G.Guest.sound gear) (driver_of g.G.Guest.sound (with_playback c.turn.new.self (Some c.play_back.new.file)))) c.self.view_is
+    (c.steps_that_play_are_a_cycle.ensures.ok (driver_of g.G.Guest.sound (with_playback c.self.inside.works c.self.inside.playback)) (driver_of g.G.Guest.sound (with_playback c.turn.new.self (Some c.play_back.new.file))) steps
+    (writes-file g.G.Guest.sound (with_playback c.self.inside.works c.self.inside.playback) (with_playback c.turn.new.self (Some c.play_back.new.file)) c.args.freewheel may (c.turn.ensures.sound ∙ sym c.if-is_err.ensures.value ∙ sym may.sound) c.if-freewheel.false c.in-Some.file c.play_back.new.file was refl c.play_back.ensures.file (c.play_back.ensures.stopped ∙ sym c.if-is_err-2.ensures.value))
     (λ left course fits keeps told. (plays left course fits keeps told, λ run samples has. subst (λ xs. HasSamples c.play_back.new.file (samples ++ xs)) (mixes left told) (more samples (subst (λ o. HasTape o samples) was has)))))
   where
-    may : MayCycle (driver_of (with_playback c.self.inside.works c.self.inside.playback)) c.args.freewheel
-    may = subst (λ gear. MayCycle (driver_of gear) c.args.freewheel) (sym c.self.view_is) c.requires
+    may : MayCycle (driver_of g.G.Guest.sound (with_playback c.self.inside.works c.self.inside.playback)) c.args.freewheel
+    may = subst (λ gear. MayCycle (driver_of g.G.Guest.sound gear) c.args.freewheel) (sym c.self.view_is) c.requires
 
-    turned : (plan : Planned) × (moment : Moment) × Turns c.args.freewheel c.self.inside.works plan moment c.turn.new.self
-    turned = ok-held c.turn.result ((plan : Planned) × (moment : Moment) × Turns c.args.freewheel c.self.inside.works plan moment c.turn.new.self) c.if-is_err.ensures.value c.turn.ensures.turned
+    turned : (plan : Planned) × (moment : Moment) × Turns g.G.Guest.sound c.args.freewheel c.self.inside.works plan moment c.turn.new.self
+    turned = ok-held c.turn.result ((plan : Planned) × (moment : Moment) × Turns g.G.Guest.sound c.args.freewheel c.self.inside.works plan moment c.turn.new.self) c.if-is_err.ensures.value c.turn.ensures.turned
 
-    is : IsGear (with_playback c.self.inside.works c.self.inside.playback)
-    is = IsGear-playback c.self.inside.works c.self.inside.playback c.turn.ensures.stands.0
+    is : IsGear g.G.Guest.sound (with_playback c.self.inside.works c.self.inside.playback)
+    is = IsGear-playback g.G.Guest.sound c.self.inside.works c.self.inside.playback c.turn.ensures.stands.0
 
-    turns : Turns c.args.freewheel (with_playback c.self.inside.works c.self.inside.playback) turned.0 turned.1 (with_playback c.turn.new.self (Some c.play_back.new.file))
-    turns = Turns-playback c.args.freewheel c.self.inside.works turned.0 turned.1 c.turn.new.self turned.2 c.self.inside.playback (Some c.play_back.new.file) c.turn.new.self.failed
+    turns : Turns g.G.Guest.sound c.args.freewheel (with_playback c.self.inside.works c.self.inside.playback) turned.0 turned.1 (with_playback c.turn.new.self (Some c.play_back.new.file))
+    turns = Turns-playback g.G.Guest.sound c.args.freewheel c.self.inside.works turned.0 turned.1 c.turn.new.self turned.2 c.self.inside.playback (Some c.play_back.new.file) c.turn.new.self.failed
 
-    steps : StepsOnce (driver_of (with_playback c.self.inside.works c.self.inside.playback)) (driver_of (with_playback c.turn.new.self (Some c.play_back.new.file)))
-    steps = c.a_cycle_is_a_step.ensures c.args.freewheel (with_playback c.self.inside.works c.self.inside.playback) (with_playback c.turn.new.self (Some c.play_back.new.file)) turned.0 turned.1 is may turns
+    steps : StepsOnce (driver_of g.G.Guest.sound (with_playback c.self.inside.works c.self.inside.playback)) (driver_of g.G.Guest.sound (with_playback c.turn.new.self (Some c.play_back.new.file)))
+    steps = c.a_cycle_is_a_step.ensures g.G.Guest.sound c.args.freewheel (with_playback c.self.inside.works c.self.inside.playback) (with_playback c.turn.new.self (Some c.play_back.new.file)) turned.0 turned.1 is may turns
 
-    plays : (left : List ℤ) (course : Course) → Fits (driver_of (with_playback c.turn.new.self (Some c.play_back.new.file))) course → Keeps (driver_of (with_playback c.self.inside.works c.self.inside.playback)) course → (driver_of (with_playback c.self.inside.works c.self.inside.playback)).left ≡ Some left → PlaysOwn (driver_of (with_playback c.self.inside.works c.self.inside.playback)) (driver_of (with_playback c.turn.new.self (Some c.play_back.new.file))) left
-    plays = c.a_cycle_plays_its_own.ensures c.args.freewheel (with_playback c.self.inside.works c.self.inside.playback) (with_playback c.turn.new.self (Some c.play_back.new.file)) turned.0 turned.1 is may turns
+    plays : (left : List ℤ) (course : Course) → Fits (driver_of g.G.Guest.sound (with_playback c.turn.new.self (Some c.play_back.new.file))) course → Keeps (driver_of g.G.Guest.sound (with_playback c.self.inside.works c.self.inside.playback)) course → (driver_of g.G.Guest.sound (with_playback c.self.inside.works c.self.inside.playback)).left ≡ Some left → PlaysOwn (driver_of g.G.Guest.sound (with_playback c.self.inside.works c.self.inside.playback)) (driver_of g.G.Guest.sound (with_playback c.turn.new.self (Some c.play_back.new.file))) left
+    plays = c.a_cycle_plays_its_own.ensures g.G.Guest.sound c.args.freewheel (with_playback c.self.inside.works c.self.inside.playback) (with_playback c.turn.new.self (Some c.play_back.new.file)) turned.0 turned.1 is may turns
 
-    mixes : (left : List ℤ) → (driver_of (with_playback c.self.inside.works c.self.inside.playback)).left ≡ Some left → mixed c.turn.new.self c.self.inside.mix.channels ≡ played_now (driver_of (with_playback c.self.inside.works c.self.inside.playback)) (driver_of (with_playback c.turn.new.self (Some c.play_back.new.file))) left
-    mixes left told = ap (mixed c.turn.new.self) c.self.invariant.channels ∙ mixed-turned c.args.freewheel c.self.inside.works turned.0 turned.1 c.turn.new.self turned.2 ∙ c.a_mix_is_played.ensures c.args.freewheel (with_playback c.self.inside.works c.self.inside.playback) (with_playback c.turn.new.self (Some c.play_back.new.file)) turned.0 turned.1 is may turns left told
+    mixes : (left : List ℤ) → (driver_of g.G.Guest.sound (with_playback c.self.inside.works c.self.inside.playback)).left ≡ Some left → mixed c.turn.new.self c.self.inside.mix.channels ≡ played_now (driver_of g.G.Guest.sound (with_playback c.self.inside.works c.self.inside.playback)) (driver_of g.G.Guest.sound (with_playback c.turn.new.self (Some c.play_back.new.file))) left
+    mixes left told = ap (mixed c.turn.new.self) c.self.invariant.channels ∙ mixed-turned g.G.Guest.sound c.args.freewheel c.self.inside.works turned.0 turned.1 c.turn.new.self turned.2 ∙ c.a_mix_is_played.ensures g.G.Guest.sound c.args.freewheel (with_playback c.self.inside.works c.self.inside.playback) (with_playback c.turn.new.self (Some c.play_back.new.file)) turned.0 turned.1 is may turns left told
 
     was : c.self.inside.playback ≡ Some c.in-Some.file
     was = c.in-Some.is

@@ -17,7 +17,7 @@ over-requires-clause-guests g c =
 
 pub returns-in-Ok-clause-new : goal.returns-in-Ok-clause-new
 returns-in-Ok-clause-new g c =
-    subst (λ scores. IfOk c.over.result (λ (gear : Gear). IsNew c.args.script.now scores (driver_of gear))) (made-scores c.args.script.now (map g.G.Guest.score c.args.guests.items) c.in-Ok.made c.in-Ok.ensures) c.over.ensures.new
+    subst (λ scores. IfOk c.over.result (λ (gear : Gear). IsNew c.args.script.now (map g.G.Guest.sound scores) (driver_of g.G.Guest.sound gear))) (made-scores c.args.script.now (map g.G.Guest.score c.args.guests.items) c.in-Ok.made c.in-Ok.ensures) c.over.ensures.new
 
 pub returns-in-Ok-clause-rings : goal.returns-in-Ok-clause-rings
 returns-in-Ok-clause-rings g c = made-rings c.args.script.now (map g.G.Guest.score c.args.guests.items) c.in-Ok.made c.in-Ok.ensures c.over.result c.over.ensures.rings

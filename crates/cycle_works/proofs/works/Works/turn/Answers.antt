@@ -18,8 +18,8 @@ use Rattle.cycle_works.proofs.works.Works.turn.Goals as goal
 pub turn-turned-requires-clause-may : goal.turn-turned-requires-clause-may
 turn-turned-requires-clause-may g c κs within = asked
   where
-    may : MayCycle (driver_of (with_playback (seen_of {S = g.row.S.Denot} {G = g.row.G.Denot} c.self.inside) c.requires.may.0)) c.args.freewheel
-    may = subst (λ gear. MayCycle (driver_of (with_playback gear c.requires.may.0)) c.args.freewheel) (sym c.self.view_is) c.requires.may.1
+    may : MayCycle (driver_of g.G.Guest.sound (with_playback (seen_of {S = g.row.S.Denot} {G = g.row.G.Denot} c.self.inside) c.requires.may.0)) c.args.freewheel
+    may = subst (λ gear. MayCycle (driver_of g.G.Guest.sound (with_playback gear c.requires.may.0)) c.args.freewheel) (sym c.self.view_is) c.requires.may.1
 
     left : length c.self.inside.parts.numbers.items < length (turns (script_in c.self.inside.script.items))
     left = may.left
@@ -33,9 +33,9 @@ turn-turned-requires-clause-may g c κs within = asked
         let same : length c.self.inside.parts.moments.items ≡ length c.self.inside.parts.numbers.items = (c.self.invariant.gear.in_step may.sound).moments in
         omega (arith, left, room, same)
 
-    asked : (script : Script) × (playback : Option Tape) × (failed : Bool) × IsGear (gear_of {S = g.row.S.Denot} {G = g.row.G.Denot} script playback failed c.self.inside.parts) × MayCycle (driver_of (gear_of {S = g.row.S.Denot} {G = g.row.G.Denot} script playback failed c.self.inside.parts)) c.args.freewheel
+    asked : (script : Script) × (playback : Option Tape) × (failed : Bool) × IsGear g.G.Guest.sound (gear_of {S = g.row.S.Denot} {G = g.row.G.Denot} script playback failed c.self.inside.parts) × MayCycle (driver_of g.G.Guest.sound (gear_of {S = g.row.S.Denot} {G = g.row.G.Denot} script playback failed c.self.inside.parts)) c.args.freewheel
         × (length c.self.inside.parts.numbers.items < vec_capacity c.self.inside.parts.numbers) × (length c.self.inside.parts.moments.items < vec_capacity c.self.inside.parts.moments)
-    asked = (script_in c.self.inside.script.items, c.requires.may.0, c.self.inside.failed, IsGear-playback (seen_of {S = g.row.S.Denot} {G = g.row.G.Denot} c.self.inside) c.requires.may.0 c.self.invariant.gear, may, numbers, moments)
+    asked = (script_in c.self.inside.script.items, c.requires.may.0, c.self.inside.failed, IsGear-playback g.G.Guest.sound (seen_of {S = g.row.S.Denot} {G = g.row.G.Denot} c.self.inside) c.requires.may.0 c.self.invariant.gear, may, numbers, moments)
 
 pub invariant_of-self : goal.invariant_of-self
 invariant_of-self g c = record {
@@ -44,20 +44,20 @@ invariant_of-self g c = record {
   moments = subst (λ n. length (turns (script_in c.self.inside.script.items)) ≤ n) (sym c.turn-turned.ensures.moments) c.self.invariant.moments;
 }
   where
-    may : MayCycle (driver_of (with_playback (seen_of {S = g.row.S.Denot} {G = g.row.G.Denot} c.self.inside) c.requires.may.0)) c.args.freewheel
-    may = subst (λ gear. MayCycle (driver_of (with_playback gear c.requires.may.0)) c.args.freewheel) (sym c.self.view_is) c.requires.may.1
+    may : MayCycle (driver_of g.G.Guest.sound (with_playback (seen_of {S = g.row.S.Denot} {G = g.row.G.Denot} c.self.inside) c.requires.may.0)) c.args.freewheel
+    may = subst (λ gear. MayCycle (driver_of g.G.Guest.sound (with_playback gear c.requires.may.0)) c.args.freewheel) (sym c.self.view_is) c.requires.may.1
 
-    behind : IsGear (gear_of {S = g.row.S.Denot} {G = g.row.G.Denot} (script_in c.self.inside.script.items) None c.is_err-self-inside.result c.turn-turned.new.parts)
-    behind = on-both c.turn-turned.result (λ failed. IsGear (gear_of {S = g.row.S.Denot} {G = g.row.G.Denot} (script_in c.self.inside.script.items) None failed c.turn-turned.new.parts)) c.is_err-self-inside.result c.is_err-self-inside.ensures.value
-        (on-ok c.turn-turned.result ((plan : Planned) × (moment : Moment) × Turns c.args.freewheel (with_playback (seen_of {S = g.row.S.Denot} {G = g.row.G.Denot} c.self.inside) c.requires.may.0) plan moment (gear_of {S = g.row.S.Denot} {G = g.row.G.Denot} (script_in c.self.inside.script.items) None false c.turn-turned.new.parts)) (IsGear (gear_of {S = g.row.S.Denot} {G = g.row.G.Denot} (script_in c.self.inside.script.items) None false c.turn-turned.new.parts))
-        (λ turned. c.a_cycle_leaves_the_parts.ensures c.args.freewheel (with_playback (seen_of {S = g.row.S.Denot} {G = g.row.G.Denot} c.self.inside) c.requires.may.0) (gear_of {S = g.row.S.Denot} {G = g.row.G.Denot} (script_in c.self.inside.script.items) None false c.turn-turned.new.parts) turned.0 turned.1 (IsGear-playback (seen_of {S = g.row.S.Denot} {G = g.row.G.Denot} c.self.inside) c.requires.may.0 c.self.invariant.gear) may turned.2)
+    behind : IsGear g.G.Guest.sound (gear_of {S = g.row.S.Denot} {G = g.row.G.Denot} (script_in c.self.inside.script.items) None c.is_err-self-inside.result c.turn-turned.new.parts)
+    behind = on-both c.turn-turned.result (λ failed. IsGear g.G.Guest.sound (gear_of {S = g.row.S.Denot} {G = g.row.G.Denot} (script_in c.self.inside.script.items) None failed c.turn-turned.new.parts)) c.is_err-self-inside.result c.is_err-self-inside.ensures.value
+        (on-ok c.turn-turned.result ((plan : Planned) × (moment : Moment) × Turns g.G.Guest.sound c.args.freewheel (with_playback (seen_of {S = g.row.S.Denot} {G = g.row.G.Denot} c.self.inside) c.requires.may.0) plan moment (gear_of {S = g.row.S.Denot} {G = g.row.G.Denot} (script_in c.self.inside.script.items) None false c.turn-turned.new.parts)) (IsGear g.G.Guest.sound (gear_of {S = g.row.S.Denot} {G = g.row.G.Denot} (script_in c.self.inside.script.items) None false c.turn-turned.new.parts))
+        (λ turned. c.a_cycle_leaves_the_parts.ensures g.G.Guest.sound c.args.freewheel (with_playback (seen_of {S = g.row.S.Denot} {G = g.row.G.Denot} c.self.inside) c.requires.may.0) (gear_of {S = g.row.S.Denot} {G = g.row.G.Denot} (script_in c.self.inside.script.items) None false c.turn-turned.new.parts) turned.0 turned.1 (IsGear-playback g.G.Guest.sound (seen_of {S = g.row.S.Denot} {G = g.row.G.Denot} c.self.inside) c.requires.may.0 c.self.invariant.gear) may turned.2)
         (c.turn-turned.ensures.turned (script_in c.self.inside.script.items) c.requires.may.0 None c.self.inside.failed false))
-        (on-err c.turn-turned.result (FailsToRead (seen_of {S = g.row.S.Denot} {G = g.row.G.Denot} c.self.inside) (gear_of {S = g.row.S.Denot} {G = g.row.G.Denot} (script_in c.self.inside.script.items) None true c.turn-turned.new.parts)) (IsGear (gear_of {S = g.row.S.Denot} {G = g.row.G.Denot} (script_in c.self.inside.script.items) None true c.turn-turned.new.parts))
-        (λ fails. IsGear-failed (seen_of {S = g.row.S.Denot} {G = g.row.G.Denot} c.self.inside) (gear_of {S = g.row.S.Denot} {G = g.row.G.Denot} (script_in c.self.inside.script.items) None true c.turn-turned.new.parts) c.args.freewheel c.requires.may.0 c.self.invariant.gear may fails c.turn-turned.ensures.same)
+        (on-err c.turn-turned.result (FailsToRead (seen_of {S = g.row.S.Denot} {G = g.row.G.Denot} c.self.inside) (gear_of {S = g.row.S.Denot} {G = g.row.G.Denot} (script_in c.self.inside.script.items) None true c.turn-turned.new.parts)) (IsGear g.G.Guest.sound (gear_of {S = g.row.S.Denot} {G = g.row.G.Denot} (script_in c.self.inside.script.items) None true c.turn-turned.new.parts))
+        (λ fails. IsGear-failed g.G.Guest.sound (seen_of {S = g.row.S.Denot} {G = g.row.G.Denot} c.self.inside) (gear_of {S = g.row.S.Denot} {G = g.row.G.Denot} (script_in c.self.inside.script.items) None true c.turn-turned.new.parts) c.args.freewheel c.requires.may.0 c.self.invariant.gear may fails c.turn-turned.ensures.same)
         (c.turn-turned.ensures.failed (script_in c.self.inside.script.items) None c.self.inside.failed))
 
 pub returns-clause-turned : goal.returns-clause-turned
-returns-clause-turned g c = subst (λ gear. OnOk c.turn-turned.result ((plan : Planned) × (moment : Moment) × Turns c.args.freewheel gear plan moment (gear_of {S = g.row.S.Denot} {G = g.row.G.Denot} (script_in c.self.inside.script.items) None c.is_err-self-inside.result c.turn-turned.new.parts))) c.self.view_is
+returns-clause-turned g c = subst (λ gear. OnOk c.turn-turned.result ((plan : Planned) × (moment : Moment) × Turns g.G.Guest.sound c.args.freewheel gear plan moment (gear_of {S = g.row.S.Denot} {G = g.row.G.Denot} (script_in c.self.inside.script.items) None c.is_err-self-inside.result c.turn-turned.new.parts))) c.self.view_is
     (c.turn-turned.ensures.turned (script_in c.self.inside.script.items) None None c.self.inside.failed c.is_err-self-inside.result)
 
 pub returns-clause-failed : goal.returns-clause-failed
@@ -65,16 +65,16 @@ returns-clause-failed g c = subst (λ gear. OnErr c.turn-turned.result (FailsToR
     (as-err c.turn-turned.result (λ failed. FailsToRead (seen_of {S = g.row.S.Denot} {G = g.row.G.Denot} c.self.inside) (gear_of {S = g.row.S.Denot} {G = g.row.G.Denot} (script_in c.self.inside.script.items) None failed c.turn-turned.new.parts)) c.is_err-self-inside.result c.is_err-self-inside.ensures.value (c.turn-turned.ensures.failed (script_in c.self.inside.script.items) None c.self.inside.failed))
 
 pub returns-clause-stands : goal.returns-clause-stands
-returns-clause-stands g c = (subst (λ gear. IsGear gear) c.self.view_is c.self.invariant.gear, behind)
+returns-clause-stands g c = (subst (λ gear. IsGear g.G.Guest.sound gear) c.self.view_is c.self.invariant.gear, behind)
   where
-    may : MayCycle (driver_of (with_playback (seen_of {S = g.row.S.Denot} {G = g.row.G.Denot} c.self.inside) c.requires.may.0)) c.args.freewheel
-    may = subst (λ gear. MayCycle (driver_of (with_playback gear c.requires.may.0)) c.args.freewheel) (sym c.self.view_is) c.requires.may.1
+    may : MayCycle (driver_of g.G.Guest.sound (with_playback (seen_of {S = g.row.S.Denot} {G = g.row.G.Denot} c.self.inside) c.requires.may.0)) c.args.freewheel
+    may = subst (λ gear. MayCycle (driver_of g.G.Guest.sound (with_playback gear c.requires.may.0)) c.args.freewheel) (sym c.self.view_is) c.requires.may.1
 
-    behind : IsGear (gear_of {S = g.row.S.Denot} {G = g.row.G.Denot} (script_in c.self.inside.script.items) None c.is_err-self-inside.result c.turn-turned.new.parts)
-    behind = on-both c.turn-turned.result (λ failed. IsGear (gear_of {S = g.row.S.Denot} {G = g.row.G.Denot} (script_in c.self.inside.script.items) None failed c.turn-turned.new.parts)) c.is_err-self-inside.result c.is_err-self-inside.ensures.value
-        (on-ok c.turn-turned.result ((plan : Planned) × (moment : Moment) × Turns c.args.freewheel (with_playback (seen_of {S = g.row.S.Denot} {G = g.row.G.Denot} c.self.inside) c.requires.may.0) plan moment (gear_of {S = g.row.S.Denot} {G = g.row.G.Denot} (script_in c.self.inside.script.items) None false c.turn-turned.new.parts)) (IsGear (gear_of {S = g.row.S.Denot} {G = g.row.G.Denot} (script_in c.self.inside.script.items) None false c.turn-turned.new.parts))
-        (λ turned. c.a_cycle_leaves_the_parts.ensures c.args.freewheel (with_playback (seen_of {S = g.row.S.Denot} {G = g.row.G.Denot} c.self.inside) c.requires.may.0) (gear_of {S = g.row.S.Denot} {G = g.row.G.Denot} (script_in c.self.inside.script.items) None false c.turn-turned.new.parts) turned.0 turned.1 (IsGear-playback (seen_of {S = g.row.S.Denot} {G = g.row.G.Denot} c.self.inside) c.requires.may.0 c.self.invariant.gear) may turned.2)
+    behind : IsGear g.G.Guest.sound (gear_of {S = g.row.S.Denot} {G = g.row.G.Denot} (script_in c.self.inside.script.items) None c.is_err-self-inside.result c.turn-turned.new.parts)
+    behind = on-both c.turn-turned.result (λ failed. IsGear g.G.Guest.sound (gear_of {S = g.row.S.Denot} {G = g.row.G.Denot} (script_in c.self.inside.script.items) None failed c.turn-turned.new.parts)) c.is_err-self-inside.result c.is_err-self-inside.ensures.value
+        (on-ok c.turn-turned.result ((plan : Planned) × (moment : Moment) × Turns g.G.Guest.sound c.args.freewheel (with_playback (seen_of {S = g.row.S.Denot} {G = g.row.G.Denot} c.self.inside) c.requires.may.0) plan moment (gear_of {S = g.row.S.Denot} {G = g.row.G.Denot} (script_in c.self.inside.script.items) None false c.turn-turned.new.parts)) (IsGear g.G.Guest.sound (gear_of {S = g.row.S.Denot} {G = g.row.G.Denot} (script_in c.self.inside.script.items) None false c.turn-turned.new.parts))
+        (λ turned. c.a_cycle_leaves_the_parts.ensures g.G.Guest.sound c.args.freewheel (with_playback (seen_of {S = g.row.S.Denot} {G = g.row.G.Denot} c.self.inside) c.requires.may.0) (gear_of {S = g.row.S.Denot} {G = g.row.G.Denot} (script_in c.self.inside.script.items) None false c.turn-turned.new.parts) turned.0 turned.1 (IsGear-playback g.G.Guest.sound (seen_of {S = g.row.S.Denot} {G = g.row.G.Denot} c.self.inside) c.requires.may.0 c.self.invariant.gear) may turned.2)
         (c.turn-turned.ensures.turned (script_in c.self.inside.script.items) c.requires.may.0 None c.self.inside.failed false))
-        (on-err c.turn-turned.result (FailsToRead (seen_of {S = g.row.S.Denot} {G = g.row.G.Denot} c.self.inside) (gear_of {S = g.row.S.Denot} {G = g.row.G.Denot} (script_in c.self.inside.script.items) None true c.turn-turned.new.parts)) (IsGear (gear_of {S = g.row.S.Denot} {G = g.row.G.Denot} (script_in c.self.inside.script.items) None true c.turn-turned.new.parts))
-        (λ fails. IsGear-failed (seen_of {S = g.row.S.Denot} {G = g.row.G.Denot} c.self.inside) (gear_of {S = g.row.S.Denot} {G = g.row.G.Denot} (script_in c.self.inside.script.items) None true c.turn-turned.new.parts) c.args.freewheel c.requires.may.0 c.self.invariant.gear may fails c.turn-turned.ensures.same)
+        (on-err c.turn-turned.result (FailsToRead (seen_of {S = g.row.S.Denot} {G = g.row.G.Denot} c.self.inside) (gear_of {S = g.row.S.Denot} {G = g.row.G.Denot} (script_in c.self.inside.script.items) None true c.turn-turned.new.parts)) (IsGear g.G.Guest.sound (gear_of {S = g.row.S.Denot} {G = g.row.G.Denot} (script_in c.self.inside.script.items) None true c.turn-turned.new.parts))
+        (λ fails. IsGear-failed g.G.Guest.sound (seen_of {S = g.row.S.Denot} {G = g.row.G.Denot} c.self.inside) (gear_of {S = g.row.S.Denot} {G = g.row.G.Denot} (script_in c.self.inside.script.items) None true c.turn-turned.new.parts) c.args.freewheel c.requires.may.0 c.self.invariant.gear may fails c.turn-turned.ensures.same)
         (c.turn-turned.ensures.failed (script_in c.self.inside.script.items) None c.self.inside.failed))

@@ -17,7 +17,7 @@ returns-in-Ok-make_recorders-clause-new g c =
     let gear = c.in_ok-driver.driver in
     let made = c.in-Ok-make_recorders.recorders.items in
     let out = c.make_recorders.new.driver.rings.out in
-    let opened : IsOpened c.args.script.now _ desk gear made = record {
+    let opened : IsOpened g.G.Guest.sound c.args.script.now _ desk gear made = record {
       served = c.requires.served;
       desk_is = c.in-Ok.ensures.desk;
       desk_kept = c.in-Ok.ensures.kept;
@@ -30,10 +30,10 @@ returns-in-Ok-make_recorders-clause-new g c =
       bare_made = c.in-Ok-make_recorders.ensures.bare;
       over = c.in-Ok-make_recorders.ensures.pairs;
     } in
-    let own = subst (λ (s : Script). IsOpened s (map g.G.Guest.score c.args.guests.items) desk gear made) (sym c.in_ok-driver.ensures.new.script_is) opened in (
-      subst (λ (seen : Gear). IsAttaching (record { desk = desk; gear = seen; recorders = made; playback = None; attached = 0 })) (sym c.make_recorders.ensures.driver) (IsAttaching-opened _ desk gear made out own),
+    let own = subst (λ (s : Script). IsOpened g.G.Guest.sound s (map g.G.Guest.sound (map g.G.Guest.score c.args.guests.items)) desk gear made) (sym c.in_ok-driver.ensures.new.script_is) opened in (
+      subst (λ (seen : Gear). IsAttaching g.G.Guest.sound (record { desk = desk; gear = seen; recorders = made; playback = None; attached = 0 })) (sym c.make_recorders.ensures.driver) (IsAttaching-opened g.G.Guest.sound _ desk gear made out own),
       refl,
-      subst (λ (seen : Gear). stores_in (record { desk = desk; gear = seen; recorders = made; playback = None; attached = 0 }) ≡ []) (sym c.make_recorders.ensures.driver) (no-stores _ desk gear made out own),
+      subst (λ (seen : Gear). stores_in (record { desk = desk; gear = seen; recorders = made; playback = None; attached = 0 }) ≡ []) (sym c.make_recorders.ensures.driver) (no-stores g.G.Guest.sound _ desk gear made out own),
     )
 
 pub returns-in_err-driver-clause-back : goal.returns-in_err-driver-clause-back
