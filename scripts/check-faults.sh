@@ -1,0 +1,110 @@
+#!/usr/bin/env bash
+# What the system refuses in the middle of a file is told, and no file is lost by it. Over the program as it stands, strace
+# refuses one read of a file, or one write to it, as a broken disk does: each one of a play and of a check, from the first to
+# the last, each in a run of its own. Then the exit code is 3 or 6, standard output says so, standard error names the file, what
+# was given is as it was, and what was written is a front of what should have been, but for the sizes in its header.
+set -u
+# shellcheck source=scripts/program.sh
+. "$(dirname "$0")/program.sh" python3 strace
+
+checks=no
+"$jackd" --help | grep -q 'jackd check ' && checks=checks
+python3 - "$jackd" "$checks" <<'PY'
+import os, struct, subprocess, sys, tempfile
+
+jackd, checks = sys.argv[1], sys.argv[2] == 'checks'
+faults, runs = [], 0
+CYCLES, PERIOD = 4000, 16
+
+SCRIPT = '\n'.join([
+    'jackd 1', 'rate 48000', f'period {PERIOD}', 'capture 2', 'playback 2 16', 'mode serial', 'recorder 2 16',
+    'do connect system:capture_1 system:playback_1', 'do connect system:capture_2 system:playback_2',
+    'do open tape record 0', 'do register tape:l in audio', 'do register tape:r in audio', 'do activate tape',
+    'do connect system:capture_1 tape:l', 'do connect system:capture_2 tape:r', *['#' * 200] * 600, f'run {CYCLES}', ''])
+SAMPLES = [(k * 7919) % 65536 - 32768 for k in range(2 * CYCLES * PERIOD)]
+DATA = struct.pack(f'<{len(SAMPLES)}h', *SAMPLES)
+CAPTURE = b'RIFF' + struct.pack('<I', 36 + len(DATA)) + b'WAVEfmt ' + struct.pack('<IHHIIHH', 16, 1, 2, 48000, 192000, 4, 16) + b'data' + struct.pack('<I', len(DATA)) + DATA
+
+
+def held(name):
+    with open(name, 'rb') as it:
+        return it.read()
+
+
+def run(words, call='', name='', number=0):
+    """The program's exit code, standard output and standard error, where this call on this file is refused, from 1."""
+    global runs
+    runs += 1
+    traced = ['strace', '-f', '-qq', '-o', 'trace', '-P', os.path.realpath(name), '-e', f'trace={call}'] if call else []
+    refused = ['-e', f'inject={call}:error=EIO:when={number}'] if number else []
+    ran = subprocess.run([*traced, *refused, jackd, *words], capture_output=True, timeout=100)
+    return ran.returncode, ran.stdout.decode(), ran.stderr.decode()
+
+
+def calls(words, call, name):
+    """How many of these calls there are on a file."""
+    run(words, call, name)
+    return sum(f'{call}(' in line for line in held('trace').decode().splitlines())
+
+
+def front(name, wanted):
+    """Whether a file is a front of these bytes, but for the sizes in its header."""
+    there = bytearray(held(name)) if os.path.exists(name) else bytearray()
+    for place in (4, 40):
+        there[place:place + 4] = wanted[place:place + 4][:max(0, len(there) - place)]
+    return wanted.startswith(bytes(there))
+
+
+def refused(what, words, call, name, code, line, given, made):
+    for number in range(1, calls(words, call, name) + 1):
+        case = f'{what}: {call} {number} of {name} refused'
+        ended, out, told = run(words, call, name, number)
+        if ended != code:
+            faults.append(f'{case}: exit code {ended}, not {code}')
+        if line is not None and out != line:
+            faults.append(f'{case}: standard output is {out[-100:]!r}')
+        first = told.splitlines()[0] if told else ''
+        if name not in first or 'Input/output error' not in first:
+            faults.append(f'{case}: standard error begins {first!r}')
+        for file, bytes_given in given.items():
+            if held(file) != bytes_given:
+                faults.append(f'{case}: {file} was changed')
+        for file, bytes_wanted in made.items():
+            if not front(file, bytes_wanted):
+                faults.append(f'{case}: {file} is no front of what should have been written')
+
+
+with tempfile.TemporaryDirectory() as folder:
+    os.chdir(folder)
+    given = {'the.script': SCRIPT.encode(), 'the.capture': CAPTURE}
+    for name, bytes_given in given.items():
+        with open(name, 'wb') as it:
+            it.write(bytes_given)
+    play = ['play', 'the.script', 'the.capture', 'the.playback', '--record', 'the.record']
+    code, report, told = run(play)
+    if code or held('the.playback') != CAPTURE or held('the.record') != CAPTURE:
+        faults.append(f'a play: exit code {code}, or the files are not the capture: {told}')
+    else:
+        made = {'the.playback': CAPTURE, 'the.record': CAPTURE}
+        for name in given:
+            refused('play', play, 'read', name, 3, 'fault 3 read\n', given, made)
+        for name in made:
+            refused('play', play, 'write', name, 6, None, given, made)
+        if checks:
+            run(play)
+            given.update(made)
+            given['the.report'] = report.encode()
+            with open('the.report', 'w') as it:
+                it.write(report)
+            check = ['check', 'the.script', 'the.capture', 'the.report', *play[3:]]
+            if run(check)[:2] != (0, 'check ok\n'):
+                faults.append('a check of the play is not ok')
+            for name in given:
+                refused('check', check, 'read', name, 3, 'fault 3 read\n', given, {})
+
+for fault in faults[:40]:
+    print('check-faults:', fault)
+if not faults:
+    print(f'check-faults: passed, {runs} runs')
+sys.exit(bool(faults))
+PY
