@@ -1,7 +1,7 @@
 #!/usr/bin/env bash
 # docs/PROVED.md names each promise once, of a crate that is there, each edit, in bold where the gate tries it, and each check of
-# scripts/ once; docs/CRATES.md and crates.txt have each crate, once, in the same layers and order. Where python3 is missing the
-# check is passed over.
+# scripts/ once; docs/CRATES.md and crates.txt have each crate, once, in the same layers and order; docs/DECISIONS.md has the index
+# that scripts/decisions.py makes. Where python3 is missing the check is passed over.
 set -u
 cd "$(dirname "$0")/.."
 if ! command -v python3 >/dev/null; then
@@ -10,6 +10,10 @@ if ! command -v python3 >/dev/null; then
 fi
 python3 - <<'PY'
 import os, re, sys
+
+sys.dont_write_bytecode = True
+sys.path.insert(0, 'scripts')
+import decisions
 
 faults = []
 crates = set(os.listdir('crates'))
@@ -58,6 +62,10 @@ for name, words in (('docs/CRATES.md', [it for _, it in layers if it]), ('crates
         faults.append(f'{name} has {crate}, which is not there')
     for crate in sorted({it for it in words if words.count(it) > 1}):
         faults.append(f'{name} has {crate} twice')
+
+_, index, sections = decisions.split(decisions.PAGE.read_text())
+if index != decisions.index_of(sections):
+    faults.append('the index of DECISIONS.md is not of its sections: scripts/decisions.py writes it anew')
 
 for fault in faults:
     print('check-proved:', fault)
