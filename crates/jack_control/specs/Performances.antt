@@ -14,16 +14,15 @@ use Rattle.play_words.specs.Words.{Play}
 use Rattle.session_model.specs.Explanations.{Explained, Given, Printed}
 use Rattle.session_model.specs.Scripts.{Script}
 use Rattle.session_model.specs.Serial.{serial}
-use Rattle.serial_laws.specs.Faults.{playback_front, record_front}
 use Rattle.recorder_files.specs.Recorders.{Stored}
 use Rattle.session_run.specs.Faults.{SessionFault}
 use Rattle.session_run.specs.Faults.{Read, Write}
 use Rattle.play_inputs.specs.declared.status.Status.{Status}
 use Rattle.play_inputs.specs.declared.status.Status.TheVariants.{ReadFault, WriteFault}
 use Rattle.play_inputs.specs.Answers.{IfScript}
-use Rattle.jack_control.specs.Files.{AreOut}
+use Rattle.jack_control.specs.Files.{AreOut, Empties}
 use Rattle.play_inputs.specs.Inputs.{Files}
-use Rattle.jack_control.specs.Plays.{CameTo, PlaybackSoFar, RecordSoFar, TouchesOnly}
+use Rattle.jack_control.specs.Plays.{CameTo, PlaybackInSerial, PlaybackSoFar, RecordInSerial, RecordSoFar, TouchesOnly}
 
 abbrev pub status_of_session : SessionFault → Status
 status_of_session Read = ReadFault
@@ -31,8 +30,8 @@ status_of_session Write = WriteFault
 
 -- the playback is at place 0, and recorder i at place i + 1
 abbrev pub front_at : Given → ℕ → Option (List ℕ) → Type 0
-front_at given zero = playback_front given
-front_at given (suc recorder) = record_front given recorder
+front_at given zero = PlaybackInSerial given
+front_at given (suc recorder) = RecordInSerial given recorder
 
 abbrev pub front_so_far : Given → Printed → ℕ → ℕ → Option (List ℕ) → Type 0
 front_so_far given printed kept zero = PlaybackSoFar given printed kept
@@ -59,11 +58,12 @@ Explain given printed stores report =
 abbrev pub HasHistory : Option Files → Play → List Entry → Type 0
 HasHistory files play history = IfScript files play (λ (script : Script). IsNone script.header.threads → history ≡ (serial script).history)
 
--- the first so many names were made, and their stores are out; no other name is touched
+-- the first so many names were made, and their stores are out; these have no bytes yet, or still those that they had, and no other name is touched
 pub record MadeSome (old new : Option Files) (names : List (List ℕ)) (stores : List Stored) : Type 0 where
   pub made : ℕ
   pub out : AreOut new (take made names) stores
   pub touches : TouchesOnly old new (take made names)
+  pub empties : Empties old new
 
 -- nothing was put out; or this holds, the sink's count rose, and it has a front of the report
 abbrev pub CutsReport : Type 0 → Option (List ℕ) → Option (List ℕ) → ℕ → ℕ → List ℕ → Type 0

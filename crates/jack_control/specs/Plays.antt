@@ -1,5 +1,6 @@
 -- What a play leaves.
 --     IsExplained files new out out_after scores play      an ended play: what is written is explained by the one history that is printed
+--     PlaybackInSerial, RecordInSerial      fronts of what serial mode gives
 --     PlaybackSoFar, RecordSoFar      fronts of what so many cycles of a history gave
 --     IsPlayCut ..      one that failed: what its files hold
 --     IsOutCut ..      what stands on the sink where a file or the report could not be written
@@ -10,13 +11,13 @@ use Rattle.jack_host.specs.Files.{bytes_under, SameFiles}
 use Rattle.jack_host.specs.Told.{BothTold}
 use Rattle.session_model.specs.Explanations.{Explained, Given, Printed, Written, course_of, overruns_of}
 use Rattle.session_model.specs.Kinds.{Sound}
-use Rattle.session_model.specs.Playback.{playback_format}
-use Rattle.session_model.specs.Recorders.{recorder_format}
-use Rattle.session_model.specs.Serial.{serial_printed}
-use Rattle.wave_write.specs.Tapes.{HasFront}
-use Rattle.disk_recorder.specs.Recordings.{samples_of_blocks}
+use Rattle.session_model.specs.Playback.{playback_format, played_back}
+use Rattle.session_model.specs.Recorders.{recorded, recorder_format}
+use Rattle.session_model.specs.Serial.{serial_overruns, serial_printed}
+use Rattle.driver_words.specs.Tapes.{HasAnyFront}
+use Rattle.session_model.specs.Rings.{samples_of_blocks}
 use Rattle.driver_laws.specs.Keeping.{kept_blocks, played_so_far}
-use Rattle.serial_laws.specs.Faults.{playback_front, record_front}
+use Rattle.serial_laws.specs.Faults.{serial_course_of}
 use Rattle.session_run.specs.Seen.{HasCome}
 use Rattle.play_words.specs.Words.{Play}
 use Rattle.play_inputs.specs.Inputs.{Files, IsInput}
@@ -50,9 +51,10 @@ IsExplained None new out out_after scores play = ⊤
 IsExplained (Some files) None out out_after scores play = ⊥
 IsExplained (Some files) (Some new) out out_after scores play = Plays files new out out_after scores play
 
--- the name at a place of those that a play makes, where the first so many were made: it was, and has a front of its file; or it has the bytes that it had
+-- the name at a place of those that a play makes, where the first so many were made: it was made, and has a front of its file; or it has the bytes that it had, and one that was made then was there before
 abbrev pub IsMadeOrKept : (Option (List ℕ) → Type 0) → ℕ → ℕ → Files → Files → List ℕ → Type 0
-IsMadeOrKept P made place files new name = ((place < made) × (bytes : List ℕ) × (bytes_under new name ≡ Some bytes) × P (Some bytes)) ⊎ ((made ≤ place) × (bytes_under new name ≡ bytes_under files name))
+IsMadeOrKept P made place files new name =
+    ((place < made) × (bytes : List ℕ) × (bytes_under new name ≡ Some bytes) × P (Some bytes)) ⊎ ((place < made → IsSome (bytes_under files name)) × (bytes_under new name ≡ bytes_under files name))
 
 -- the first so many were made: the playback, and then the records in their order
 pub record AreMadeInOrder (played : Option (List ℕ) → Type 0) (recorded : ℕ → Option (List ℕ) → Type 0) (files new : Files) (play : Play) : Type 0 where
@@ -60,14 +62,23 @@ pub record AreMadeInOrder (played : Option (List ℕ) → Type 0) (recorded : �
   pub playback : IsMadeOrKept played made 0 files new play.playback
   pub records : (recorder : ℕ) (name : List ℕ) → slice_get play.records recorder ≡ Some name → IsMadeOrKept (recorded recorder) made (suc recorder) files new name
 
--- a store that tells holds a front of what so many cycles played, by the one computation over a history
+-- a front of the playback of serial mode
+abbrev pub PlaybackInSerial : Given → Option (List ℕ) → Type 0
+PlaybackInSerial given = HasAnyFront (playback_format (serial_course_of given)) (played_back (serial_course_of given))
+
+-- or of a recorder's file
+abbrev pub RecordInSerial : Given → ℕ → Option (List ℕ) → Type 0
+RecordInSerial given recorder =
+    HasAnyFront (recorder_format (serial_course_of given) recorder) (recorded (serial_course_of given) (serial_overruns given.script recorder) recorder)
+
+-- a front of what so many cycles played, by the one computation over a history
 abbrev pub PlaybackSoFar : Given → Printed → ℕ → Option (List ℕ) → Type 0
-PlaybackSoFar given printed kept = HasFront (playback_format (course_of given printed)) (played_so_far (course_of given printed) kept)
+PlaybackSoFar given printed kept = HasAnyFront (playback_format (course_of given printed)) (played_so_far (course_of given printed) kept)
 
 -- or of the blocks that a recorder kept of them
 abbrev pub RecordSoFar : Given → Printed → ℕ → ℕ → Option (List ℕ) → Type 0
 RecordSoFar given printed kept recorder =
-    HasFront (recorder_format (course_of given printed) recorder) (samples_of_blocks (kept_blocks (course_of given printed) (overruns_of printed recorder) recorder kept))
+    HasAnyFront (recorder_format (course_of given printed) recorder) (samples_of_blocks (kept_blocks (course_of given printed) (overruns_of printed recorder) recorder kept))
 
 -- how far a play came: calls and cycles that the script allows, and how many of the cycles were played, all but the last at least
 pub record CameTo (given : Given) (printed : Printed) (kept : ℕ) : Type 0 where
@@ -90,7 +101,7 @@ pub record Cuts (files new : Files) (scores : List Sound) (play : Play) : Type 0
   pub capture_is : bytes_under files play.capture ≡ Some capture_bytes
   pub given : Given
   pub input : IsInput script_bytes capture_bytes scores play given
-  pub serial : IsNone given.script.header.threads → AreMadeInOrder (playback_front given) (record_front given) files new play
+  pub serial : IsNone given.script.header.threads → AreMadeInOrder (PlaybackInSerial given) (RecordInSerial given) files new play
   pub so_far : IsSome given.script.header.threads → CutsSoFar given files new play
 
 -- nothing was made, or this

@@ -5,7 +5,7 @@ ghost use Rattle.std.specs.Io.{ReadsAtMost};
 ghost use Rattle.std.specs.Io.KnownBytes.{ReadConsumes};
 ghost use Rattle.jack_host.specs.Causes.{Rose, HasCause, Adds};
 ghost use Rattle.jack_host.specs.Bytes.{Writes, Puts};
-ghost use Rattle.jack_host.specs.Files.{IsThere, Gives, SameFiles, Replaces, IsNamedThere, Stands};
+ghost use Rattle.jack_host.specs.Files.{IsThere, Gives, SameFiles, Makes, IsNamedThere, Stands, StandsInPart};
 ghost use Rattle.jack_host.specs.Told.{TellsAs};
 
 /// One call on the outside failed.
@@ -86,8 +86,8 @@ pub trait Sink: Drop {
 
 /// Opens files by name, and takes them back.
 ///
-/// Each object that `open_in` or `make_out` gave out is handed back by `back` or `done`, which add its faults
-/// to the host's counts.
+/// Each object that `open_in` or `make_out` gave out is handed back by `back`, `done` or `give_up`, which add its
+/// faults to the host's counts.
 pub trait Host {
     type In: Source + Send;
 
@@ -134,7 +134,7 @@ pub trait Host {
         ensures files { SameFiles (files self.old) (files self.new) }
         ensures lent { lent self.new + 1 ≡ lent self.old };
 
-    /// Makes an empty file of this name in place of what was there.
+    /// Makes a file of this name in place of what was there. What was there may stand until the file is handed back.
     ///
     /// After `Failed` every name has the bytes that it had.
     fn make_out(&mut self, name: &str) -> Result<Self::Out, Failed>
@@ -142,20 +142,22 @@ pub trait Host {
         ensures name { IfOk result (λ output. TellsAs (files self.old) (Self.Out.name output) name.now) }
         ensures empty { IfOk result (λ output. TellsAs (files self.old) (Self.Out.content output) []) }
         ensures fresh { IfOk result (λ output. Self.Out.faults output ≡ 0) }
-        ensures made { OnOk result (Replaces (files self.old) (files self.new) name.now []) }
+        ensures made { OnOk result (Makes (files self.old) (files self.new) name.now) }
         ensures cause { HasCause (write_faults self.old) (write_faults self.new) result }
         ensures once { write_faults self.new ≤ write_faults self.old + 1 }
         ensures same { OnErr result (SameFiles (files self.old) (files self.new)) }
         ensures reads { read_faults self.new ≡ read_faults self.old }
         ensures lent { lent self.new ≡ lent self.old + (if is_ok result then 1 else 0) };
 
-    /// Takes an output back, whose bytes then stand under its name, also after `Failed`.
+    /// Takes an output back, whose bytes then stand under its name.
     ///
-    /// `Ok` comes only where no write of the output has failed.
+    /// `Ok` comes only where no write of the output has failed. After `Failed` the first of its bytes stand there, or
+    /// what stood there before.
     fn done(&mut self, output: Self::Out) -> Result<(), Failed>
         requires out { 0 < lent self.old }
         requires named { IsNamedThere (files self.old) (Self.Out.name output) }
-        ensures bytes { Stands (files self.old) (files self.new) (Self.Out.name output) (Self.Out.content output) }
+        ensures bytes { OnOk result (Stands (files self.old) (files self.new) (Self.Out.name output) (Self.Out.content output)) }
+        ensures part { OnErr result (StandsInPart (files self.old) (files self.new) (Self.Out.name output) (Self.Out.content output)) }
         ensures whole { OnOk result (Self.Out.faults output ≡ 0) }
         ensures kept { OnOk result (write_faults self.new ≡ write_faults self.old) }
 
@@ -163,6 +165,19 @@ pub trait Host {
         ensures adds { Adds (write_faults self.old) (Self.Out.faults output) (write_faults self.new) }
         ensures once { write_faults self.new ≤ write_faults self.old + Self.Out.faults output + 1 }
         ensures failed { OnErr result (Rose (write_faults self.old) (write_faults self.new)) }
+        ensures reads { read_faults self.new ≡ read_faults self.old }
+        ensures lent { lent self.new + 1 ≡ lent self.old };
+
+    /// Takes an output back that nobody wants any more: the first of its bytes stand under its name, or what stood
+    /// there before.
+    fn give_up(&mut self, output: Self::Out)
+        requires out { 0 < lent self.old }
+        requires named { IsNamedThere (files self.old) (Self.Out.name output) }
+        ensures part { StandsInPart (files self.old) (files self.new) (Self.Out.name output) (Self.Out.content output) }
+
+        // The output's faults are the host's, and a closing that fails is one more.
+        ensures adds { Adds (write_faults self.old) (Self.Out.faults output) (write_faults self.new) }
+        ensures once { write_faults self.new ≤ write_faults self.old + Self.Out.faults output + 1 }
         ensures reads { read_faults self.new ≡ read_faults self.old }
         ensures lent { lent self.new + 1 ≡ lent self.old };
 }

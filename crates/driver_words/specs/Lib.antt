@@ -1,0 +1,4 @@
+pub mod Tapes
+pub mod Rings
+pub mod Feeding
+pub mod Hearings
