@@ -19,19 +19,30 @@ _sagbufe_jackd()
         return
     fi
     # Words 2 to 4 are SCRIPT, CAPTURE and PLAYBACK, and of a check REPORT stands before PLAYBACK; then come at most four pairs
-    # of --record and PATH.
-    local first
+    # of --record and PATH. The options --strict and --no-sync of a play stand anywhere, but not for a PATH, and are not counted.
+    local first place=$COMP_CWORD strict= sync= it
     case ${COMP_WORDS[1]} in
-        play) first=5 ;;
+        play) first=5 strict=offered sync=offered ;;
         check) first=6 ;;
         *) return ;;
     esac
-    if ((COMP_CWORD >= first && (COMP_CWORD - first) % 2 == 0)); then
-        ((COMP_CWORD <= first + 6)) && mapfile -t COMPREPLY < <(compgen -W --record -- "$word")
-    elif ((COMP_CWORD <= first + 7)); then
+    for it in "${COMP_WORDS[@]:2:COMP_CWORD-2}"; do
+        case $it in
+            --strict) place=$((place - 1)) strict= ;;
+            --no-sync) place=$((place - 1)) sync= ;;
+        esac
+    done
+    if ((place >= first && (place - first) % 2 == 0)); then
+        ((place <= first + 6)) && mapfile -t COMPREPLY < <(compgen -W --record -- "$word")
+    elif [[ $word != -* ]] && ((place <= first + 7)); then
         compopt -o filenames 2>/dev/null
         mapfile -t COMPREPLY < <(compgen -f -- "$word")
+        strict= sync=
+    elif ((place > first)); then
+        strict= sync=
     fi
+    [[ $strict ]] && mapfile -t -O ${#COMPREPLY[@]} COMPREPLY < <(compgen -W --strict -- "$word")
+    [[ $sync ]] && mapfile -t -O ${#COMPREPLY[@]} COMPREPLY < <(compgen -W --no-sync -- "$word")
 }
 
 _sagbufe_name=${BASH_SOURCE[0]##*/}

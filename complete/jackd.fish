@@ -2,9 +2,9 @@
 
 set -l name (basename (status filename) .fish)
 
-# Whether a play is completed behind one of these numbers of its words.
+# Whether a play is completed behind one of these numbers of its words, without --strict and --no-sync.
 function __sagbufe_jackd_play_at
-    set -l words (commandline -opc)
+    set -l words (commandline -opc | string match -rv -- '^--(strict|no-sync)$')
     test (count $words) -ge 2; and test $words[2] = play; and contains (math (count $words) - 2) $argv
 end
 
@@ -35,6 +35,9 @@ complete -c $name -n __sagbufe_jackd_first -l version -d 'Print the version'
 # SCRIPT, CAPTURE and PLAYBACK, and then at most four pairs of --record and PATH.
 complete -c $name -n '__sagbufe_jackd_play_at 0 1 2 4 6 8 10' -F
 complete -c $name -n '__sagbufe_jackd_play_at 3 5 7 9' -l record -d 'The file of the next recorder'
+# The options of a play stand anywhere, but not for a PATH.
+complete -c $name -n '__sagbufe_jackd_play_at 0 1 2 3 5 7 9 11; and not contains -- --strict (commandline -opc)' -l strict -d 'Exit code 9 where something was lost'
+complete -c $name -n '__sagbufe_jackd_play_at 0 1 2 3 5 7 9 11; and not contains -- --no-sync (commandline -opc)' -l no-sync -d 'Do not wait until the files are on their medium'
 # SCRIPT, CAPTURE, REPORT and PLAYBACK, and then at most four pairs of --record and PATH.
 complete -c $name -n '__sagbufe_jackd_check_at 0 1 2 3 5 7 9 11' -F
 complete -c $name -n '__sagbufe_jackd_check_at 4 6 8 10' -l record -d 'The file of the next recorder'

@@ -16,7 +16,8 @@ while IFS=: read -r crate names; do
   done
 done < <(sed -e 's/#.*//' -e '/^[[:space:]]*$/d' crates.txt)
 
-# A crate that stands on others has a path to itself, and those of each crate that it names.
+# A crate that stands on others has a path to itself, and those of each crate that it names. The three crates of the session that
+# are proved beside each other have each all paths of the driver of the cycles.
 most=$(sed -e 's/#.*//' -e 's/:/ /' crates.txt | awk '
   NF { name[NR] = $1; known[$1] = 1; for (i = 2; i <= NF; i++) below[$1] = below[$1] " " $i }
   function paths(crate,  names, count, i, sum) {
@@ -27,7 +28,7 @@ most=$(sed -e 's/#.*//' -e 's/:/ /' crates.txt | awk '
     return found[crate] = sum
   }
   END { for (at in name) if (paths(name[at]) > most) most = paths(name[at]); print most }')
-if [ "$most" -gt 70000 ]; then
+if [ "$most" -gt 120000 ]; then
   echo "check-crates: $most paths lead down from a crate: pass on by \`pub use\` what it cites of far lower ones"
   status=1
 fi

@@ -1,18 +1,21 @@
 #!/usr/bin/env bash
 # What the system refuses in the middle of a file is told, and no file is lost by it. Over the program as it stands, strace
-# refuses one read of a file, or one write to it, as a broken disk does: each one of a play and of a check, from the first to
-# the last, each in a run of its own. Then the exit code is 3 or 6, standard output says so, standard error names the file, what
-# was given is as it was, and what was written is a front of what should have been, but for the sizes in its header.
+# refuses one read of a file, or one write to it, or the sync at its end, as a broken disk does: each one of a play and of a
+# check, from the first to the last, each in a run of its own. Then the exit code is 3 or 6, standard output says so, standard
+# error names the file, what was given is as it was, and what was written is a front of what should have been, but for the
+# sizes in its header. A call that a signal interrupts is made again, a file system that can't sync is no failure, and with
+# --no-sync no file is synced.
 set -u
 # shellcheck source=scripts/program.sh
 . "$(dirname "$0")/program.sh" python3 strace
 
-checks=no
+checks=no syncs=no
 "$jackd" --help | grep -q 'jackd check ' && checks=checks
-python3 - "$jackd" "$checks" <<'PY'
+"$jackd" --help | grep -q -e --no-sync && syncs=syncs
+python3 - "$jackd" "$checks" "$syncs" <<'PY'
 import os, struct, subprocess, sys, tempfile
 
-jackd, checks = sys.argv[1], sys.argv[2] == 'checks'
+jackd, checks, syncs = sys.argv[1], sys.argv[2] == 'checks', sys.argv[3] == 'syncs'
 faults, runs = [], 0
 CYCLES, PERIOD = 4000, 16
 
@@ -31,12 +34,12 @@ def held(name):
         return it.read()
 
 
-def run(words, call='', name='', number=0):
+def run(words, call='', name='', number=0, error='EIO'):
     """The program's exit code, standard output and standard error, where this call on this file is refused, from 1."""
     global runs
     runs += 1
     traced = ['strace', '-f', '-qq', '-o', 'trace', '-P', os.path.realpath(name), '-e', f'trace={call}'] if call else []
-    refused = ['-e', f'inject={call}:error=EIO:when={number}'] if number else []
+    refused = ['-e', f'inject={call}:error={error}:when={number}'] if number else []
     ran = subprocess.run([*traced, *refused, jackd, *words], capture_output=True, timeout=100)
     return ran.returncode, ran.stdout.decode(), ran.stderr.decode()
 
@@ -74,6 +77,14 @@ def refused(what, words, call, name, code, line, given, made):
                 faults.append(f'{case}: {file} is no front of what should have been written')
 
 
+def passed(what, words, call, name, error, made):
+    """A call that is refused with this error is no failure."""
+    for number in range(1, calls(words, call, name) + 1):
+        ended, _, told = run(words, call, name, number, error)
+        if ended or told or any(held(file) != wanted for file, wanted in made.items()):
+            faults.append(f'{what}: {call} {number} of {name} refused with {error}: exit code {ended}, {told!r}, or another file')
+
+
 with tempfile.TemporaryDirectory() as folder:
     os.chdir(folder)
     given = {'the.script': SCRIPT.encode(), 'the.capture': CAPTURE}
@@ -88,8 +99,16 @@ with tempfile.TemporaryDirectory() as folder:
         made = {'the.playback': CAPTURE, 'the.record': CAPTURE}
         for name in given:
             refused('play', play, 'read', name, 3, 'fault 3 read\n', given, made)
+            passed('play', play, 'read', name, 'EINTR', made)
         for name in made:
             refused('play', play, 'write', name, 6, None, given, made)
+            passed('play', play, 'write', name, 'EINTR', made)
+            if syncs:
+                if calls(play, 'fsync', name) != 1 or calls([*play, '--no-sync'], 'fsync', name):
+                    faults.append(f'{name} is not synced once, or with --no-sync')
+                refused('play', play, 'fsync', name, 6, None, given, made)
+                passed('play', play, 'fsync', name, 'EINTR', made)
+                passed('play', play, 'fsync', name, 'EINVAL', made)
         if checks:
             run(play)
             given.update(made)

@@ -94,7 +94,7 @@ C
 gcc -O1 -shared -fPIC -o "$folder/refusing.so" "$folder/refusing.c" -ldl || exit 1
 
 python3 - "$jackd" "$folder" <<'PY'
-import os, subprocess, sys
+import os, re, subprocess, sys
 jackd, folder = sys.argv[1:3]
 os.chdir(folder)
 made = ['playback', 'record']
@@ -133,12 +133,20 @@ def light(cycles):
     return threads(cycles, 64)
 
 
+def capture_of(text):
+    """A capture that is as long as the session, so that nothing is told of it."""
+    period, cycles = (int(re.search(rf'^{word} (\d+)$', text, re.M)[1]) for word in ('period', 'run'))
+    return wave((bytes(range(256)) * (period * cycles // 128 + 1))[:2 * period * cycles])
+
+
 def play(text, refused=0, unstarted=0):
     for name in made:
         if os.path.exists(name):
             os.remove(name)
     with open('script', 'w') as it:
         it.write(text)
+    with open('capture', 'wb') as it:
+        it.write(capture_of(text))
     return run(['play', 'script', 'capture', 'playback', '--record', 'record'], refused, unstarted)
 
 
@@ -215,8 +223,6 @@ def check_faults(session):
     print(f'check-memory: check of {session.__name__}: {count} allocations refused, one a check: {count - harmless} answered by 1, {harmless} made no difference')
 
 
-with open('capture', 'wb') as it:
-    it.write(wave(bytes(range(256)) * 8))
 sessions = ((serial, 0), (threads, 1), (light, 0))
 wrong = [f'{session.__name__}: {fault}' for session, workers in sessions for fault in faults(session, workers)]
 wrong += [f'check of {session.__name__}: {fault}' for session in (serial, threads) for fault in check_faults(session)]

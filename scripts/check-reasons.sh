@@ -22,7 +22,7 @@ def form(tag=1, channels=1, rate=48000, bits=16, align=None, rest=b''):
     return struct.pack('<HHIIHH', tag, channels, rate, rate * align, align, bits) + rest
 
 
-def wave(content=None, data=bytes(range(256)) * 2, before=b''):
+def wave(content=None, data=bytes(range(256)), before=b''):
     body = b'WAVE' + before + chunk(b'fmt ', form() if content is None else content) + chunk(b'data', data)
     return b'RIFF' + struct.pack('<I', len(body)) + body
 
@@ -44,7 +44,7 @@ def stopped(cycles, number):
     return [f'cycle {k} {number} stopped 0 -' for k in range(1, cycles + 1)]
 
 
-# The header is seven words long with its pad; 64 frames of 2 bytes a cycle.
+# The header is six lines long; 64 frames of 2 bytes a cycle. A capture of 128 frames is as long as two cycles.
 PLAY = ['play', 's', 'c', 'p']
 GOOD = text(JOINED, 'run 2')
 PLAYED = report(['call 0 1 ok 1'], stopped(2, 1))
@@ -62,7 +62,7 @@ def sums(where):
 
 
 # One mistake: the words, the exit code, standard output and standard error, and the files that it may make or change.
-def case(name, words, code, out, told, files=None, made=(), prepare=None, stdout=None, before=None):
+def case(name, words, code, out, told, files=None, made=(), prepare=None, stdout=None, before=None, stdin=b''):
     global tried
     tried += 1
     where = os.path.join(folder, 'case')
@@ -75,7 +75,7 @@ def case(name, words, code, out, told, files=None, made=(), prepare=None, stdout
         prepare(where)
     kept = sums(where)
     how = {'stdout': subprocess.PIPE if stdout is None else stdout}
-    ran = subprocess.run([program, *words], cwd=where, stdin=subprocess.DEVNULL, stderr=subprocess.PIPE,
+    ran = subprocess.run([program, *words], cwd=where, input=stdin, stderr=subprocess.PIPE,
         preexec_fn=before, timeout=100, **how)
     told = told if isinstance(told, bytes) else told.encode()
     if ran.returncode != code:
@@ -104,25 +104,32 @@ words_case('a misspelt option', ['--halp'], 'jackd: no option "--halp"; is "--he
 words_case('play alone', ['play'], 'jackd: play needs SCRIPT, CAPTURE and PLAYBACK; SCRIPT is missing')
 words_case('a name too few', ['play', 's', 'c'], 'jackd: play needs SCRIPT, CAPTURE and PLAYBACK; PLAYBACK is missing')
 words_case('an option without a path', [*PLAY, '--record'], 'jackd: "--record" needs a path')
-words_case('one file twice', ['play', 's', 'c', 'c'], 'jackd: words 3 and 4 name one file: c')
-words_case('one record twice', [*PLAY, '--record', 'r', '--record', 'r'], 'jackd: words 6 and 8 name one file: r')
+words_case('one file twice', ['play', 's', 'c', 'c'], 'jackd: CAPTURE and PLAYBACK name one file: c')
+words_case('one record twice', [*PLAY, '--record', 'r', '--record', 'r'], 'jackd: PATH and PATH name one file: r')
 words_case('a misspelt record', [*PLAY, '--recrod', 'r'], 'jackd: no option "--recrod"; is "--record" meant?')
-words_case('a word too many', [*PLAY, 'q'], 'jackd: word 5 is one too many: "q"')
+words_case('a word too many', [*PLAY, 'q'], 'jackd: "q" is one word too many')
 words_case('five recorders', [*PLAY, *sum((['--record', f'r{k}'] for k in range(5)), [])], 'jackd: "--record" stands more than 4 times')
-words_case('an empty name', ['play', 's', 'c', ''], 'jackd: word 4 is empty, and names no file')
-words_case('a name like an option', ['play', '-s', 'c', 'p'], 'jackd: word 2 begins with "-"; a file is named ./-s')
+words_case('a misspelt strict play', [*PLAY, '--strikt'], 'jackd: no option "--strikt"; is "--strict" meant?')
+words_case('a strict play of a word too many', ['play', '--strict', 's', 'c', 'p', 'q'], 'jackd: "q" is one word too many')
+words_case('a strict play of a name too few', ['play', '--strict', 's', 'c'],
+    'jackd: play needs SCRIPT, CAPTURE and PLAYBACK; PLAYBACK is missing')
+words_case('a path like the strict option', [*PLAY, '--record', '--strict'], 'jackd: PATH begins with "-"; a file is named ./--strict')
+words_case('a strict check', ['check', 's', 'c', 'r', 'p', '--strict'], 'jackd: no option "--strict"')
+words_case('a strict rehearsal', ['rehearse', '7', '--strict'], 'jackd: "--strict" is one word too many')
+words_case('an empty name', ['play', 's', 'c', ''], 'jackd: PLAYBACK is empty, and names no file')
+words_case('a name like an option', ['play', '-s', 'c', 'p'], 'jackd: SCRIPT begins with "-"; a file is named ./-s')
 words_case('an option first', ['play', '--record', 'r', 's', 'c', 'p'], 'jackd: "--record" comes behind SCRIPT, CAPTURE and PLAYBACK')
 words_case('a record behind a disk', [*PLAY, '--disk', 'd', '--record', 'r'], 'jackd: "--record" stands before "--disk"')
 words_case('rehearse alone', ['rehearse'], 'jackd: rehearse needs a NUMBER from 0 to 4294967295')
 words_case('a misspelt rehearsal', ['rehears', '7'], 'jackd: no command "rehears"; is "rehearse" meant?')
 for number in ('x', '-1', '', '4294967296', '00000000007'):
     words_case('no number', ['rehearse', number], f'jackd: "{number}" is no number of one to ten digits, 4294967295 at most')
-words_case('two numbers', ['rehearse', '7', '8'], 'jackd: word 3 is one too many: "8"')
+words_case('two numbers', ['rehearse', '7', '8'], 'jackd: "8" is one word too many')
 words_case('check alone', ['check'], 'jackd: check needs SCRIPT, CAPTURE, REPORT and PLAYBACK; SCRIPT is missing')
 words_case('a check of no playback', ['check', 's', 'c', 'r'], 'jackd: check needs SCRIPT, CAPTURE, REPORT and PLAYBACK; PLAYBACK is missing')
-words_case('a report that is the playback', ['check', 's', 'c', 'r', 'r'], 'jackd: words 4 and 5 name one file: r')
-words_case('a record that is the report', ['check', 's', 'c', 'r', 'p', '--record', 'r'], 'jackd: words 4 and 7 name one file: r')
-words_case('a check of a word too many', ['check', 's', 'c', 'r', 'p', 'q'], 'jackd: word 6 is one too many: "q"')
+words_case('a report that is the playback', ['check', 's', 'c', 'r', 'r'], 'jackd: REPORT and PLAYBACK name one file: r')
+words_case('a record that is the report', ['check', 's', 'c', 'r', 'p', '--record', 'r'], 'jackd: REPORT and PATH name one file: r')
+words_case('a check of a word too many', ['check', 's', 'c', 'r', 'p', 'q'], 'jackd: "q" is one word too many')
 words_case('a check of an option first', ['check', '--record', 't', 's', 'c', 'r', 'p'],
     'jackd: "--record" comes behind SCRIPT, CAPTURE, REPORT and PLAYBACK')
 words_case('a check of an option without a path', ['check', 's', 'c', 'r', 'p', '--record'], 'jackd: "--record" needs a path')
@@ -261,7 +268,10 @@ script_case('a long line of other letters', text('do open ' + '\u20ac' * 50), 7,
     'do open ' + '\u20ac' * 37 + '...')
 script_case('a very long line', text('do open ' + 'n' * 500), 7, 'Name', 'a name has 1 to 32 of A-Z a-z 0-9 . _ -',
     'do open ' + 'n' * 112 + '...')
-case('a script from a pipe', ['play', '/dev/stdin', 'c', 'p'], 5, b'fault 5 script 1 Header\n', 'jackd: /dev/stdin:1: "jackd" is expected here\n')
+case('an empty script from a pipe', ['play', '/dev/stdin', 'c', 'p'], 5, b'fault 5 script 1 Header\n',
+    'jackd: /dev/stdin:1: "jackd" is expected here\n')
+case('a script from a pipe', ['play', '/dev/stdin', 'c', 'p'], 5, b'fault 5 script 7 Unknown\n',
+    'jackd: /dev/stdin:7: no command "strat"; is "start" meant?\n    do strat\n', stdin=text('do strat', 'run 2'))
 case('lines that end by CR LF', PLAY, 0, PLAYED, '', files={'s': text(JOINED, 'run 2', end='\r\n')}, made=['p'])
 script_case('a fault behind CR LF', text('do strat', 'run 2', end='\r\n'), 7, 'Unknown', 'no command "strat"; is "start" meant?', 'do strat')
 
@@ -360,15 +370,85 @@ case('refused calls', PLAY, 0, report(calls, stopped(2, 2)),
 many = [f'do close c{k}' for k in range(1, 31)]
 case('very many refused calls', PLAY, 0, report([f'call 0 {k} refused 1 NoClient' for k in range(1, 31)], stopped(2, 0)),
     ''.join(f'jackd: s:{k + 6}: close c{k}: refused 1 NoClient (no client c{k} is open)\n' for k in range(1, 21))
-    + 'jackd: 30 of 30 calls were refused\n', files={'s': text(*many, 'run 2')}, made=['p'])
-case('one call', PLAY, 0, report(['call 0 1 refused 1 NoClient'], stopped(2, 0)),
-    'jackd: s:7: close a: refused 1 NoClient (no client a is open)\njackd: 1 of 1 call was refused\n', files={'s': text('do close a', 'run 2')},
-    made=['p'])
+    + 'jackd: and 10 more; 30 of 30 calls were refused\n', files={'s': text(*many, 'run 2')}, made=['p'])
+REFUSED = report(['call 0 1 refused 1 NoClient'], stopped(2, 0))
+for place in ('s', '/dev/stdin'):
+    case('one call', ['play', place, 'c', 'p'], 0, REFUSED,
+        f'jackd: {place}:7: close a: refused 1 NoClient (no client a is open)\njackd: 1 of 1 call was refused\n',
+        files={'s': text('do close a', 'run 2')}, made=['p'], stdin=text('do close a', 'run 2'))
 case('a refused call of a lane', PLAY, 0, report(['call 0 1 ok 1', 'call 3 1 latency 0 0', 'call 3 2 refused 18 NotConnected'], stopped(4, 1)),
     'jackd: s:10: disconnect system:capture_1  system:playback_1: refused 18 NotConnected (they are not connected)\n'
     'jackd: 1 of 3 calls was refused\n',
     files={'s': text('do open a pass', 'run 4', 'lane 3 at 1 latency capture system:capture_1',
-        'lane 3\tat 1   disconnect system:capture_1  system:playback_1')}, made=['p'])
+        'lane 3\tat 1   disconnect system:capture_1  system:playback_1'), 'c': wave(data=bytes(512))}, made=['p'])
+
+# Lost blocks: a ring of two places that nothing leaves. Cycle 3 begins at frame 128, which is 2.67 thousandths of a second.
+OPENED = ['do open tape record 0', 'do register tape:in in audio', 'do activate tape', 'do connect system:capture_1 tape:in']
+TAPED = [f'call 0 {k} ok {k}' for k in range(1, 5)]
+DRAIN = 'jackd: "drain 1" loses no block, nor does a "freewheel" segment\n'
+LOST = {'c': wave(data=bytes(512)), 's': text(*OPENED, 'run 4', header=[*HEADER, 'ring 2', 'drain 0', 'recorder 1 16'])}
+TOLD = 'jackd: t: 2 of 4 blocks were lost, the first in cycle 3 (second 0.002); the file is shifted from there on\n' + DRAIN
+OVERRUN = report(TAPED, stopped(4, 4), ['recorder 0 2 2', 'overrun 0 3 2 0', 'overrun 0 4 2 0'])
+case('lost blocks', [*PLAY, '--record', 't'], 0, OVERRUN, TOLD, files=LOST, made=['p', 't'])
+case('lost blocks of a script from a pipe', ['play', '/dev/stdin', 'c', 'p', '--record', 't'], 0, OVERRUN, TOLD,
+    files={'c': LOST['c']}, made=['p', 't'], stdin=LOST['s'])
+# A freewheel segment loses none of its 747 blocks, and the ring takes two of the next five: cycle 750 begins at frame 47936.
+later = text(*OPENED, 'freewheel 747', 'run 5', header=[*HEADER, 'ring 2', 'drain 0', 'recorder 1 16'])
+case('blocks lost behind a freewheel segment', [*PLAY, '--record', 't'], 0,
+    report(TAPED, stopped(752, 4), ['recorder 0 749 3', *(f'overrun 0 {k} 749 747' for k in (750, 751, 752))]),
+    'jackd: t: 3 of 752 blocks were lost, the first in cycle 750 (second 0.998); the file is shifted from there on\n' + DRAIN,
+    files={'c': wave(data=bytes(640)), 's': later}, made=['p', 't'])
+case('one lost block of the second recorder, and a refused call', [*PLAY, '--record', 't', '--record', 'u'], 0,
+    report([*(it for it in TAPED[:3]), 'call 0 4 refused 1 NoClient'], stopped(3, 3), ['recorder 0 0 0', 'recorder 1 2 1', 'overrun 1 3 2 0']),
+    'jackd: s:14: close t: refused 1 NoClient (no client t is open)\njackd: 1 of 4 calls was refused\n'
+    'jackd: u: 1 of 3 blocks was lost, in cycle 3 (second 0.002); the file is shifted from there on\n' + DRAIN,
+    files={'c': wave(data=bytes(384)), 's': text('do open tape record 1', *OPENED[1:3], 'do close t', 'run 3',
+        header=[*HEADER, 'ring 2', 'drain 0', 'recorder 1 8', 'recorder 1 16'])}, made=['p', 't', 'u'])
+
+# Code 9 comes of a strict play alone, and with it the same report and files.
+case('a strict play of lost blocks', ['play', '--strict', *PLAY[1:], '--record', 't'], 9, OVERRUN, TOLD, files=LOST, made=['p', 't'])
+case('a strict play of a refused call', [*PLAY, '--strict'], 9, REFUSED,
+    'jackd: s:7: close a: refused 1 NoClient (no client a is open)\njackd: 1 of 1 call was refused\n',
+    files={'s': text('do close a', 'run 2')}, made=['p'])
+case('a strict play of nothing wrong', ['play', 's', '--strict', 'c', 'p', '--strict'], 0, PLAYED, '', made=['p'])
+case('a strict play of a faulty script', [*PLAY, '--strict'], 5, b'fault 5 script 7 Unknown\n',
+    'jackd: s:7: no command "strat"; is "start" meant?\n    do strat\n', files={'s': text('do strat', 'run 2')})
+case('a strict play into no folder', ['play', '--strict', 's', 'c', 'nod/p'], 6, b'',
+    'jackd: nod/p: No such file or directory; nothing was written\n')
+
+
+# A capture that the session does not fit: GOOD captures 128 frames.
+def capture_case(name, content, told, place='c', session=GOOD, out=PLAYED):
+    case(name, ['play', 's', place, 'p'], 0, out, f'jackd: {place}: {told}\n' if told else '', files={'s': session, 'c': content}, made=['p'],
+        stdin=content)
+
+
+EIGHT = wave(data=bytes(16))
+for place in ('c', '/dev/stdin'):
+    capture_case('a short capture', EIGHT, 'has 8 of the 128 frames that the session captures, and silence follows', place)
+    capture_case('an empty capture', wave(data=b''), 'has 0 of the 128 frames that the session captures, and silence follows', place)
+    capture_case('a long capture', wave(data=bytes(512)), 'has 256 frames, and the session captures the first 128', place)
+    capture_case('a capture of one frame too many', wave(data=bytes(258)), 'has 129 frames, and the session captures the first 128', place)
+    # 40 bytes are promised, and 17 are there: eight frames and a byte.
+    capture_case('a capture that ends inside its data', wave(data=bytes(40))[:-23],
+        'ends inside its data: 17 of 40 bytes are there; it has 8 of the 128 frames that the session captures, and silence follows', place)
+    capture_case('a capture that fits', wave(before=chunk(b'LIST', bytes(301))), '', place)
+capture_case('a capture that ends inside its data, behind the session', wave(data=bytes(512))[:-100],
+    'ends inside its data: 412 of 512 bytes are there; it has 206 frames, and the session captures the first 128')
+capture_case('a capture that ends inside its data, where the session ends', wave(data=bytes(512))[:-256],
+    'ends inside its data: 256 of 512 bytes are there')
+# What writes into a pipe can't set the size.
+for size in (0x7ffff000, 0xffffffff):
+    unset = EIGHT[:40] + struct.pack('<I', size) + EIGHT[44:]
+    capture_case('a capture of no size', unset, 'has 8 of the 128 frames that the session captures, and silence follows')
+    unset = wave()[:40] + struct.pack('<I', size) + wave()[44:]
+    capture_case('a capture of no size that fits', unset, '')
+    capture_case('a longer capture of no size from a pipe', unset + bytes(100), '', '/dev/stdin')
+capture_case('a capture of a session that hears none', wave(), 'has 128 frames, and the session captures the first 0',
+    session=text(JOINED, 'freewheel 2'))
+capture_case('a capture that the script does not name', EIGHT, '', session=text('run 2'), out=report([], stopped(2, 0)))
+capture_case('a capture at two periods', EIGHT, 'has 8 of the 96 frames that the session captures, and silence follows',
+    session=text(JOINED, 'run 1', 'period 32', 'run 1', header=['jackd 2', *HEADER[1:]]))
 
 # 8: a report does not explain its files. The playback of GOOD is the capture's first 128 samples, each of two bytes.
 CHECK = ['check', 's', 'c', 'r', 'p']
@@ -424,8 +504,6 @@ wrong_case('a playback of another rate', 'playback 0 24',
 wrong_case('a playback of another session', 'playback 0 4',
     'jackd: p: byte 4, the size of the file in its header: 36 is expected, 236 stands there; it has 100 frames, where the script has 128',
     {'p': wave(data=HEARD[:200])})
-OPENED = ['do open tape record 0', 'do register tape:in in audio', 'do activate tape', 'do connect system:capture_1 tape:in']
-TAPED = [f'call 0 {k} ok {k}' for k in range(1, 5)]
 eighth = {'s': text(*OPENED, 'run 2', header=[*HEADER, 'recorder 1 8']), 'r': report(TAPED, stopped(2, 4), ['recorder 0 2 0'])}
 wrong_case('two files exchanged', 'record 0 4',
     'jackd: t: byte 4, the size of the file in its header: 164 is expected, 36 stands there; it has 16 bits a sample, where the script has 8\n'

@@ -3,9 +3,10 @@
 # the program has no `check`, scripts/verdicts.py tells its verdicts alone: that each play is explained, and what is wrong with
 # what was changed.
 #
-# First the cases of tests/verdicts, which scripts/cases.py reads: sessions from paper, each with what is wrong first in its report
-# where a line of it is another one. A play leaves the report and the files that are written there, and both verdicts, that of
-# scripts/verdicts.py and that of the program, are the written one.
+# First the cases of tests/verdicts, which scripts/cases.py reads: sessions from paper, each with what is wrong first where a line of
+# its report or a byte of its files is another one. A play leaves the report and the files that are written there, but where threads
+# choose what is lost; and both verdicts, that of scripts/verdicts.py and that of the program, are the written one. Where a case says
+# what was expected and what was seen, standard error tells that.
 #
 # Each session of examples/, each row of tests/rows that is played to its end, and two sessions of this script are played and
 # checked: `check ok`. Then reports and files of some of them are changed, some $CHANGES (2,000) in all, chosen by $SEED (0):
@@ -31,7 +32,7 @@ from concurrent.futures import ThreadPoolExecutor
 sys.dont_write_bytecode = True
 sys.path.insert(0, 'scripts')
 import explained, verdicts
-from cases import all_in
+from cases import all_in, changed_file
 from rows import read
 
 jackd, checks, wanted, chance = sys.argv[1], sys.argv[2] == 'checks', int(os.environ.get('CHANGES', 2000)), random.Random(int(os.environ.get('SEED', 0)))
@@ -75,18 +76,20 @@ def held_in(folder):
 class Session:
     """A session that was played: its script `s`, capture `c`, report `o`, playback `p` and records `r0` .."""
 
-    def __init__(self, name, script, capture, top):
+    def __init__(self, name, script, capture, top, left=None):
+        """Plays it, or takes what a play with threads may have left."""
         self.name, self.folder = name, tempfile.mkdtemp(dir=top)
         self.checker = verdicts.Checker(script.decode(), capture)
         self.outputs = ['p', *(f'r{number}' for number in range(self.checker.most['recorder']))]
-        for file, held in (('s', script), ('c', capture)):
+        for file, held in {'s': script, 'c': capture, **(left or {})}.items():
             self.write(file, held)
-        code, report, told = run(['play', 's', 'c', *self.words(self.outputs)], self.folder)
-        if code:
-            raise ValueError(f'not played: {code} {report[-200:]} {told}')
-        self.write('o', report)
+        if not left:
+            code, report, told = run(['play', 's', 'c', *self.words(self.outputs)], self.folder)
+            if code:
+                raise ValueError(f'not played: {code} {report[-200:]} {told}')
+            self.write('o', report)
         self.held = held_in(self.folder)
-        self.lines = report.decode().splitlines()
+        self.lines = self.held['o'].decode().splitlines()
 
     @staticmethod
     def words(outputs):
@@ -96,8 +99,8 @@ class Session:
         with open(f'{self.folder}/{name}', 'wb') as it:
             it.write(held)
 
-    def check(self, number, what, changed, wanted=None):
-        """Checks with some files changed. Anything but what is wanted, or else what is computed, is a fault."""
+    def check(self, number, what, changed, wanted=None, seen=None):
+        """Checks with some files changed. Anything but what is wanted, or else what is computed, is a fault, and so is a reason without what is seen."""
         files = {**self.held, **changed}
         line, code = verdicts.line_of(self.checker.verdict(files['o'], [files[name] for name in self.outputs]))
         if wanted not in (None, line):
@@ -113,6 +116,8 @@ class Session:
             os.remove(f'{self.folder}/{name_of[name]}')
         if got[:2] != (code, line.encode()) or (got[2] == '') != (code == 0):
             faults.append(f'{self.name}: {what}: {got[0]} {got[1]}, and not {code} {line!r}; standard error {got[2]!r}')
+        if seen and not got[2].split('\n', 1)[0].endswith(f': {seen}'):
+            faults.append(f'{self.name}: {what}: standard error {got[2]!r}, and not {seen!r}')
         return line.split()[2 if code else 1]
 
     def told(self):
@@ -297,15 +302,30 @@ def judge(session, changes):
 
 
 def judge_cases(folder, cases, top):
-    """Plays a session from paper, and checks its report as it is and in each case."""
-    paper = {name.split('.')[0]: read(f'{folder}/{name}') for name in os.listdir(folder) if name not in ('lines', 'changes')}
-    session = Session(os.path.basename(folder), paper['s'], paper['c'], top)
+    """Plays a session from paper, and checks its report and its files as they are and in each case."""
+    paper = {name.split('.')[0]: read(f'{folder}/{name}') for name in os.listdir(folder) if name not in ('lines', 'changes', 'files')}
     paper['o'] = cases.report.encode()
+    with_threads = b'\nmode threads' in paper['s']
+    session = Session(os.path.basename(folder), paper['s'], paper['c'], top, paper if with_threads else None)
     for name in sorted({*paper, *session.held}):
         if paper.get(name) != session.held.get(name):
             faults.append(f'{session.name}: a play leaves another file {name} than is written there')
-    judge(session, [(what, {'o': report.encode()}, f'check wrong {wrong}\n' if wrong != 'ok' else 'check ok\n') for what, report, wrong in [('as it is', cases.report, 'ok'), *cases.all]])
+    judge(session, [(what, {'o': report.encode()}, line_for(wrong), cases.told.get(what)) for what, report, wrong in [('as it is', cases.report, 'ok'), *cases.all]])
+    judge(session, [case_of_file(paper[case[1]], cases, *case) for case in cases.files])
     return session
+
+
+def line_for(wrong):
+    return 'check ok\n' if wrong == 'ok' else f'check wrong {wrong}\n'
+
+
+def case_of_file(held, cases, what, name, how, wrong):
+    """A case of a file, with what standard error has of the place where it is wrong."""
+    changed, seen = changed_file(held, how), cases.told[what]
+    if seen:
+        place = int(wrong.split()[-1])
+        seen = seen.format(place, old=held[place:place + 1].hex() and held[place], new=changed[place:place + 1].hex() and changed[place])
+    return what, {name: changed}, line_for(wrong), seen
 
 
 # What is no case, by the words at these places, and what is answered in its place.

@@ -9,7 +9,7 @@ import re, subprocess, sys
 
 told = lambda word: subprocess.run([sys.argv[1], word], stdout=subprocess.PIPE, text=True, check=True).stdout
 read = lambda name: open(name).read()
-options = lambda text: set(re.findall(r'(?<![\w-])--?[a-zA-Z][a-z]*\b', text))
+options = lambda text: set(re.findall(r'(?<![\w-])--?[a-zA-Z][a-z]*(?:-[a-z]+)*\b', text))
 faults = []
 
 
@@ -35,7 +35,7 @@ same('the man page', set(first(section['EXIT STATUS'])), codes)
 for shell in ('jackd.bash', '_jackd'):
     lists = re.findall(r'compgen -W (.*?) -- |compadd -- (.*)$', read(f'complete/{shell}'), re.M)
     same(f'complete/{shell}', set(re.findall(r'[\w-]+', ' '.join(map(' '.join, lists)))), commands | wanted)
-lines = re.findall(r'^complete .* -([als]) (\w+)', read('complete/jackd.fish'), re.M)
+lines = re.findall(r'^complete .* -([als]) ([\w-]+)', read('complete/jackd.fish'), re.M)
 same('complete/jackd.fish', {{'a': '', 'l': '--', 's': '-'}[it] + word for it, word in lines}, commands | wanted)
 
 version = told('--version').split()[-1]

@@ -10,7 +10,7 @@ use Rattle.std.proofs.lemmas.List.Sums.{length-filter}
 use Rattle.jack_types.specs.declared.commands.Call.{Call}
 use Rattle.jack_types.specs.declared.replies.Entry.{Entry}
 use Rattle.jack_types.specs.declared.replies.Reply.{Reply}
-use Rattle.session_model.specs.Checking.{entry_of, no_command}
+use Rattle.check_model.specs.Checking.{entry_of, no_command}
 use Rattle.session_model.specs.Grammar.{IsScript}
 use Rattle.session_model.specs.Histories.{LegalSoFar, accepted, calls_of, plan_of, state_after}
 use Rattle.session_model.specs.Replies.{reply}

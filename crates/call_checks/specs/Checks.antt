@@ -6,7 +6,7 @@
 use Rattle.std.specs.Prelude.{◌≡◌, ℕ, Bool, true, false, List, [], ◌∷◌, ◌++◌, Some}
 use Rattle.jack_types.specs.declared.replies.Entry.{Entry}
 use Rattle.jack_types.specs.declared.replies.Reply.{Reply}
-use Rattle.session_model.specs.Checking.{entry_of}
+use Rattle.check_model.specs.Checking.{entry_of}
 use Rattle.session_model.specs.Histories.{LegalSoFar}
 use Rattle.session_model.specs.Reports.{PrintedCall}
 use Rattle.session_model.specs.Scripts.{Script}

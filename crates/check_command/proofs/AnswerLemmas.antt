@@ -7,7 +7,7 @@ use Rattle.std.specs.Prelude.{⊤, Option}
 use Rattle.check_sights.specs.declared.sights.Sight.{Sight}
 use Rattle.jack_types.specs.declared.replies.Row.{Row}
 use Rattle.jack_host.specs.Bytes.{Gains}
-use Rattle.session_model.specs.Checking.{IsFirstWrong}
+use Rattle.check_model.specs.Checking.{IsFirstWrong}
 use Rattle.session_model.specs.Explanations.{Explained, Given, Printed, Written}
 use Rattle.session_model.specs.Grammar.{IsScript}
 use Rattle.session_model.specs.Kinds.{Sound}

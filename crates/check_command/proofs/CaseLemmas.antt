@@ -10,7 +10,7 @@ use Rattle.std.proofs.lemmas.Option.{none-some}
 use Rattle.check_sights.specs.declared.sights.Sight.{Sight}
 use Rattle.jack_types.specs.declared.replies.Row.{Row}
 use Rattle.jack_host.specs.Files.{IsThere, bytes_under}
-use Rattle.session_model.specs.Checking.{IsFirstWrong}
+use Rattle.check_model.specs.Checking.{IsFirstWrong}
 use Rattle.session_model.specs.Explanations.{Given, Written}
 use Rattle.session_model.specs.Kinds.{Sound}
 use Rattle.session_model.specs.Scripts.{Script}

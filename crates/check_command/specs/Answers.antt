@@ -8,7 +8,7 @@ use Rattle.std.specs.Prelude.{◌≡◌, ℕ, ◌⊎◌, List, take, ⊤, Option
 use Rattle.jack_types.specs.declared.replies.Row.{Row}
 use Rattle.check_sights.specs.declared.sights.Sight.{Sight}
 use Rattle.jack_host.specs.Bytes.{Gains}
-use Rattle.session_model.specs.Checking.{IsFirstWrong}
+use Rattle.check_model.specs.Checking.{IsFirstWrong}
 use Rattle.session_model.specs.Explanations.{Given, Written}
 use Rattle.session_model.specs.Kinds.{Sound}
 use Rattle.play_words.specs.Checks.{Check}

@@ -6,7 +6,7 @@ use Rattle.jack_types.specs.declared.replies.Part.{Part}
 use Rattle.jack_types.specs.declared.replies.Part.TheVariants.{Report, Call, Cycle, Meter, Midi, Recorder, Overrun, Disk, Underrun, Record, Playback}
 use Rattle.jack_types.specs.declared.replies.Row.{Row}
 use Rattle.check_sights.specs.Parts.{part_name}
-use Rattle.session_model.specs.Checking.{IsFirstWrong}
+use Rattle.check_model.specs.Checking.{IsFirstWrong}
 use Rattle.session_model.specs.Explanations.{Explained, Given, Printed, Written}
 
 abbrev pub IsExplained : Given → Written → Type 0

@@ -3,7 +3,7 @@
 --     line_of, status_of verdict      its line and its status
 --     answer_of verdict      what a check answers that has no verdict
 use Rattle.std.specs.Prelude.{ℕ, List, Result, Ok as Answered, Err}
-use Rattle.session_model.specs.Checking.{IsFirstWrong}
+use Rattle.check_model.specs.Checking.{IsFirstWrong}
 use Rattle.session_model.specs.Explanations.{Given, Written}
 use Rattle.session_check.specs.declared.verdict.CheckFault.{CheckFault}
 use Rattle.session_check.specs.declared.verdict.CheckFault.TheVariants.{Read, Memory}

@@ -5,7 +5,7 @@ ghost use Rattle.jack_host.specs.Causes.{Rose};
 ghost use Rattle.jack_host.specs.Files.{SameFiles};
 ghost use Rattle.jack_types.specs.declared.replies.Row.{Row as RowValue};
 ghost use Rattle.check_sights.specs.declared.sights.Sight.{Sight as SightValue};
-ghost use Rattle.session_model.specs.Checking.{IsFirstWrong};
+ghost use Rattle.check_model.specs.Checking.{IsFirstWrong};
 ghost use Rattle.play_inputs.specs.declared.status.Status.{Status as StatusValue};
 ghost use Rattle.play_inputs.specs.Answers.{HasLine, HasOwnFault, HasRefusal, IsDoneOrNoMemory};
 ghost use Rattle.play_inputs.specs.FaultLines.{PutsFault};

@@ -1,7 +1,7 @@
 -- A driver with a playback that tells nothing.
 use Rattle.std.proofs.Common.{◌≡◌, ◌∙◌, ℤ, false, List, Option, Some, refl, sym, subst, arith}
 use Rattle.jack_types.specs.declared.files.Format.{Format}
-use Rattle.wave_write.specs.Tapes.{SameFile, Tape}
+use Rattle.driver_words.specs.Tapes.{SameFile, Tape}
 use Rattle.driver_laws.specs.Cycling.{WritesOnce}
 use Rattle.driver_laws.specs.Drivers.{Driver, HasPlayback}
 use Rattle.driver_laws.specs.Keeping.{HasTape}

@@ -12,8 +12,8 @@ use Rattle.session_model.specs.Reports.{Report, PrintedCycle, PrintedRecorder, P
 use Rattle.session_model.specs.Samples.{below}
 use Rattle.session_model.specs.Scripts.{Script, turns, planned}
 use Rattle.session_laws.proofs.ActivationLemmas.{length-map_below}
-use Rattle.session_laws.proofs.SameReportLemmas.{turns-few}
-use Rattle.session_model.specs.Checking.{IsForm, IsRight, IsCycleLine, IsRecorderLine, IsDiskLine, IsFirstNot, AllRight, DifferAt, IsPlaceIn, IsFirstWrong, BeginsReport, SameAt, counted_number, ended_lines, parts, explained, all_overruns, all_underruns, all_turned, recorder_blocks, disk_blocks, printed_of}
+use Rattle.report_texts.proofs.SameReportLemmas.{turns-few}
+use Rattle.check_model.specs.Checking.{IsForm, IsRight, IsCycleLine, IsRecorderLine, IsDiskLine, IsFirstNot, AllRight, DifferAt, IsPlaceIn, IsFirstWrong, BeginsReport, SameAt, counted_number, ended_lines, parts, explained, all_overruns, all_underruns, all_turned, recorder_blocks, disk_blocks, printed_of}
 use Rattle.check_laws.proofs.PlaceLists.{none-some, some-same, slice-past, slice-inside, map-at}
 use Rattle.check_laws.proofs.RightLemmas.{right-explained}
 use Rattle.check_laws.proofs.ShortFits.{lines-short}

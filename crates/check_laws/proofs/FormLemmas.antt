@@ -27,20 +27,17 @@ use Rattle.session_model.specs.Scripts.{Script, Planned, turns, planned}
 use Rattle.session_model.specs.State.{opening}
 use Rattle.session_laws.proofs.ActivationLemmas.{length-map_below, length-below}
 use Rattle.session_laws.proofs.ListLemmas.{Each, Each-weaker, Each-map, Each-flat_map, Each-contains, Each-at, slice_get-map}
-use Rattle.session_laws.proofs.SameReportLemmas.{planned-few, turns-few}
+use Rattle.report_texts.proofs.SameReportLemmas.{planned-few, turns-few, IsPlanned, filter_map-shorter, filter-shorter}
 use Rattle.session_laws.proofs.SerialLossLemmas.{All-from_each}
-use Rattle.session_model.specs.Checking.{IsForm, IsReplyForm, IsCallLine, IsCycleLine, IsMeterLine, IsEventLine, IsOverrunLine, IsUnderrunLine, IsRecorderLine, IsDiskLine, opens_meter, opens_log}
+use Rattle.check_model.specs.Checking.{IsForm, IsReplyForm, IsCallLine, IsCycleLine, IsMeterLine, IsEventLine, IsOverrunLine, IsUnderrunLine, IsRecorderLine, IsDiskLine, opens_meter, opens_log}
 use Rattle.check_laws.proofs.CountFits.{count-cons, calls-few}
 use Rattle.check_laws.proofs.ExplainedRight.{legal-planned}
-use Rattle.session_laws.proofs.SameReportLemmas.{IsPlanned}
-use Rattle.session_laws.proofs.SameReportLemmas.{filter_map-shorter}
 use Rattle.check_laws.proofs.PlaceLists.{slice-at, length-map, All-from_get, All-get, map-at}
 use Rattle.check_laws.proofs.PlayedFits.{LoggedFits, last_peak-fits, last_log-fits}
 use Rattle.check_laws.proofs.RowFits.{frame-fits, moment-bbt}
 use Rattle.check_laws.proofs.SameLemmas.{Each-from_all}
 use Rattle.check_laws.proofs.ShortFits.{lines-short}
 use Rattle.check_laws.proofs.StateFits.{AreCommands, accepted-commands, Each-take, StateFits, replay-fits, opening-fits, reply-form, index-bound}
-use Rattle.session_laws.proofs.SameReportLemmas.{filter-shorter}
 
 take-shorter : {X : Type 0} (n : ℕ) (xs : List X) → length (take n xs) ≤ length xs
 take-shorter zero xs = omega arith

@@ -11,9 +11,9 @@ use Rattle.session_model.specs.Scripts.{Script, Planned, planned}
 use Rattle.session_laws.proofs.CycleLemmas.{find-passes}
 use Rattle.session_laws.proofs.ListLemmas.{Each, Each-weaker, filter-all, filter-none}
 use Rattle.session_laws.proofs.LoopLemmas.{and_parts}
-use Rattle.session_model.specs.Checking.{SameAt, entry_of, history_of, no_command}
+use Rattle.check_model.specs.Checking.{SameAt, entry_of, history_of, no_command}
 use Rattle.check_laws.proofs.PlaceLists.{none-some, some-same, slice-ext}
-use Rattle.session_laws.proofs.SameReportLemmas.{filter_map-shorter}
+use Rattle.report_texts.proofs.SameReportLemmas.{filter_map-shorter}
 
 known-back : {X Y : Type 0} (f : X → Option Y) (g : Y → X) → ((x : X) (y : Y) → f x ≡ Some y → g y ≡ x) → (xs : List X) → length (filter_map f xs) ≡ length xs → map g (filter_map f xs) ≡ xs
 known-back f g tell [] h = refl

@@ -4,7 +4,7 @@ use Rattle.std.proofs.lemmas.Bool.Decides.{nat_tests}
 use Rattle.jack_types.specs.Names.{IsClientName, is_name_byte}
 use Rattle.session_laws.proofs.ListLemmas.{Each, Each-weaker}
 use Rattle.session_laws.proofs.TextLemmas.{Lacks}
-use Rattle.session_laws.proofs.SameReportLemmas.{no-position}
+use Rattle.report_texts.proofs.SameReportLemmas.{no-position}
 
 none-fault : {A : Type 0} {a : A} → Some a ≡ None → ⊥
 none-fault q = cc

@@ -9,7 +9,7 @@ use Rattle.session_model.specs.Explanations.{Given, Written}
 use Rattle.session_model.specs.Grammar.{IsScript}
 use Rattle.session_model.specs.Reports.{Report, report_lines}
 use Rattle.session_model.specs.Scripts.{Script}
-use Rattle.session_model.specs.Checking.{IsRight, IsForm, IsFirstNot, AllRight, DifferAt, IsPlaceIn, IsWrongPart, IsWrongLine, IsFirstWrong, BeginsReport, counted_number, ended_lines}
+use Rattle.check_model.specs.Checking.{IsRight, IsForm, IsFirstNot, AllRight, DifferAt, IsPlaceIn, IsWrongPart, IsWrongLine, IsFirstWrong, BeginsReport, counted_number, ended_lines}
 use Rattle.check_laws.proofs.PlaceLists.{slice-take, some-same, take-twice}
 use Rattle.check_laws.proofs.SameLemmas.{Same, Form-same}
 use Rattle.check_laws.proofs.SameRight.{IsRight-same, IsPlace-same}

@@ -10,7 +10,7 @@ use Rattle.session_model.specs.Recorders.{Lost, IsOverrun, IsAfterSegment}
 use Rattle.session_model.specs.Reports.{Report, PrintedRecorder}
 use Rattle.session_model.specs.Scripts.{Script}
 use Rattle.session_laws.proofs.ListLemmas.{slice_get-map}
-use Rattle.session_model.specs.Checking.{IsForm, IsOverrunRight, AllRight, IsRecorderLine, IsOverrunLine, printed_of, all_overruns}
+use Rattle.check_model.specs.Checking.{IsForm, IsOverrunRight, AllRight, IsRecorderLine, IsOverrunLine, printed_of, all_overruns}
 use Rattle.check_laws.proofs.PlaceLists.{slice-inside, get-of, All-from_get, All-get, slice-map, flat-place, strictly-from, strictly-get, nondecreasing-from, nondecreasing-get, Found, flat-found}
 
 pub slice-some : {X : Type 0} (xs : List X) (i : ℕ) → i < length xs → (x : X) × (slice_get xs i ≡ Some x)

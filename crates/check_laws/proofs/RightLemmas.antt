@@ -19,7 +19,7 @@ use Rattle.session_laws.proofs.HistoryLemmas.{LegalSoFar-none}
 use Rattle.session_laws.proofs.ListLemmas.{Each, slice_get-map}
 use Rattle.session_laws.proofs.SerialDiskLemmas.{in-missed}
 use Rattle.session_laws.proofs.TextLemmas.{joined_lines}
-use Rattle.session_model.specs.Checking.{IsForm, IsRight, AllRight, IsDiskLine, IsUnderrunLine, printed_of, history_of, ended_lines, all_underruns, all_turned, recorder_blocks, disk_blocks}
+use Rattle.check_model.specs.Checking.{IsForm, IsRight, AllRight, IsDiskLine, IsUnderrunLine, printed_of, history_of, ended_lines, all_underruns, all_turned, recorder_blocks, disk_blocks}
 use Rattle.check_laws.proofs.KnownLemmas.{calls-back, same-all, Keyed, Keyed-from, keyed-part}
 use Rattle.check_laws.proofs.OverrunLemmas.{recorder-lost, slice-some, lost as overruns-lost}
 use Rattle.check_laws.proofs.PlaceLists.{none-some, some-same, slice-past, slice-inside, get-of, slice-ext, All-from_get, All-get, slice-map, length-map, flat-place, slice-below, strictly-from, nondecreasing-from}

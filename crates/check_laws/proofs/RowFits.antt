@@ -18,7 +18,7 @@ use Rattle.session_model.specs.Tempo.{bbt, ticks_at}
 use Rattle.session_model.specs.Transport.{Row, row, next_frame, asked_frame, moment, active_master}
 use Rattle.session_laws.proofs.ListLemmas.{Each, Each-append, Each-contains, Each-drop}
 use Rattle.session_laws.proofs.SerialLawfulLemmas.{AreBodies, AreBodies-rest}
-use Rattle.session_model.specs.Checking.{IsBbtForm}
+use Rattle.check_model.specs.Checking.{IsBbtForm}
 use Rattle.check_laws.proofs.StateFits.{AreCommands, MasterFits, Each-take, Each-get, replay-fits, opening-fits}
 
 -- ---- periods

@@ -24,11 +24,11 @@ use Rattle.session_model.specs.Scripts.{Script, Planned, planned}
 use Rattle.session_model.specs.Serial.{serial_printed}
 use Rattle.session_laws.proofs.CycleLemmas.{find-contains}
 use Rattle.session_laws.proofs.ExplainedLemmas.{Explained-serial}
-use Rattle.session_laws.proofs.GrammarLaws.{spelled}
+use Rattle.grammar_laws.proofs.GrammarLaws.{spelled}
 use Rattle.session_laws.proofs.ListLemmas.{Each, Each-contains}
 use Rattle.session_laws.proofs.SerialLossLemmas.{All-from_each}
 use Rattle.session_laws.proofs.TextLemmas.{IsLine, joined_lines}
-use Rattle.session_model.specs.Checking.{IsForm, IsRight, IsCallLine, IsCycleLine, IsRecorderLine, IsOverrunLine, IsCycleInTurn, AllRight, IsFirstWrong, BeginsReport, DifferAt, printed_of, history_of, ended_lines, parts, explained, recorder_blocks}
+use Rattle.check_model.specs.Checking.{IsForm, IsRight, IsCallLine, IsCycleLine, IsRecorderLine, IsOverrunLine, IsCycleInTurn, AllRight, IsFirstWrong, BeginsReport, DifferAt, printed_of, history_of, ended_lines, parts, explained, recorder_blocks}
 use Rattle.check_laws.proofs.CoverLemmas.{whole-take}
 use Rattle.check_laws.proofs.ExplainedRight.{explained-right}
 use Rattle.check_laws.proofs.FormLemmas.{explained-form}

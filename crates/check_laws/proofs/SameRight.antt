@@ -5,7 +5,7 @@ use Rattle.jack_types.specs.declared.replies.Part.{Part}
 use Rattle.jack_types.specs.declared.replies.Part.TheVariants.{Report as WrongReport, Call as WrongCall, Cycle as WrongCycle, Meter as WrongMeter, Midi as WrongMidi, Recorder as WrongRecorder, Overrun as WrongOverrun, Disk as WrongDisk, Underrun as WrongUnderrun, Record as WrongRecord, Playback as WrongPlayback}
 use Rattle.session_model.specs.Explanations.{Given, Printed, Written, course_of, record_text, playback_text}
 use Rattle.session_model.specs.Reports.{Report, PrintedRecorder, PrintedDisk, cycle_line, report_of}
-use Rattle.session_model.specs.Checking.{IsRight, IsCycleInTurn, IsOverrunRight, IsUnderrunRight, SameAt, DifferAt, IsPlaceIn, printed_of, history_of, recorder_blocks, disk_blocks}
+use Rattle.check_model.specs.Checking.{IsRight, IsCycleInTurn, IsOverrunRight, IsUnderrunRight, SameAt, DifferAt, IsPlaceIn, printed_of, history_of, recorder_blocks, disk_blocks}
 use Rattle.check_laws.proofs.PlaceLists.{slice-map}
 use Rattle.check_laws.proofs.SameLemmas.{Same}
 

@@ -1,6 +1,7 @@
 -- The bounds of every state that a script's changes lead to, and of what is answered in it.
 --     replay-fits      delays, ports and the master's tempo
---     reply-form      a reply is of the form of a report's
+--     latency-fits     a port's latency
+--     reply-form       a reply is of the form of a report's
 use Rattle.std.proofs.Common.{◌≡◌, ℕ, zero, suc, ◌+◌, ◌*◌, ◌^◌, ◌<◌, ◌≤◌, Bool, true, false, cond, not, ◌==◌, List, [], ◌∷◌, ◌++◌, length, map, take, get_or, Option, Some, None, is_none, refl, sym, subst, arith, length-append}
 use native.Mathlib.Nat.{max-le}
 use Rattle.std.specs.Str.{bytes_eq}
@@ -32,10 +33,8 @@ use Rattle.session_model.specs.State.{State, OpenClient, OpenPort, Connection, M
 use Rattle.session_laws.proofs.ActivationLemmas.{length-map_below}
 use Rattle.session_laws.proofs.CycleLemmas.{find-contains}
 use Rattle.session_laws.proofs.ListLemmas.{Each, Each-weaker, Each-map, Each-append, Each-filter_kept, Each-contains, Each-all}
-use Rattle.session_laws.proofs.SameReportLemmas.{planned-keep, planned-few}
-use Rattle.session_model.specs.Checking.{IsReplyForm}
-use Rattle.session_laws.proofs.SameReportLemmas.{IsPlanned}
-use Rattle.session_laws.proofs.SameReportLemmas.{filter-shorter}
+use Rattle.report_texts.proofs.SameReportLemmas.{planned-keep, planned-few, IsPlanned, filter-shorter}
+use Rattle.check_model.specs.Checking.{IsReplyForm}
 
 abbrev pub AreCommands : Script → List Change → Type 0
 AreCommands script changes = Each (λ (change : Change). IsCommand script.header change.command) changes
@@ -157,7 +156,8 @@ opening-fits script is = record {
 
 -- ---- latencies
 
-abbrev RangeFits : ℕ → Range → Type 0
+-- both ends of a range are at most this
+abbrev pub RangeFits : ℕ → Range → Type 0
 RangeFits most range = (range.min ≤ most) × (range.max ≤ most)
 
 joined-fits : (most : ℕ) (ranges : List Range) → Each (RangeFits most) ranges → RangeFits most (joined ranges)
@@ -230,7 +230,7 @@ module _ (n : ℕ) (state : State) (fits : StateFits n state) where
       go None e = omega arith
       go (Some found) e = Each-contains (λ (c : OpenClient). delay_of_kind c.kind ≤ 4096) state.clients found fits.clients (find-contains (λ (c : OpenClient). bytes_eq c.name client) state.clients found e)
 
-  latency-fits : (mode : Mode) (port : List ℕ) → RangeFits (4096 * n) (latency state mode port)
+  pub latency-fits : (mode : Mode) (port : List ℕ) → RangeFits (4096 * n) (latency state mode port)
   latency-fits mode port = go (port_named state port)
     where
       go : (o : Option OpenPort) → RangeFits (4096 * n) (option_map_or (range_of (wiring_of state) mode) o no_range)

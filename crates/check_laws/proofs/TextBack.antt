@@ -5,7 +5,7 @@ use Rattle.std.proofs.Common.{◌≡◌, ℕ, Bool, true, false, cond, ◌==◌,
 use Rattle.session_model.specs.Texts.{with_byte}
 use Rattle.session_laws.proofs.ListLemmas.{Each}
 use Rattle.session_laws.proofs.TextLemmas.{Lacks, IsLine, joined_lines}
-use Rattle.session_model.specs.Checking.{ended_lines}
+use Rattle.check_model.specs.Checking.{ended_lines}
 
 joined-with_byte : (b : ℕ) (lines : List (List ℕ)) → joined_lines (with_byte b lines) ≡ b ∷ joined_lines lines
 joined-with_byte b [] = refl

@@ -7,7 +7,7 @@ ghost use Rattle.session_model.specs.Explanations.{Given, Printed, Written, Expl
 ghost use Rattle.session_model.specs.Grammar.{IsScript};
 ghost use Rattle.session_model.specs.Recorders.{Lost};
 ghost use Rattle.session_model.specs.Reports.{Report, report_lines, report_of};
-ghost use Rattle.session_model.specs.Checking.{IsForm, IsOverrunRight, IsRight, AllRight, IsFirstWrong, printed_of, ended_lines};
+ghost use Rattle.check_model.specs.Checking.{IsForm, IsOverrunRight, IsRight, AllRight, IsFirstWrong, printed_of, ended_lines};
 
 /// A report of the form, with all its parts right, explains the files, by what it says itself.
 pub fn right_is_explained()

@@ -3,7 +3,7 @@
 use jack_types::Reply;
 
 /// A number of a report's line, by the word that FORMATS has for it.
-#[derive(Clone, Copy, PartialEq, Eq, Debug)]
+#[derive(Clone, Copy, PartialEq, Eq)]
 pub enum Number {
     /// The number of changes behind which a cycle stands.
     Graph,
@@ -21,7 +21,7 @@ pub enum Number {
 
 /// What was expected at the first wrong place of a report or a file, and what stands there. It is for people: no clause rests
 /// on it.
-#[derive(Clone, Copy, PartialEq, Eq, Debug)]
+#[derive(Clone, Copy, PartialEq, Eq)]
 pub enum Sight {
     /// Nothing more is known than the place.
     Nothing,

@@ -1,19 +1,11 @@
-//! Tests of a check: what a report tells, its calls, cycles and recorders, the files, and the verdict.
+//! Tests of a check: reports and files that no play has, a byte at a read, and reads that fail.
 #![tactic(auto)]
 
 #[cfg(test)]
-mod calls;
-#[cfg(test)]
-mod compared;
-#[cfg(test)]
-mod cycles;
-#[cfg(test)]
-mod overruns;
+mod files;
 #[cfg(test)]
 mod scripts;
 #[cfg(test)]
 mod sources;
 #[cfg(test)]
 mod told;
-#[cfg(test)]
-mod verdicts;

@@ -14,8 +14,8 @@ use Rattle.session_model.specs.Samples.{below}
 use Rattle.session_model.specs.Scripts.{Script}
 use Rattle.session_model.specs.State.{OpenClient}
 use Rattle.client_kinds.specs.Scores.{Score}
-use Rattle.session_laws.proofs.WaveSamples.{length-below}
-use Rattle.record_ring.specs.Rings.{Getting, Sending}
+use Rattle.wave_laws.proofs.WaveSamples.{length-below}
+use Rattle.driver_words.specs.Rings.{Getting, Sending}
 use Rattle.record_ring.specs.declared.consumer.Got.{Got}
 use Rattle.cycle_plan.specs.Plans.{Planned}
 use Rattle.driver_laws.specs.Cycling.{MayCycle, RingStays, StepsOnce}

@@ -20,9 +20,9 @@ use Rattle.session_model.specs.Recorders.{block, is_taping}
 use Rattle.session_model.specs.Scripts.{Script, turns}
 use Rattle.client_kinds.specs.Scores.{Score}
 use Rattle.graph_word.specs.Publications.{IsFront, Publishing}
-use Rattle.record_ring.specs.Rings.{Getting, Sending}
+use Rattle.driver_words.specs.Rings.{Getting, Sending}
 use Rattle.control_desk.specs.Desks.{base_of}
-use Rattle.wave_write.specs.Tapes.{Tape}
+use Rattle.driver_words.specs.Tapes.{Tape}
 use Rattle.driver_laws.specs.Drivers.{Driver, HasOwnRings, HasOwnRows, run, turn_of}
 use Rattle.cycle_works.specs.Gears.{Gear, driver_of, with_playback}
 pub use Rattle.cycle_works.specs.Gears.{IsServed}

@@ -31,7 +31,7 @@ impl Model for BenchMemory {
 
 /// A client's work in a cycle: when it plays, with how many ports and frames, and how many links go
 /// out from its node.
-#[derive(Clone, Copy, PartialEq, Eq, Debug, Drop)]
+#[derive(Clone, Copy, PartialEq, Eq, Drop)]
 pub struct Stint {
     pub moment: Moment,
     pub ports: Shape,

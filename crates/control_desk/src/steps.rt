@@ -3,7 +3,7 @@
 use jack_types::Reply;
 
 /// What a lane's step came to.
-#[derive(Clone, Copy, PartialEq, Eq, Debug)]
+#[derive(Clone, Copy, PartialEq, Eq)]
 pub enum Stepped {
     /// The lane's next call was made, with this reply.
     Did(Reply),

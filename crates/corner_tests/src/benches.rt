@@ -3,7 +3,7 @@ ghost use Rattle.client_kinds.specs.Standings.{HasGuest, IsPlayable};
 
 use client_kinds::{Bench, Guest, Health, Shape};
 use guests::HoldGuest;
-use jack_types::{Kind, Memory, Moment, Score, TransportState};
+use jack_types::{Kind, Moment, Score, TransportState};
 use std::alloc::Global;
 use std::process::Abort;
 use std::test::Fail;
@@ -84,32 +84,32 @@ fn plays(rt: &impl Abort, bench: &mut ListenerBench, input: &[i32], expected: &[
 }
 
 /// A bench for cycles of four frames.
-fn bench(alloc: Global, kind: Kind) -> Result<ListenerBench, Memory>
+fn bench(alloc: Global, kind: Kind) -> Result<ListenerBench, Fail>
     requires { IsPlayable kind }
     ensures kind { IfOk result (λ bench. bench.kind ≡ kind) }
     ensures score { IfOk result (λ bench. bench.score ≡ None) }
     ensures period { IfOk result (λ bench. bench.period ≡ 4) }
 {
-    Bench::new(alloc, kind, 4)
+    Bench::new(alloc, kind, 4).map_err(|_| Fail::from("out of memory"))
 }
 
 #[test]
 fn a_guest_is_told_the_moment_of_its_cycle(rt: HostRuntime) -> Result<(), Fail> {
     let mut bench = bench(rt.alloc(), Kind::Guest { guest: 0 })?;
     bench.lend(Listener {
-        guest: HoldGuest::new(rt.alloc(), Score::Hold)?,
+        guest: HoldGuest::new(rt.alloc(), Score::Hold).map_err(|_| "out of memory")?,
         told: None,
     });
     plays(&rt, &mut bench, &[1, 2, 3, 4], &[0, 0, 0, 0]);
     match bench.give_back() {
-        Some(listener) => assert_eq!(&rt; listener.told, Some(stopped())),
+        Some(listener) => assert!(&rt; listener.told == Some(stopped())),
         None => panic!(&rt; "the guest that was lent"),
     }
     Ok(())
 }
 
 /// A kind that is silent on its audio outputs.
-fn is_silent(rt: &impl Abort, alloc: Global, kind: Kind) -> Result<(), Memory>
+fn is_silent(rt: &impl Abort, alloc: Global, kind: Kind) -> Result<(), Fail>
     requires playable { IsPlayable kind }
     requires guest { HasGuest kind None }
 {

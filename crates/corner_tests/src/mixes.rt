@@ -12,7 +12,7 @@ fn mixes_with_one_clamp(rt: &impl Abort, alloc: Global, frames: u32) -> Result<(
     let high = vec![in alloc; 2147418112; frames as usize]?;
     let low = vec![in alloc; -2147483648; frames as usize]?;
     let mut out = vec![in alloc; 1; frames as usize]?;
-    let mut mixer = Mixer::new(alloc, frames)?;
+    let mut mixer = Mixer::new(alloc, frames).map_err(|_| "out of memory")?;
     mixer.clear(frames);
     mixer.settle(&mut out);
     assert!(rt; out.iter().all(|x| *x == 0));
@@ -36,7 +36,7 @@ fn mixes_four_at_once(rt: &impl Abort, alloc: Global, frames: u32) -> Result<(),
     let high = vec![in alloc; 2147418112; frames as usize]?;
     let low = vec![in alloc; -2147483648; frames as usize]?;
     let mut out = vec![in alloc; 1; frames as usize]?;
-    let mut mixer = Mixer::new(alloc, frames)?;
+    let mut mixer = Mixer::new(alloc, frames).map_err(|_| "out of memory")?;
     mixer.clear(frames);
     mixer.add_four(&high, &low, &high, &low);
     mixer.settle(&mut out);

@@ -5,7 +5,7 @@ use activation::Work;
 use client_benches::{ClientBench, Room};
 use client_kinds::Shape;
 use guests::HoldGuest;
-use jack_types::{Kind, Memory, Moment, TransportState};
+use jack_types::{Kind, Moment, TransportState};
 use std::alloc::Global;
 use std::process::Abort;
 use std::test::Fail;
@@ -37,17 +37,17 @@ const PORTS: Shape = Shape {
 /// A room with so many samples of this value.
 fn room_of(alloc: Global, samples: u8, value: i32) -> Result<Room, Fail> {
     let part = vec![in alloc; value; usize::from(samples)]?;
-    let mut room = Room::new(alloc)?;
+    let mut room = Room::new(alloc).map_err(|_| "out of memory")?;
     room.fill(&part);
     Ok(room)
 }
 
 /// A bench that never played.
-fn new_bench(alloc: Global) -> Result<Bench, Memory>
+fn new_bench(alloc: Global) -> Result<Bench, Fail>
     ensures standing { IfOk result (λ bench. (bench.kept.standing.kind ≡ Pass) × (bench.kept.standing.period ≡ 40)) }
     ensures lists { IfOk result (λ bench. (bench.kept.wires ≡ []) × (bench.kept.routes ≡ [])) }
 {
-    ClientBench::new(alloc, Kind::Pass, 40)
+    ClientBench::new(alloc, Kind::Pass, 40).map_err(|_| Fail::from("out of memory"))
 }
 
 /// Lets these parts, each of so many samples of one value, go into the second input.

@@ -3,10 +3,10 @@ use jack_types::{Disks, Event, Format, PortFlags, Recorders, Taps, Way};
 
 #[test]
 fn taps_are_read_at_their_edges(rt: HostRuntime) {
-    assert_eq!(rt; Taps::read(&[]), None);
-    assert_eq!(rt; Taps::read(&[1; 33]), None);
-    assert_eq!(rt; Taps::read(&[-32769]), None);
-    assert_eq!(rt; Taps::read(&[0, 32768]), None);
+    assert!(rt; Taps::read(&[]).is_none());
+    assert!(rt; Taps::read(&[1; 33]).is_none());
+    assert!(rt; Taps::read(&[-32769]).is_none());
+    assert!(rt; Taps::read(&[0, 32768]).is_none());
     assert!(rt; Taps::read(&[7; 32]).is_some());
     let Some(taps) = Taps::read(&[-32768, 32767]) else {
         assert!(rt; false);
@@ -35,5 +35,5 @@ fn what_is_held_is_told(rt: HostRuntime) {
         channels: 2,
         bits: 24,
     };
-    assert_eq!(rt; Recorders::of(&[format]).as_slice(), [format].as_slice());
+    assert!(rt; Recorders::of(&[format]).as_slice() == [format].as_slice());
 }

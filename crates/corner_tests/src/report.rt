@@ -1,6 +1,6 @@
 //! Lines of a report that no session has: with events and disks, and with the greatest numbers. Many calls go out by few puts.
 
-use jack_host::MemorySink;
+use host_memory::MemorySink;
 use jack_types::{
     Bbt, Call, ClientName, Command, Entry, Event, Logged, Moment, Range, Refusal, Reply,
     TransportState, Underrun,
@@ -63,7 +63,7 @@ fn lines_have_numbers_and_bytes_of_any_size(rt: HostRuntime) {
         entry(1, 1, Reply::Refused(Refusal::NoClient)),
         entry(2, 7, Reply::Latency(range)),
     ];
-    let client = ClientName::read("in-1.x").expect(&rt, "a name");
+    let client = ClientName::read("in-1.x").ok().expect(&rt, "a name");
     let logged = Logged {
         cycle: 3,
         event: Event::new(63, &[0x90, 0x0a, 0xff]),

@@ -21,10 +21,7 @@ fn a_locate_out_of_its_range_is_left_out_alone(rt: HostRuntime) {
     ];
     let mut transport = Transport::new(48000);
     let first = transport.step(&asked, &[], 1500, None, 64);
-    assert_eq!(rt; (first.state, first.frame), (TransportState::Starting, 0));
+    assert!(rt; (first.state, first.frame) == (TransportState::Starting, 0));
     let second = transport.step(&[], &[], 1500, None, 64);
-    assert_eq!(rt;
-        (second.state, second.frame),
-        (TransportState::Starting, 1000)
-    );
+    assert!(rt; (second.state, second.frame) == (TransportState::Starting, 1000));
 }

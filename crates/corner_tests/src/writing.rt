@@ -1,7 +1,7 @@
 ghost use Rattle.std.specs.Prelude.{◌≤◌, length};
 
-use jack_host::MemoryStore;
-use jack_types::{Format, Memory};
+use host_memory::MemoryStore;
+use jack_types::Format;
 use std::alloc::Global;
 use std::test::Fail;
 use wave_write::WaveOut;
@@ -14,11 +14,11 @@ const MONO: Format = Format {
 
 // The store of a file of these samples, and whether it was finished, where the write of this number fails,
 // counted from 1.
-fn store_of(alloc: Global, samples: &[i32], refused: u32) -> Result<(MemoryStore, bool), Memory>
+fn store_of(alloc: Global, samples: &[i32], refused: u32) -> Result<(MemoryStore, bool), Fail>
     requires { length samples.now ≤ 5000 }
 {
     let mut store = MemoryStore::new(alloc);
-    store.refuse(refused)?;
+    store.refuse(refused).map_err(|_| "out of memory")?;
     let mut out = match WaveOut::start(store, MONO) {
         Ok(out) => out,
         Err((store, _)) => return Ok((store, false)),
@@ -31,7 +31,7 @@ fn store_of(alloc: Global, samples: &[i32], refused: u32) -> Result<(MemoryStore
 }
 
 // The length of a file of one sample where this write fails, and both sizes, if they are there.
-fn after_refusal(alloc: Global, refused: u32) -> Result<(usize, Option<(u32, u32)>), Memory> {
+fn after_refusal(alloc: Global, refused: u32) -> Result<(usize, Option<(u32, u32)>), Fail> {
     let (store, _) = store_of(alloc, &[0], refused)?;
     let bytes = store.as_bytes();
     if bytes.len() < 44 {

@@ -10,7 +10,7 @@ use Rattle.std.proofs.lemmas.List.{get_or-set_other}
 use Rattle.std.proofs.lemmas.List.Elements.{All-append, All-head, All-nil, All-tail, All-weaker, filter-append}
 use Rattle.jack_types.specs.declared.replies.Overrun.{Overrun}
 use Rattle.session_model.specs.State.{OpenClient}
-use Rattle.record_ring.specs.Rings.{Sending, items_of}
+use Rattle.driver_words.specs.Rings.{Sending, items_of}
 use Rattle.bench_rack.specs.Racks.{Racked}
 use Rattle.driver_laws.specs.Cycling.{PutsOne, Idle}
 use Rattle.driver_laws.specs.Drivers.{overruns_on}

@@ -11,7 +11,7 @@ use Rattle.session_model.specs.Kinds.{input_at}
 use Rattle.session_model.specs.Recorders.{is_tape}
 use Rattle.session_model.specs.Samples.{below, interleaved}
 use Rattle.session_model.specs.State.{OpenClient}
-use Rattle.record_ring.specs.Rings.{items_of}
+use Rattle.driver_words.specs.Rings.{items_of}
 use Rattle.bench_rack.specs.Racks.{Racked, bench_at}
 use Rattle.driver_laws.specs.Cycling.{PutsOne}
 use Rattle.driver_laws.specs.Drivers.{overruns_on}

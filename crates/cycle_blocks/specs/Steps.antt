@@ -5,7 +5,7 @@
 use Rattle.std.specs.Prelude.{◌≡◌, ℕ, ◌+◌, ◌*◌, ◌^◌, ◌<◌, ◌≤◌, Bool, false, List, ◌++◌, length, All, ℤ}
 use Rattle.jack_types.specs.declared.replies.Overrun.{Overrun}
 use Rattle.session_model.specs.State.{OpenClient}
-use Rattle.record_ring.specs.Rings.{items_of}
+use Rattle.driver_words.specs.Rings.{items_of}
 use Rattle.bench_rack.specs.Racks.{Racked}
 use Rattle.driver_laws.specs.Cycling.{PutsOne}
 use Rattle.driver_laws.specs.Drivers.{overruns_on}

@@ -4,7 +4,7 @@
 --     there, goes      a ring of those that are left is there, and goes on
 --     ends-next, ends-all      one more, and all
 use Rattle.std.proofs.Common.{◌≡◌, ℕ, zero, suc, ◌+◌, ◌<◌, false, List, [], ◌∷◌, length, map, All, get_or, slice_set, refl, sym, ap, ◌∙◌, subst, arith}
-use Rattle.record_ring.specs.Rings.{Sending}
+use Rattle.driver_words.specs.Rings.{Sending}
 use Rattle.recorder_rings.specs.Sending.{no_ring, ring_at}
 use Rattle.cycle_driver.specs.Gears.{Gear}
 use Rattle.cycle_driver.specs.Runs.{with_end}

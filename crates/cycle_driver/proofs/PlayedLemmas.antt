@@ -10,8 +10,8 @@ use Rattle.session_model.specs.Scripts.{Script}
 use Rattle.session_model.specs.WaveFiles.{is_width}
 use Rattle.session_model.specs.Kinds.{Sound}
 use Rattle.client_kinds.specs.Scores.{Score}
-use Rattle.session_laws.proofs.WaveSamples.{by_width}
-use Rattle.wave_write.specs.Tapes.{SameFile, Tape}
+use Rattle.wave_laws.proofs.WaveSamples.{by_width}
+use Rattle.driver_words.specs.Tapes.{SameFile, Tape}
 use Rattle.driver_laws.specs.Cycling.{MayCycle, WritesOnce}
 use Rattle.driver_laws.specs.Drivers.{frames_run}
 use Rattle.cycle_works.specs.Gears.{Gear, driver_of}

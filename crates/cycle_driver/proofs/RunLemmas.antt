@@ -12,9 +12,9 @@ use Rattle.std.proofs.lemmas.Option.{same_Some, slice_get-get_or, slice_get_with
 use Rattle.jack_host.specs.Causes.{Rose}
 use Rattle.jack_types.specs.declared.replies.Overrun.{Overrun}
 use Rattle.session_model.specs.Scripts.{Script, turns}
-use Rattle.record_ring.specs.Rings.{Sending}
+use Rattle.driver_words.specs.Rings.{Sending}
 use Rattle.wave_pcm.specs.Readings.{Reading, SameReading}
-use Rattle.wave_write.specs.Tapes.{SameFile, Tape}
+use Rattle.driver_words.specs.Tapes.{SameFile, Tape}
 use Rattle.wave_write.proofs.TapeLemmas.{same_file-trans}
 use Rattle.cycle_driver.specs.declared.faults.CycleFault.{CycleFault as Fault}
 use Rattle.cycle_driver.specs.declared.faults.CycleFault.TheVariants.{Read, Write}

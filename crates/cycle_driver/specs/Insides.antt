@@ -6,7 +6,7 @@ use Rattle.std.specs.Prelude.{◌≡◌, ◌*◌, ◌≤◌, false, IfSome}
 use Rattle.session_model.specs.Samples.{width}
 use Rattle.session_model.specs.Kinds.{Sound}
 use Rattle.client_kinds.specs.Scores.{Score}
-use Rattle.wave_write.specs.Tapes.{Tape}
+use Rattle.driver_words.specs.Tapes.{Tape}
 use Rattle.driver_laws.specs.Drivers.{frames_run, greatest_period}
 use Rattle.cycle_works.specs.Gears.{Gear, IsServed, driver_of, with_playback}
 use Rattle.cycle_driver.specs.Openings.{playback_format}

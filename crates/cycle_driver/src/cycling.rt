@@ -19,7 +19,7 @@ impl<S: Source, W: Store, G: Guest + Send> Driver<S, W, G> {
     ghost use Rattle.std.specs.Prelude.{◌≡◌, IfOk, IsErrOf, Some};
     ghost use Rattle.jack_host.specs.Causes.{Rose};
     ghost use Rattle.wave_pcm.specs.Readings.{SameReading};
-    ghost use Rattle.wave_write.specs.Tapes.{SameFile, Tape};
+    ghost use Rattle.driver_words.specs.Tapes.{SameFile, Tape};
     ghost use Rattle.driver_laws.specs.Cycling.{CyclesOnce, FailsAtRead, FailsAtWrite, MayCycle};
     ghost use Rattle.cycle_works.specs.Gears.{driver_of};
 

@@ -21,7 +21,7 @@ impl<S: Source, W: Store, G: Guest> Driver<S, W, G> {
     ghost use Rattle.cycle_driver.specs.contracts.driver.Driver.{the_row};
     ghost use Rattle.std.specs.Option.{ForSome};
     ghost use Rattle.jack_host.specs.Causes.{Rose};
-    ghost use Rattle.wave_write.specs.Tapes.{HasSamples, IsCut, Tape};
+    ghost use Rattle.driver_words.specs.Tapes.{HasSamples, IsCut, Tape};
     ghost use Rattle.driver_laws.specs.Drivers.{peak_in};
     ghost use Rattle.cycle_works.specs.Gears.{driver_of};
     ghost use Rattle.cycle_driver.specs.Openings.{playback_format};

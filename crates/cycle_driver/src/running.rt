@@ -3,7 +3,7 @@
 ghost use Rattle.std.specs.Prelude.{◌≡◌, IsErrOf, OnOk, Some, length};
 ghost use Rattle.jack_host.specs.Causes.{Rose};
 ghost use Rattle.wave_pcm.specs.Readings.{SameReading};
-ghost use Rattle.wave_write.specs.Tapes.{Tape};
+ghost use Rattle.driver_words.specs.Tapes.{Tape};
 ghost use Rattle.cycle_driver.specs.declared.faults.CycleFault.{CycleFault as Fault};
 ghost use Rattle.cycle_driver.specs.Gears.{driver_of};
 ghost use Rattle.driver_laws.specs.Cycling.{CyclesMany, FailsAtRead};

@@ -4,7 +4,7 @@ ghost use Rattle.std.specs.Prelude.{◌≡◌, ◌*◌, ◌+◌, ◌≤◌, ◌+
 ghost use Rattle.jack_host.specs.Causes.{HasCause};
 ghost use Rattle.session_model.specs.Samples.{width};
 ghost use Rattle.cycle_works.specs.Gears.{mixed};
-ghost use Rattle.wave_write.specs.Tapes.{HasSamples, HasUnfinished, SameFile};
+ghost use Rattle.driver_words.specs.Tapes.{HasSamples, HasUnfinished, SameFile};
 
 use client_kinds::Guest;
 use cycle_works::Works;

@@ -15,7 +15,7 @@ use Rattle.session_model.specs.Rings.{RingBlock}
 use Rattle.session_model.specs.Samples.{below, interleaved}
 use Rattle.session_model.specs.Scripts.{Script}
 use Rattle.session_laws.proofs.SequentialLemmas.{length-below}
-use Rattle.record_ring.specs.Rings.{Sending, items_of}
+use Rattle.driver_words.specs.Rings.{Sending, items_of}
 use Rattle.driver_laws.specs.Cycling.{Idle, Lacked, PutsOne, Went}
 use Rattle.driver_laws.specs.Drivers.{Driver, HasOwnRings, IsOwnRing, channels_on, frames_run, greatest_period}
 use Rattle.driver_laws.proofs.PlaceLemmas.{there_too}

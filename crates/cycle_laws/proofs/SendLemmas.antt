@@ -10,7 +10,7 @@ use Rattle.std.proofs.lemmas.List.{get_or-map, length-map}
 use Rattle.std.proofs.lemmas.Option.{slice_get-get_or}
 use Rattle.jack_types.specs.Recorders.{no_format}
 use Rattle.jack_types.specs.declared.files.Format.{Format}
-use Rattle.record_ring.specs.Rings.{Sending, items_of}
+use Rattle.driver_words.specs.Rings.{Sending, items_of}
 use Rattle.driver_laws.specs.Drivers.{Driver, IsOwnRing, channels_on, frames_run, greatest_period}
 use Rattle.recorder_rings.specs.Sending.{Sent, channels_at, no_ring, ring_at}
 

@@ -18,7 +18,7 @@ use Rattle.session_model.specs.Transport.{active_master, next_row, shown, slow_n
 use Rattle.client_kinds.specs.Scores.{Score}
 use Rattle.port_registry.specs.Registered.{open_clients}
 use Rattle.cycle_plan.specs.Plans.{Planned, state_of_plan}
-use Rattle.record_ring.specs.Rings.{Sending}
+use Rattle.driver_words.specs.Rings.{Sending}
 use Rattle.transport.specs.Standings.{HasTarget, Standing}
 use Rattle.bench_rack.specs.Racks.{bench_at as bench_of_rack}
 use Rattle.device_periods.specs.Captures.{Captured}

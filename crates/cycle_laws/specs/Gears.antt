@@ -16,7 +16,7 @@ use Rattle.client_kinds.specs.Scores.{Score}
 use Rattle.port_registry.specs.Registered.{open_clients}
 use Rattle.graph_word.specs.Publications.{Reading}
 use Rattle.transport.specs.Standings.{Standing}
-use Rattle.wave_write.specs.Tapes.{Tape}
+use Rattle.driver_words.specs.Tapes.{Tape}
 use Rattle.device_periods.specs.Captures.{Captured}
 use Rattle.driver_laws.specs.Drivers.{Driver, frames_run, greatest_period, turn_of}
 use Rattle.client_seats.specs.Moves.{kinds_of}
@@ -24,8 +24,8 @@ use Rattle.client_seats.specs.Seatings.{memories}
 use Rattle.recorder_rings.specs.Sending.{Sent}
 use Rattle.task_laws.specs.Calls.{guests_needed, open_kinds}
 use Rattle.stage_laws.specs.Stages.{bench_on}
-use Rattle.midi_wiring.specs.Hearings.{Heard}
-use Rattle.disk_feeds.specs.Feeding.{Fed, no_disks}
+use Rattle.driver_words.specs.Hearings.{Heard}
+use Rattle.driver_words.specs.Feeding.{Fed, no_disks}
 pub use Rattle.stage_laws.specs.Standing.{OnStage, StandsOn}
 
 pub record Gear : Type 0 where

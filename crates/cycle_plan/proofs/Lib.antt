@@ -9,5 +9,4 @@ pub mod NetworkLemmas
 mod NodeLemmas
 mod PlannedLemmas
 mod RoomLemmas
-mod TableLemmas
 mod TestLemmas

@@ -14,7 +14,7 @@ use Rattle.session_laws.proofs.LoopLemmas.{Contains-first, Contains-later, leads
 use Rattle.feedback_edges.specs.Marking.{AreAmong, node_number}
 use Rattle.feedback_edges.specs.Search.{IsTable, number_links}
 use Rattle.feedback_edges.proofs.NameLemmas.{same_id_node-is, same_id_node-self}
-use Rattle.cycle_plan.proofs.TableLemmas.{Leads-nodes, Leads-numbers, sources_below, destinations_below}
+use Rattle.feedback_edges.proofs.TableLemmas.{Leads-nodes, Leads-numbers, sources_below, destinations_below}
 use Rattle.cycle_plan.proofs.NodeLemmas.{position-none}
 use Rattle.cycle_plan.specs.Layouts.{distinct, leads_to, link_between, link_of, ordered, place_of}
 use Rattle.cycle_plan.specs.Searching.{ArePlaces, client_number, link_at_numbers, numbers_lead, place_number}

@@ -25,7 +25,7 @@ use Rattle.graph_word.specs.Publications.{Reading}
 use Rattle.client_kinds.specs.Scores.{Score}
 use Rattle.cycle_plan.specs.Plans.{Planned, nodes_of, opening_of}
 use Rattle.transport.specs.Standings.{Standing}
-use Rattle.record_ring.specs.Rings.{Getting, IsOpening, Sending, items_of}
+use Rattle.driver_words.specs.Rings.{Getting, IsOpening, Sending, items_of}
 use Rattle.client_benches.specs.Seen.{Seen, new_bench}
 use Rattle.client_seats.specs.Moves.{kinds_of}
 use Rattle.client_seats.specs.Owners.{Owned}
@@ -35,9 +35,8 @@ use Rattle.driver_laws.specs.Drivers.{IsOwnRing, Remembered, frames_run, channel
 use Rattle.driver_laws.specs.Openings.{IsNew}
 use Rattle.recorder_rings.specs.Sending.{no_ring}
 use Rattle.task_laws.specs.Calls.{guests_needed, open_kinds}
-use Rattle.cycle_laws.specs.Gears.{OnStage, StandsOn}
-use Rattle.disk_feeds.specs.Feeding.{no_disks}
-use Rattle.cycle_laws.specs.Gears.{Gear, IsGear, IsServed, driver_of, no_events}
+use Rattle.cycle_laws.specs.Gears.{OnStage, StandsOn, Gear, IsGear, IsServed, driver_of, no_events}
+use Rattle.driver_words.specs.Feeding.{no_disks}
 use Rattle.cycle_works.specs.Makings.{AreNewRings, IsMade, IsNewStage, IsNewTransport, IsOpeningPlan, IsUnread}
 use Rattle.cycle_works.specs.declared.opening.Made.{Made}
 use Rattle.cycle_works.specs.declared.parts.Parts.{Parts}

@@ -12,7 +12,7 @@ use Rattle.client_kinds.specs.Scores.{Score}
 use Rattle.session_laws.proofs.SequentialLemmas.{length-below}
 use Rattle.cycle_plan.specs.Plans.{Planned}
 use Rattle.playback_mix.specs.Mixes.{channel_mix}
-use Rattle.wave_write.specs.Tapes.{Tape}
+use Rattle.driver_words.specs.Tapes.{Tape}
 use Rattle.cycle_laws.specs.Gears.{Gear, IsGear}
 use Rattle.cycle_laws.specs.Turnings.{Turns}
 use Rattle.cycle_laws.proofs.ListLemmas.{interleaved-length}

@@ -10,7 +10,7 @@
 use Rattle.std.specs.Prelude.{◌≡◌, ℕ, ◌+◌, ◌++◌, ◌∷◌, true, List, [], length, map, ℤ, Option}
 use Rattle.session_model.specs.Samples.{below, interleaved}
 use Rattle.graph_word.specs.Publications.{Begins, Reading, Takes}
-use Rattle.wave_write.specs.Tapes.{Tape}
+use Rattle.driver_words.specs.Tapes.{Tape}
 use Rattle.playback_mix.specs.Mixes.{channel_mix}
 pub use Rattle.cycle_laws.specs.Gears.{Gear, IsGear, IsServed, driver_of}
 pub use Rattle.cycle_laws.specs.Turnings.{Turns}

@@ -6,8 +6,8 @@ use Rattle.std.specs.Prelude.{◌≡◌, ◌≤◌, ⊤, Bool, false, List, [], 
 use Rattle.session_model.specs.Scripts.{Script, turns}
 use Rattle.session_model.specs.Kinds.{Sound}
 use Rattle.client_kinds.specs.Scores.{Score}
-use Rattle.wave_write.specs.Tapes.{Tape}
-use Rattle.disk_feeds.specs.Feeding.{no_disks}
+use Rattle.driver_words.specs.Tapes.{Tape}
+use Rattle.driver_words.specs.Feeding.{no_disks}
 use Rattle.cycle_laws.specs.Gears.{Gear, IsGear, no_events}
 use Rattle.cycle_works.specs.declared.parts.Parts.{Parts}
 use Rattle.cycle_works.specs.declared.works.Works.TheInside.{Inside}

@@ -7,7 +7,7 @@ ghost use Rattle.jack_host.specs.Causes.{HasCause};
 ghost use Rattle.session_model.specs.Scripts.{Script as ScriptValue};
 ghost use Rattle.graph_word.specs.Publications.{Begins, Reading, Takes, last_row};
 ghost use Rattle.cycle_plan.specs.Plans.{Planned};
-ghost use Rattle.wave_write.specs.Tapes.{Tape};
+ghost use Rattle.driver_words.specs.Tapes.{Tape};
 ghost use Rattle.session_model.specs.Samples.{silence};
 ghost use Rattle.wave_pcm.specs.Readings.{SameReading};
 ghost use Rattle.device_periods.specs.Captures.{Reads};
@@ -123,7 +123,7 @@ impl<S: Source, G: Guest + Send> Works<S, G> {
     ghost use Rattle.jack_host.specs.Causes.{HasCause};
     ghost use Rattle.cycle_plan.specs.Plans.{Planned};
     ghost use Rattle.wave_pcm.specs.Readings.{SameReading};
-    ghost use Rattle.wave_write.specs.Tapes.{Tape};
+    ghost use Rattle.driver_words.specs.Tapes.{Tape};
     ghost use Rattle.driver_laws.specs.Cycling.{MayCycle};
     ghost use Rattle.cycle_laws.specs.Gears.{IsGear, driver_of};
     ghost use Rattle.cycle_laws.specs.Turnings.{Turns};

@@ -1,1 +1,3 @@
+pub mod Goings
 pub mod Lanes
+pub mod Laws

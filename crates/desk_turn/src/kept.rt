@@ -22,6 +22,11 @@ impl Model for TurnDesk {
 
 impl Kept for TurnDesk {
     ghost use Rattle.control_desk.specs.Desks.{GoesOn};
+    ghost use Rattle.desk_turn.specs.Goings.{goes-later, goes-same};
 
     ghost goes_on = { GoesOn };
+
+    ghost same = { goes-same };
+
+    ghost later = { goes-later };
 }

@@ -1,8 +1,8 @@
 //! Lanes 1 to 4, each in a thread of its own.
 
-ghost use Rattle.std.specs.Prelude.{◌≡◌, ◌≤◌, ◌<◌, ◌∷◌, [], All, length};
+ghost use Rattle.std.specs.Prelude.{◌≡◌, ◌≤◌, ◌<◌, ◌∷◌, [], All, IfSome, IsNone, length, suc};
 ghost use Rattle.control_desk.specs.Desks.{IsDesk, made};
-ghost use Rattle.desk_turn.specs.Lanes.{IsOpen};
+ghost use Rattle.desk_turn.specs.Lanes.{HasRun, HasStepped, HaveRun, IsOpen};
 ghost use Rattle.session_model.specs.Grammar.{IsScript};
 
 use crate::kept::TurnDesk;
@@ -12,7 +12,6 @@ use crossbeam_utils::Backoff;
 use jack_host::Gate;
 use jack_types::Entry;
 use std::sync::Wait;
-use std::sync::atomic::{AtomicBool, Ordering};
 use std::thread;
 use std::thread::Threads;
 use turn_word::{Pass, Turn};
@@ -32,7 +31,8 @@ fn kept_by_type(desk: &Desk)
 fn try_step(turn: &Turn<TurnDesk>, pass: &mut Pass<TurnDesk>, lane: u8) -> Option<Stepped>
     requires open { IsOpen turn.now.table pass.old }
     requires lane { (1 ≤ lane) × (lane ≤ 4) }
-    ensures { pass.new ≡ pass.old }
+    ensures out { IsNone result → pass.new ≡ pass.old }
+    ensures step { IfSome result (λ stepped. HasStepped lane stepped pass.old pass.new) }
 {
     goes_on();
     let TurnDesk { mut desk } = turn.take(pass)?;
@@ -42,25 +42,24 @@ fn try_step(turn: &Turn<TurnDesk>, pass: &mut Pass<TurnDesk>, lane: u8) -> Optio
     Some(stepped)
 }
 
-/// Makes the calls of a lane as the cycles that they ask for begin, until it has none left in this phase, or the work is
-/// over. It made so many before, and the gate is told of the next, whose index counts from 1.
+/// Makes the calls of a lane as the cycles that they ask for begin, until it has none left in this phase, or the work was
+/// called off. It made so many before, and the gate is told of the next, whose index counts from 1.
 fn run_lane<R: Wait, K: Gate>(
     wait: &R,
     turn: &Turn<TurnDesk>,
     pass: &mut Pass<TurnDesk>,
     lane: u8,
     made: usize,
-    over: &AtomicBool,
     gate: &K,
 )
     requires open { IsOpen turn.now.table pass.old }
     requires lane { (1 ≤ lane) × (lane ≤ 4) }
-    ensures { pass.new ≡ pass.old }
+    ensures { HasRun lane pass.old pass.new }
 {
     let backoff = Backoff::new();
     let mut next = u32::try_from(made).unwrap_or(u32::MAX).saturating_add(1);
     for _ in wait.forever() {
-        if over.load(Ordering::SeqCst) {
+        if turn.is_off(pass) {
             return;
         }
         gate.before_call(lane, next);
@@ -74,10 +73,11 @@ fn run_lane<R: Wait, K: Gate>(
             Some(Stepped::NotYet { .. }) | None => backoff.snooze(),
         }
     }
+    unreachable!()
 }
 
-/// Lets lanes 1 to 4 go until none has a call left in this phase, or `over` says that the work is over: each in a thread of
-/// its own, where one can be made. `made` is how many calls lanes 1 to 4 made before, which the gate is told.
+/// Lets lanes 1 to 4 go until none has a call left in this phase, or the work was called off: each in a thread of its own,
+/// where one can be made. `made` is how many calls lanes 1 to 4 made before, which the gate is told.
 ///
 /// The gate is called before the turn is asked for, at each try, and behind each call that was made. It may wait for ever.
 pub fn run_lanes<T: Threads + Sync, R: Wait + Sync, K: Gate>(
@@ -87,16 +87,15 @@ pub fn run_lanes<T: Threads + Sync, R: Wait + Sync, K: Gate>(
     turn: &Turn<TurnDesk>,
     passes: &mut [Pass<TurnDesk>],
     made: [usize; 4],
-    over: &AtomicBool,
 )
     requires four { length passes.old ≡ 4 }
     requires open { All (IsOpen turn.now.table) passes.old }
-    ensures { passes.new ≡ passes.old }
+    ensures { HaveRun passes.old passes.new }
 {
     let lane = |place: usize, pass: &mut Pass<TurnDesk>|
         requires { (place < 4) × IsOpen turn.now.table pass.old }
-        ensures { pass.exit.now ≡ pass.entry.now }
-    { run_lane(wait, turn, pass, place as u8 + 1, made[place], over, gate) };
+        ensures { HasRun (suc place) pass.entry.now pass.exit.now }
+    { run_lane(wait, turn, pass, place as u8 + 1, made[place], gate) };
     thread::for_each_mut(threads, passes, LANES, &lane);
 }
 

@@ -3,6 +3,7 @@
 
 mod kept;
 mod lanes;
+pub mod laws;
 
 pub use kept::TurnDesk;
 pub use lanes::{calls_made, run_lanes};

@@ -7,11 +7,11 @@ use Rattle.std.proofs.lemmas.Bool.{cases_eq, cases_lt, ne_eqb}
 use Rattle.std.proofs.lemmas.List.Elements.{All-append, All-head, All-nil, All-tail, All-weaker, filter-append}
 use Rattle.jack_types.specs.declared.replies.Underrun.{Underrun}
 use Rattle.session_model.specs.State.{OpenClient}
-use Rattle.record_ring.specs.Rings.{Getting}
+use Rattle.driver_words.specs.Rings.{Getting}
 use Rattle.driver_laws.specs.Cycling.{GetsOne}
 use Rattle.driver_laws.specs.Drivers.{underruns_on}
 use Rattle.disk_feeds.specs.Cycling.{GetsAll, GetsAt, given_now, is_fed, played_by}
-use Rattle.disk_feeds.specs.Feeding.{Fed, MayGet, block_at, channels_at, disk_at, played_at}
+use Rattle.driver_words.specs.Feeding.{Fed, MayGet, block_at, channels_at, disk_at, played_at}
 use Rattle.disk_feeds.specs.Steps.{GetsFirst, GetsOnly, MayGetOne}
 
 filter-nothing : {X : Type 0} (p : X → Bool) (xs : List X) → All (λ x. p x ≡ false) xs → filter p xs ≡ []

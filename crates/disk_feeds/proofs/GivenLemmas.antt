@@ -13,17 +13,16 @@ use Rattle.std.proofs.lemmas.List.Folds.{list_any_none}
 use Rattle.std.proofs.lemmas.Option.{slice_get_past, slice_get_read}
 use Rattle.jack_types.specs.declared.replies.Underrun.{Underrun}
 use Rattle.session_model.specs.Rings.{RingBlock}
-use Rattle.session_model.specs.Samples.{below, sample, silence}
+use Rattle.session_model.specs.Samples.{below, sample, silence, channels_of}
 use Rattle.session_model.specs.State.{OpenClient}
-use Rattle.samples.specs.Channels.{channels_of}
-use Rattle.record_ring.specs.Rings.{Getting}
+use Rattle.driver_words.specs.Rings.{Getting}
 use Rattle.driver_laws.specs.Cycling.{GetsOne, Silent, Heard, Over, Missed}
 use Rattle.driver_laws.specs.Drivers.{Driver, run, underruns_on}
 use Rattle.driver_laws.specs.Playing.{fed_now, samples_got}
 use Rattle.driver_laws.proofs.BlockLemmas.{map-below_same}
 use Rattle.driver_laws.proofs.PlaceLemmas.{last_of, missed_there}
 use Rattle.disk_feeds.specs.Cycling.{GetsAll, HasFeeds, fitted, given_now, is_fed}
-use Rattle.disk_feeds.specs.Feeding.{AreUpTo, Fed, channels_at, disk_at, fed_at, no_ring}
+use Rattle.driver_words.specs.Feeding.{AreUpTo, Fed, channels_at, disk_at, fed_at, no_ring}
 
 -- ---- samples
 

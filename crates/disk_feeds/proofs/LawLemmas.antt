@@ -9,12 +9,12 @@ use Rattle.std.proofs.lemmas.List.Elements.{All-append, All-head, All-nil, All-t
 use Rattle.std.proofs.lemmas.Option.{get_or_from_slice_get, slice_get_within}
 use Rattle.jack_types.specs.declared.replies.Underrun.{Underrun}
 use Rattle.session_model.specs.State.{OpenClient}
-use Rattle.record_ring.specs.Rings.{Getting, Sending}
+use Rattle.driver_words.specs.Rings.{Getting, Sending}
 use Rattle.driver_laws.specs.Cycling.{GetsOne, Silent, Heard, Over, Missed}
 use Rattle.driver_laws.specs.Drivers.{underruns_on}
 use Rattle.driver_laws.specs.Openings.{IsEmptyDisk}
 use Rattle.disk_feeds.specs.Cycling.{GetsAll, is_fed}
-use Rattle.disk_feeds.specs.Feeding.{AreCounted, AreForPeriods, AreUpTo, Fed, HasNoDisks, MayGet, channels_at, disk_at, no_ring}
+use Rattle.driver_words.specs.Feeding.{AreCounted, AreForPeriods, AreUpTo, Fed, HasNoDisks, MayGet, channels_at, disk_at, no_ring}
 use Rattle.disk_feeds.specs.Openings.{IsNew}
 use Rattle.disk_feeds.proofs.OpeningLemmas.{HasEnds}
 

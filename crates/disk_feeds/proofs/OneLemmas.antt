@@ -15,14 +15,15 @@ use Rattle.std.proofs.lemmas.List.{get_or-map, get_or-set_other, get_or-set_same
 use Rattle.std.proofs.lemmas.List.Elements.{All-cons, All-head, All-nil, All-tail, filter-append}
 use Rattle.jack_types.specs.declared.replies.Underrun.{Underrun}
 use Rattle.session_model.specs.Rings.{RingBlock}
-use Rattle.record_ring.specs.Rings.{Getting, Gets, Sending}
+use Rattle.record_ring.specs.Rings.{Gets}
+use Rattle.driver_words.specs.Rings.{Getting, Sending}
 use Rattle.record_ring.specs.declared.consumer.Got.{Got}
 use Rattle.record_ring.specs.declared.consumer.Got.TheVariants.{Block, Empty, Ended}
 use Rattle.driver_laws.specs.Cycling.{GetsOne, Silent, Heard, Over, Missed}
 use Rattle.driver_laws.specs.Drivers.{underruns_on}
 use Rattle.disk_feeds.specs.declared.feed.Feed.{Feed}
 use Rattle.disk_feeds.specs.Cycling.{given_now, played_by}
-use Rattle.disk_feeds.specs.Feeding.{AreCounted, Fed, disk_at, no_block, no_ring}
+use Rattle.driver_words.specs.Feeding.{AreCounted, Fed, disk_at, no_block, no_ring}
 use Rattle.disk_feeds.specs.Insides.{FeedsFrom, IsFeed, IsSound, fed_of, given_in}
 use Rattle.disk_feeds.specs.Steps.{GetsOnly}
 

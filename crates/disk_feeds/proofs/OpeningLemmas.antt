@@ -12,10 +12,10 @@ use Rattle.std.proofs.lemmas.List.{get_or-take, length-map, length-take, map-app
 use Rattle.std.proofs.Math.ListN.{get_or-append}
 use Rattle.std.proofs.Math.Seq.{get_or-append_seam}
 use Rattle.std.proofs.lemmas.List.Elements.{All-append, All-cons, All-from_get_or, All-nil}
-use Rattle.record_ring.specs.Rings.{Sending, Getting, IsOpening}
+use Rattle.driver_words.specs.Rings.{Sending, Getting, IsOpening}
 use Rattle.driver_laws.specs.Openings.{IsEmptyDisk}
 use Rattle.disk_feeds.specs.declared.feed.Feed.{Feed}
-use Rattle.disk_feeds.specs.Feeding.{no_block, no_ring}
+use Rattle.driver_words.specs.Feeding.{no_block, no_ring}
 use Rattle.disk_feeds.specs.Insides.{AreMade, IsFeed, IsSound, given_in}
 use Rattle.disk_feeds.specs.Openings.{AreOpened}
 

@@ -14,10 +14,10 @@ use Rattle.session_model.specs.Courses.{is_disk}
 use Rattle.session_model.specs.Rings.{RingBlock}
 use Rattle.session_model.specs.Samples.{silence}
 use Rattle.session_model.specs.State.{OpenClient}
-use Rattle.record_ring.specs.Rings.{Getting}
+use Rattle.driver_words.specs.Rings.{Getting}
 use Rattle.driver_laws.specs.Cycling.{GetsOne}
 use Rattle.driver_laws.specs.Drivers.{Driver, underruns_on}
-use Rattle.disk_feeds.specs.Feeding.{AreCounted, Fed, block_at, channels_at, disk_at, played_at}
+use Rattle.driver_words.specs.Feeding.{AreCounted, Fed, block_at, channels_at, disk_at, played_at}
 
 abbrev pub is_fed : List OpenClient → ℕ → Bool
 is_fed nodes disk = list_any (λ client. is_disk disk client.kind) nodes

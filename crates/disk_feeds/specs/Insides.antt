@@ -7,10 +7,10 @@
 --     listed x      what is there, as a list
 use Rattle.std.specs.Prelude.{◌≡◌, ℕ, ◌*◌, ◌≤◌, List, [], ◌∷◌, length, map, ℤ, All, Option, Some, None, if◌then◌else◌}
 use Rattle.jack_types.specs.declared.replies.Underrun.{Underrun}
-use Rattle.record_ring.specs.Rings.{Sending, Getting}
+use Rattle.driver_words.specs.Rings.{Sending, Getting}
 use Rattle.disk_feeds.specs.declared.feed.Feed.{Feed}
 use Rattle.disk_feeds.specs.Cycling.{given_of, played_by}
-use Rattle.disk_feeds.specs.Feeding.{Fed, no_block}
+use Rattle.driver_words.specs.Feeding.{Fed, no_block}
 
 abbrev pub given_in : Feed → Option (List ℤ)
 given_in feed = if feed.is_given then Some feed.block.samples.items else None

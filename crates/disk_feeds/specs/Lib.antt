@@ -1,4 +1,3 @@
-pub mod Feeding
 pub mod Cycling
 pub mod Openings
 pub mod Steps

@@ -2,9 +2,9 @@
 --     AreOpened capacity period channels disks out      the two ends of each disk's ring
 --     IsNew channels capacity period misses seen      all of it
 use Rattle.std.specs.Prelude.{◌≡◌, ℕ, ◌*◌, ◌^◌, ◌<◌, ◌≤◌, List, [], length, map, slice_index, slice_index_or, All, MatchOption, Option, None}
-use Rattle.record_ring.specs.Rings.{Sending, Getting, IsOpening}
+use Rattle.driver_words.specs.Rings.{Sending, Getting, IsOpening}
 use Rattle.driver_laws.specs.Openings.{IsEmptyDisk}
-use Rattle.disk_feeds.specs.Feeding.{Fed, no_block, no_ring}
+use Rattle.driver_words.specs.Feeding.{Fed, no_block, no_ring}
 
 -- each disk has both ends of a new ring, for blocks of a period, of at most 2^33 samples together
 pub record AreOpened (capacity period : ℕ) (channels : List ℕ) (disks : List Getting) (out : List (Option Sending)) : Type 0 where

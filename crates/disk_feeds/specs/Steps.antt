@@ -7,7 +7,7 @@ use Rattle.jack_types.specs.declared.replies.Underrun.{Underrun}
 use Rattle.session_model.specs.State.{OpenClient}
 use Rattle.driver_laws.specs.Drivers.{underruns_on}
 use Rattle.disk_feeds.specs.Cycling.{GetsAt, is_fed}
-use Rattle.disk_feeds.specs.Feeding.{AreCounted, Fed, block_at, channels_at, disk_at, played_at}
+use Rattle.driver_words.specs.Feeding.{AreCounted, Fed, block_at, channels_at, disk_at, played_at}
 
 pub record MayGetOne (seen : Fed) (disk : ℕ) : Type 0 where
   pub there : disk < length seen.disks

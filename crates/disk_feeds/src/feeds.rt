@@ -19,7 +19,7 @@ pub struct DiskFeeds {
 
 impl Model for DiskFeeds {
     ghost use Rattle.std.specs.Prelude.{vec_capacity};
-    ghost use Rattle.disk_feeds.specs.Feeding.{Fed};
+    ghost use Rattle.driver_words.specs.Feeding.{Fed};
     ghost use Rattle.disk_feeds.specs.Insides.{fed_of, IsSound};
 
     ghost Value = { Fed };
@@ -35,7 +35,7 @@ impl DiskFeeds {
     ghost use Rattle.std.specs.Borrow.{sem, Lends};
     ghost use Rattle.record_ring.specs.contracts.consumer.Consumer.{the_row as the_consumer};
     ghost use Rattle.disk_feeds.specs.contracts.feeds.DiskFeeds.{the_row};
-    ghost use Rattle.disk_feeds.specs.Feeding.{block_at, channels_at, disk_at, played_at, producer_at};
+    ghost use Rattle.driver_words.specs.Feeding.{block_at, channels_at, disk_at, played_at, producer_at};
 
     /// How many disks there are.
     pub fn len(&self) -> usize

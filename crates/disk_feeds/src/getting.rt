@@ -33,7 +33,7 @@ impl DiskFeeds {
     ghost use Rattle.std.specs.Prelude.{false, true};
     ghost use Rattle.port_registry.specs.Registered.{open_clients};
     ghost use Rattle.disk_feeds.specs.Cycling.{GetsAll, is_fed};
-    ghost use Rattle.disk_feeds.specs.Feeding.{MayGet};
+    ghost use Rattle.driver_words.specs.Feeding.{MayGet};
     ghost use Rattle.disk_feeds.specs.Steps.{GetsOnly, MayGetOne};
 
     // Gets the next block of a disk.

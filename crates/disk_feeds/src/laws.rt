@@ -2,12 +2,12 @@
 
 ghost use Rattle.std.specs.Prelude.{◌≡◌, ℕ, ◌+◌, ◌<◌, ◌≤◌, [], List, Some, length, slice_get, true};
 ghost use Rattle.session_model.specs.State.{OpenClient};
-ghost use Rattle.record_ring.specs.Rings.{Getting};
+ghost use Rattle.driver_words.specs.Rings.{Getting};
 ghost use Rattle.driver_laws.specs.Cycling.{GetsOne};
 ghost use Rattle.driver_laws.specs.Drivers.{Driver, run, underruns_on};
 ghost use Rattle.driver_laws.specs.Playing.{fed_now};
 ghost use Rattle.disk_feeds.specs.Cycling.{GetsAll, HasFeeds, is_fed};
-ghost use Rattle.disk_feeds.specs.Feeding.{AreCounted, AreForPeriods, AreUpTo, Fed, HasNoDisks, MayGet, fed_at, no_disks};
+ghost use Rattle.driver_words.specs.Feeding.{AreCounted, AreForPeriods, AreUpTo, Fed, HasNoDisks, MayGet, fed_at, no_disks};
 ghost use Rattle.disk_feeds.specs.Openings.{IsNew};
 
 /// Of each ring of a driver a cycle gets one block, finds its end, or misses one.

@@ -6,7 +6,7 @@ use Rattle.std.specs.Prelude.{IfOk, OnErr}
 use Rattle.session_model.specs.Courses.{DiskFile}
 use Rattle.session_model.specs.Disks.{blocks_of}
 use Rattle.session_model.specs.Rings.{RingBlock}
-use Rattle.record_ring.specs.Rings.{Sending, Getting, IsPair}
+use Rattle.driver_words.specs.Rings.{Sending, Getting, IsPair}
 use Rattle.disk_player.specs.Files.{HasPut, PlaysFile}
 use Rattle.disk_player.specs.Playing.{Playing}
 use Rattle.disk_player.specs.Turning.{Breaks, HowEnds, PutsEach, PutsOn, Turns}

@@ -5,7 +5,7 @@
 use Rattle.std.specs.Prelude.{◌≡◌, ℕ, true, length}
 use Rattle.session_model.specs.Courses.{DiskFile}
 use Rattle.session_model.specs.Disks.{blocks_of}
-use Rattle.record_ring.specs.Rings.{Getting, Tells}
+use Rattle.driver_words.specs.Rings.{Getting, Tells}
 use Rattle.disk_player.specs.Files.{HasPut, PlaysFile}
 use Rattle.disk_player.specs.Playing.{Playing}
 use Rattle.disk_player.specs.Turning.{Breaks, Turns}

@@ -28,7 +28,7 @@ impl<S: Source> Model for DiskReader<S> {
 impl<S: Source> DiskReader<S> {
     ghost use Rattle.std.specs.Prelude.{◌≡◌, ◌%◌, ◌^◌, ◌<◌, ◌≤◌, [], IfErr, IfOk, None, OnErr, OnOk, false, is_err};
     ghost use Rattle.jack_host.specs.Causes.{HasCause};
-    ghost use Rattle.record_ring.specs.Rings.{IsPair};
+    ghost use Rattle.driver_words.specs.Rings.{IsPair};
     ghost use Rattle.wave_pcm.specs.Readings.{IsReadable};
     ghost use Rattle.disk_files.specs.Readers.{BreaksAhead, ReadsAhead, TellsAhead};
 

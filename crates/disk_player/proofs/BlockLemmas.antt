@@ -7,7 +7,7 @@ use Rattle.std.proofs.Common.{◌≡◌, ℕ, ◌+◌, ◌-◌, ◌*◌, ◌<◌
 use Rattle.std.specs.Prelude.{min, replicate, IfSome}
 use Rattle.std.proofs.lemmas.List.{drop_all, ext_get_or, length-replicate, length-take, take_all}
 use Rattle.session_laws.proofs.ActivationLemmas.{get_or-map_below, length-map_below}
-use Rattle.session_laws.proofs.WaveSamples.{by_width}
+use Rattle.wave_laws.proofs.WaveSamples.{by_width}
 use Rattle.session_model.specs.Samples.{sample, width}
 use Rattle.session_model.specs.WaveFiles.{frame_bytes, is_width}
 use Rattle.wave_pcm.specs.Readings.{IsReadable, Reading}

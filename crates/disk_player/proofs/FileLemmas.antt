@@ -14,7 +14,7 @@ use Rattle.session_model.specs.Courses.{DiskFile, block_channel}
 use Rattle.session_model.specs.Disks.{blocks_of}
 use Rattle.session_model.specs.Rings.{RingBlock}
 use Rattle.session_model.specs.Samples.{below, sample}
-use Rattle.record_ring.specs.Rings.{Sending}
+use Rattle.driver_words.specs.Rings.{Sending}
 use Rattle.disk_player.proofs.StepLemmas.{all-within, below-join, cut-later, less-times, puts-put, puts-samples}
 use Rattle.disk_player.specs.Files.{HasPut, PlaysFile, block_of_file}
 use Rattle.disk_player.specs.Playing.{AreBlocks, Playing, cut_block, in_hand}

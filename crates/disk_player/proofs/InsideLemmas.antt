@@ -9,7 +9,7 @@ use Rattle.std.specs.Prelude.{is_none, if◌then◌else◌}
 use Rattle.std.proofs.lemmas.Bool.{lt-ltb, ltb-true}
 use Rattle.std.proofs.lemmas.List.{drop_all, nil_from_length}
 use Rattle.std.proofs.lemmas.List.Elements.{All-cons, All-nil}
-use Rattle.record_ring.specs.Rings.{Sending}
+use Rattle.driver_words.specs.Rings.{Sending}
 use Rattle.record_ring.specs.declared.block.Block.{Block}
 use Rattle.wave_pcm.specs.Readings.{Reading, SameReading}
 use Rattle.disk_player.proofs.StepLemmas.{one-more}

@@ -13,7 +13,7 @@ use Rattle.std.proofs.lemmas.List.Elements.{All-append}
 use Rattle.std.proofs.Math.Nat.{add-mul}
 use Rattle.session_model.specs.Rings.{RingBlock}
 use Rattle.session_model.specs.Samples.{below, sample}
-use Rattle.record_ring.specs.Rings.{Sending, Puts}
+use Rattle.driver_words.specs.Rings.{Sending, Puts}
 use Rattle.disk_player.specs.Insides.{LooksAhead, PutsNext}
 use Rattle.disk_player.specs.Playing.{AreBlocks, Playing, cut_block, in_hand}
 use Rattle.disk_player.specs.Turning.{Breaks, PutsEach, PutsOn, samples_of}

@@ -6,7 +6,7 @@ use Rattle.std.specs.Prelude.{◌≡◌, ℕ, ◌*◌, ◌<◌, ◌≤◌, true,
 use Rattle.session_model.specs.Courses.{DiskFile, block_channel}
 use Rattle.session_model.specs.Disks.{blocks_of}
 use Rattle.session_model.specs.Samples.{below, interleaved}
-use Rattle.record_ring.specs.Rings.{Sending}
+use Rattle.driver_words.specs.Rings.{Sending}
 use Rattle.disk_player.specs.Playing.{Playing, in_hand}
 use Rattle.disk_player.specs.Turning.{samples_of}
 

@@ -6,7 +6,7 @@
 --     LooksAhead before after, PutsNext before after      the next block is read, or the end stands; the block that waits is put
 use Rattle.std.specs.Prelude.{◌≡◌, ℕ, ◌+◌, ◌%◌, ◌^◌, ◌<◌, ◌≤◌, Bool, true, false, nat_lt, List, ◌++◌, length, drop, min, ℤ, Option, Some, None, if◌then◌else◌}
 use Rattle.session_model.specs.Rings.{RingBlock}
-use Rattle.record_ring.specs.Rings.{Sending, Puts, items_of}
+use Rattle.driver_words.specs.Rings.{Sending, Puts, items_of}
 use Rattle.record_ring.specs.declared.block.Block.{Block}
 use Rattle.wave_pcm.specs.Readings.{IsReadable, Reading}
 use Rattle.disk_player.specs.Playing.{Playing, cut_block, in_hand}

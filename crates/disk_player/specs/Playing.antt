@@ -7,7 +7,7 @@ use Rattle.std.specs.Prelude.{◌≡◌, ℕ, ◌+◌, ◌*◌, ◌≤◌, Bool,
 use Rattle.std.specs.Int.{div_ceil}
 use Rattle.jack_types.specs.declared.files.Format.{Format}
 use Rattle.session_model.specs.Samples.{below, sample}
-use Rattle.record_ring.specs.Rings.{Sending}
+use Rattle.driver_words.specs.Rings.{Sending}
 
 -- the file's format, and the end of its ring that puts; the samples that were not read, where the file tells them; the block that was read
 -- and not put; whether a read found the file's end, and whether one failed; the file's count of faults

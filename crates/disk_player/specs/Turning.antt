@@ -9,7 +9,7 @@
 --     Breaks most before after      or a read failed
 use Rattle.std.specs.Prelude.{◌≡◌, ℕ, ◌*◌, ◌<◌, ◌≤◌, true, false, List, [], ◌∷◌, ◌++◌, length, map, drop, All, ℤ, Some, is_none}
 use Rattle.session_model.specs.Rings.{RingBlock}
-use Rattle.record_ring.specs.Rings.{Sending, Puts, IsFull}
+use Rattle.driver_words.specs.Rings.{Sending, Puts, IsFull}
 use Rattle.disk_player.specs.Playing.{AreBlocks, Playing, in_hand}
 use Rattle.disk_player.specs.declared.player.TurnEnd.{TurnEnd}
 use Rattle.disk_player.specs.declared.player.TurnEnd.TheVariants.{Put, Full, Ended}

@@ -74,7 +74,7 @@ fn fill_block<S: Source>(
 impl<S: Source> DiskPlayer<S> {
     ghost use Rattle.std.specs.Prelude.{◌≡◌, ◌%◌, ◌^◌, ◌<◌, ◌≤◌, [], None, false, true, IfErr, IfOk, OnErr, OnOk, is_err, length};
     ghost use Rattle.jack_host.specs.Causes.{HasCause};
-    ghost use Rattle.record_ring.specs.Rings.{IsFull, IsPair, Tells};
+    ghost use Rattle.driver_words.specs.Rings.{IsFull, IsPair, Tells};
     ghost use Rattle.wave_pcm.specs.Readings.{IsReadable};
     ghost use Rattle.disk_player.specs.Insides.{LooksAhead, PutsNext};
     ghost use Rattle.disk_player.specs.Turning.{Breaks, IsReady, Turns};

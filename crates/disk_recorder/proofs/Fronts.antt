@@ -5,8 +5,7 @@ use Rattle.std.proofs.lemmas.List.{take-append-le}
 use Rattle.std.proofs.lemmas.List.Concat.{flat_map-append}
 use lib.ListN.{length-take}
 use lib.Seq.{take-length}
-use Rattle.session_model.specs.Rings.{RingBlock}
-use Rattle.disk_recorder.specs.Recordings.{samples_of_blocks}
+use Rattle.session_model.specs.Rings.{RingBlock, samples_of_blocks}
 
 module _ {A : Type 0} where
   take_take : (m n : ℕ) (l : List A) → m ≤ n → take m (take n l) ≡ take m l

@@ -4,15 +4,12 @@
 --     Drains, Serves, Finishes      what they did
 --     IsCutBehind tape samples more      what the file holds behind a failed put
 --     Fails      what stands behind that
-use Rattle.std.specs.Prelude.{◌≡◌, ℕ, ◌+◌, ◌*◌, ◌<◌, ◌≤◌, true, false, List, [], ◌∷◌, ◌++◌, length, take, flat_map, ℤ, Option, IfSome, is_some}
-use Rattle.session_model.specs.Rings.{RingBlock}
+use Rattle.std.specs.Prelude.{◌≡◌, ℕ, ◌+◌, ◌*◌, ◌<◌, ◌≤◌, true, false, List, [], ◌∷◌, ◌++◌, length, take, ℤ, Option, IfSome, is_some}
+use Rattle.session_model.specs.Rings.{RingBlock, samples_of_blocks}
 use Rattle.session_model.specs.Samples.{width, bytes_of}
 use Rattle.session_model.specs.WaveFiles.{IsFormat, opening_text, wave_text}
-use Rattle.record_ring.specs.Rings.{Getting, items_of}
-use Rattle.wave_write.specs.Tapes.{Tape, HasSamples, HasFront, HasUnfinished}
-
-abbrev pub samples_of_blocks : List RingBlock → List ℤ
-samples_of_blocks blocks = flat_map (λ (block : RingBlock). block.samples) blocks
+use Rattle.driver_words.specs.Rings.{Getting, items_of}
+use Rattle.driver_words.specs.Tapes.{Tape, HasSamples, HasFront, HasUnfinished}
 
 -- no put failed, and the file has no more samples than the blocks got, so that all blocks that the ring may carry fit
 pub record MayWrite (getting : Getting) (tape : Tape) : Type 0 where

@@ -3,9 +3,9 @@
 --     IsFedDeck feeds      and from cycle to cycle
 --     IsDeck reader feeds has_failed      reader and player are at one ring
 use Rattle.std.specs.Prelude.{◌≡◌, ◌≤◌, Bool, [], ◌∷◌, length}
-use Rattle.record_ring.specs.Rings.{IsPair}
+use Rattle.driver_words.specs.Rings.{IsPair}
 use Rattle.disk_player.specs.Playing.{Playing}
-use Rattle.disk_feeds.specs.Feeding.{AreForPeriods, Fed, disk_at}
+use Rattle.driver_words.specs.Feeding.{AreForPeriods, Fed, disk_at}
 use Rattle.disk_feeds.specs.Openings.{IsNew}
 
 -- of one disk of one channel: a ring of two blocks of four frames, and room for sixteen underruns

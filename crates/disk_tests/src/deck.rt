@@ -1,14 +1,15 @@
 //! A disk file and its player.
 
 ghost use Rattle.std.specs.Prelude.{◌≡◌, ◌≤◌, ◌^◌, IfSome, [], false};
-ghost use Rattle.record_ring.specs.Rings.{IsPair};
+ghost use Rattle.driver_words.specs.Rings.{IsPair};
 ghost use Rattle.wave_pcm.specs.Readings.{IsReadable};
-ghost use Rattle.disk_feeds.specs.Feeding.{disk_at};
+ghost use Rattle.driver_words.specs.Feeding.{disk_at};
 ghost use Rattle.disk_tests.specs.Decks.{IsFedDeck, IsNewDeck};
 
 use disk_feeds::{DiskFeeds, a_cycle_leaves_the_disks_ready, new_disks_are_ready};
 use disk_files::DiskReader;
-use jack_host::{MemorySource, ReadFailed};
+use host_memory::MemorySource;
+use jack_host::ReadFailed;
 use jack_types::{Client, Underrun};
 use record_ring::Producer;
 use std::alloc::Global;
@@ -32,7 +33,7 @@ pub struct Deck {
 }
 
 impl Model for Deck {
-    ghost use Rattle.disk_feeds.specs.Feeding.{Fed};
+    ghost use Rattle.driver_words.specs.Feeding.{Fed};
     ghost use Rattle.disk_tests.specs.Decks.{IsDeck};
 
     ghost Value = { Fed };

@@ -1,7 +1,7 @@
 ghost use Rattle.std.specs.Prelude.{◌≡◌, IfOk, IfSome, false};
 
 use disk_player::{DiskPlayer, TurnEnd};
-use jack_host::MemorySource;
+use host_memory::MemorySource;
 use record_ring::{Block, Consumer, Got, ring};
 use std::alloc::Global;
 use std::process::Abort;

@@ -1,8 +1,8 @@
 ghost use Rattle.std.specs.Prelude.{◌≡◌, IfOk, false};
-ghost use Rattle.record_ring.specs.Rings.{IsPair};
+ghost use Rattle.driver_words.specs.Rings.{IsPair};
 
 use disk_files::DiskReader;
-use jack_host::MemorySource;
+use host_memory::MemorySource;
 use record_ring::{Block, Consumer, Got, ring};
 use std::alloc::Global;
 use std::test::Fail;

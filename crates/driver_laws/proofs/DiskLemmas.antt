@@ -15,7 +15,8 @@ use Rattle.session_model.specs.Courses.{Course, is_underrun, is_disk_active, pla
 use Rattle.session_model.specs.Disks.{file_blocks}
 use Rattle.session_model.specs.Rings.{RingBlock}
 use Rattle.session_model.specs.Samples.{below}
-use Rattle.record_ring.specs.Rings.{Getting, Gets}
+use Rattle.record_ring.specs.Rings.{Gets}
+use Rattle.driver_words.specs.Rings.{Getting}
 use Rattle.record_ring.specs.declared.consumer.Got.TheVariants.{Block, Empty, Ended}
 use Rattle.driver_laws.specs.Keeping.{FitsDisk, IsMiss, KeepsDisk}
 use Rattle.driver_laws.specs.Cycling.{GetsOne, Silent, Heard, Over, Missed}

@@ -17,7 +17,7 @@ use Rattle.session_model.specs.Soundness.{Apart}
 use Rattle.session_laws.proofs.ListLemmas.{map-take}
 use Rattle.session_laws.proofs.LoopLemmas.{Contains-cases, Contains-first, Contains-later}
 use Rattle.graph_word.specs.Publications.{Reading}
-use Rattle.record_ring.specs.Rings.{Getting}
+use Rattle.driver_words.specs.Rings.{Getting}
 use Rattle.driver_laws.specs.Drivers.{Driver, run, content_now, graph_now, has_disk, underruns_on}
 use Rattle.driver_laws.specs.Keeping.{AreOfCalls, Fits, FitsDisk, Keeps}
 use Rattle.driver_laws.specs.Cycling.{GetsOne, Silent, Heard, Over, Missed, StepsOnce, FailsAtRead, CyclesMany}

@@ -24,7 +24,7 @@ use Rattle.session_model.specs.Transport.{first_row}
 use Rattle.session_laws.proofs.LoopLemmas.{Contains-cases}
 use Rattle.graph_word.specs.declared.view.TakenRow.{TakenRow}
 use Rattle.graph_word.specs.Publications.{Reading}
-use Rattle.wave_write.specs.Tapes.{Tape, SameFile}
+use Rattle.driver_words.specs.Tapes.{Tape, SameFile}
 use Rattle.driver_laws.specs.Drivers.{Driver, graph_now}
 use Rattle.driver_laws.specs.Keeping.{Fits, Keeps}
 use Rattle.driver_laws.specs.Cycling.{CyclesOnce, StepsOnce, WritesOnce, Written}

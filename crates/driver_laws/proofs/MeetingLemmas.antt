@@ -5,7 +5,7 @@ use Rattle.std.specs.List.{list_any}
 use Rattle.jack_types.specs.declared.replies.Overrun.{Overrun}
 use Rattle.jack_types.specs.declared.replies.Underrun.{Underrun}
 use Rattle.session_model.specs.Courses.{Course}
-use Rattle.record_ring.specs.Rings.{Sending, Getting}
+use Rattle.driver_words.specs.Rings.{Sending, Getting}
 use Rattle.driver_laws.specs.Drivers.{Driver, overruns_on, underruns_on, run}
 use Rattle.driver_laws.specs.Keeping.{Fits, FitsDisk, Keeps, KeepsRing, IsLoss}
 use Rattle.driver_laws.specs.Cycling.{HasMetOthers, RingStays, DiskStays}

@@ -14,7 +14,7 @@ use Rattle.session_model.specs.Scripts.{Script}
 use Rattle.session_model.specs.State.{OpenClient}
 use Rattle.session_model.specs.Transport.{moment, row}
 use Rattle.session_laws.proofs.DrivingLemmas.{IsDriven-none}
-use Rattle.record_ring.specs.Rings.{Sending, Getting}
+use Rattle.driver_words.specs.Rings.{Sending, Getting}
 use Rattle.driver_laws.specs.Drivers.{Driver, Remembered, run, overruns_on, underruns_on, bench_at, memory_in}
 use Rattle.driver_laws.specs.Keeping.{KeepsRing, KeepsDisk, HasTape, played_so_far, Keeps}
 use Rattle.driver_laws.specs.Openings.{IsEmptyRing, IsEmptyDisk, IsNew}

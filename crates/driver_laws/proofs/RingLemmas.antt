@@ -13,7 +13,7 @@ use Rattle.session_model.specs.Courses.{Course}
 use Rattle.session_model.specs.Recorders.{block, is_taping, is_lost, kept_before}
 use Rattle.session_model.specs.Rings.{RingBlock}
 use Rattle.session_model.specs.Samples.{below}
-use Rattle.record_ring.specs.Rings.{Sending, Puts, IsFull}
+use Rattle.driver_words.specs.Rings.{Sending, Puts, IsFull}
 use Rattle.driver_laws.specs.Keeping.{is_kept, kept_blocks, IsLoss, KeepsRing}
 use Rattle.driver_laws.specs.Cycling.{PutsOne, Idle, Went, Lacked}
 use Rattle.driver_laws.proofs.PlaceLemmas.{or_false, or_true}

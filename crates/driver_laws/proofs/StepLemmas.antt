@@ -16,8 +16,8 @@ use Rattle.session_model.specs.Scripts.{Script}
 use Rattle.session_model.specs.Transport.{moment, row}
 use Rattle.graph_word.specs.declared.view.TakenRow.{TakenRow}
 use Rattle.graph_word.specs.Publications.{Reading}
-use Rattle.record_ring.specs.Rings.{Sending, Getting}
-use Rattle.wave_write.specs.Tapes.{Tape}
+use Rattle.driver_words.specs.Rings.{Sending, Getting}
+use Rattle.driver_words.specs.Tapes.{Tape}
 use Rattle.driver_laws.specs.Drivers.{Driver, run, turn_of, frames_read, graph_of, last_content, content_now, graph_now, has_tape, has_disk, overruns_on, underruns_on, bench_at, memory_in, block_in}
 use Rattle.driver_laws.specs.Keeping.{Fits, Keeps, KeepsRing, KeepsDisk, HasTape, HasTapeFront, played_so_far}
 use Rattle.driver_laws.specs.Cycling.{StepsOnce, PlaysOnce, WritesOnce, Written, WrittenFront, KeepsBut}

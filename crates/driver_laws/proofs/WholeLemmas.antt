@@ -9,8 +9,8 @@ use Rattle.session_model.specs.Disks.{Played, IsBehindRing, IsSerial}
 use Rattle.session_model.specs.Recorders.{Lost, IsAfterSegment, block, recorded}
 use Rattle.session_model.specs.Samples.{below}
 use Rattle.session_model.specs.Scripts.{turns}
-use Rattle.record_ring.specs.Rings.{Sending, Getting}
-use Rattle.disk_recorder.specs.Recordings.{samples_of_blocks}
+use Rattle.driver_words.specs.Rings.{Sending, Getting}
+use Rattle.session_model.specs.Rings.{samples_of_blocks}
 use Rattle.driver_laws.specs.Keeping.{is_kept, kept_blocks, KeepsRing, KeepsDisk}
 
 samples-map : (course : Course) (recorder : ℕ) (is : List ℕ) → samples_of_blocks (map (λ i. record { cycle = i + 1; samples = block course recorder (i + 1) }) is) ≡ flat_map (λ i. block course recorder (i + 1)) is

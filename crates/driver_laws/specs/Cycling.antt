@@ -21,9 +21,10 @@ use Rattle.session_model.specs.Rings.{RingBlock}
 use Rattle.session_model.specs.Scripts.{turns}
 use Rattle.session_model.specs.Transport.{moment, next_row, row, slow_numbers, timeout_of}
 use Rattle.graph_word.specs.Publications.{Reading, Takes, Begins}
-use Rattle.record_ring.specs.Rings.{Sending, Getting, Puts, IsFull, Gets}
+use Rattle.record_ring.specs.Rings.{Gets}
+use Rattle.driver_words.specs.Rings.{Sending, Getting, Puts, IsFull}
 use Rattle.record_ring.specs.declared.consumer.Got.TheVariants.{Block, Empty, Ended}
-use Rattle.wave_write.specs.Tapes.{Tape, SameFile}
+use Rattle.driver_words.specs.Tapes.{Tape, SameFile}
 use Rattle.driver_laws.specs.Drivers.{Driver, run, turn_of, frames_read, content_now, graph_now, has_tape, has_disk, overruns_on, underruns_on, bench_at, memory_in, block_in, HasOwnRows, HasOwnRings, HasPlayback}
 use Rattle.driver_laws.specs.Keeping.{AreOfCalls, Fits, Keeps, HasTape, HasTapeFront, played_so_far}
 use Rattle.driver_laws.specs.Playing.{adopted_now, moment_now}

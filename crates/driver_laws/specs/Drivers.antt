@@ -25,8 +25,8 @@ use Rattle.session_model.specs.State.{State, OpenClient, opening}
 use Rattle.session_model.specs.Transport.{Row}
 use Rattle.graph_word.specs.declared.view.TakenRow.{TakenRow}
 use Rattle.graph_word.specs.Publications.{IsFront, Reading}
-use Rattle.record_ring.specs.Rings.{Sending, Getting, items_of}
-use Rattle.wave_write.specs.Tapes.{Tape}
+use Rattle.driver_words.specs.Rings.{Sending, Getting, items_of}
+use Rattle.driver_words.specs.Tapes.{Tape}
 
 -- a client's memory, by its birth
 pub record Remembered : Type 0 where

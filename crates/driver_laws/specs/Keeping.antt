@@ -19,8 +19,8 @@ use Rattle.session_model.specs.Scripts.{Script, Planned, planned}
 use Rattle.session_model.specs.Soundness.{Apart}
 use Rattle.session_model.specs.Transport.{moment, row}
 use Rattle.graph_word.specs.declared.view.TakenRow.{TakenRow}
-use Rattle.record_ring.specs.Rings.{Sending, Getting}
-use Rattle.wave_write.specs.Tapes.{Tape, HasSamples, HasUnfinished}
+use Rattle.driver_words.specs.Rings.{Sending, Getting}
+use Rattle.driver_words.specs.Tapes.{Tape, HasSamples, HasUnfinished}
 use Rattle.driver_laws.specs.Drivers.{Driver, run, overruns_on, underruns_on, bench_at, memory_in}
 
 -- the changes are commands of calls of the script, each call taken at most once

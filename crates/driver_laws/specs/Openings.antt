@@ -4,7 +4,7 @@ use Rattle.std.specs.Prelude.{◌≡◌, ℕ, false, List, [], length, map, slic
 use Rattle.session_model.specs.Kinds.{Sound}
 use Rattle.session_model.specs.Scripts.{Script}
 use Rattle.session_model.specs.Transport.{first_row}
-use Rattle.record_ring.specs.Rings.{Sending, Getting}
+use Rattle.driver_words.specs.Rings.{Sending, Getting}
 use Rattle.driver_laws.specs.Drivers.{Driver, IsOwnDisk, IsOwnRing}
 
 -- a recorder's ring that nothing was put into, of the script's capacity

@@ -18,11 +18,10 @@ use Rattle.session_model.specs.Cycles.{Signals, Settled, edges_into, no_signals,
 use Rattle.session_model.specs.Driving.{kept_from}
 use Rattle.session_model.specs.Kinds.{Memory, first}
 use Rattle.session_model.specs.Rings.{RingBlock}
-use Rattle.session_model.specs.Samples.{below, interleaved, mix, sample, silence}
+use Rattle.session_model.specs.Samples.{below, interleaved, mix, sample, silence, channels_of}
 use Rattle.session_model.specs.State.{Connection, playback_port}
 use Rattle.session_model.specs.Transport.{next_row, shown, slow_numbers, timeout_of, active_master}
-use Rattle.record_ring.specs.Rings.{Getting}
-use Rattle.samples.specs.Channels.{channels_of}
+use Rattle.driver_words.specs.Rings.{Getting}
 use Rattle.driver_laws.specs.Drivers.{Driver, run, turn_of, content_now, graph_now, underruns_on, bench_at, memory_in}
 
 -- a course of the driver's script and scores, for what reads nothing else of a course

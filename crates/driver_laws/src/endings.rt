@@ -8,8 +8,8 @@ ghost use Rattle.session_model.specs.Disks.{IsBehindRing, IsSerial, Played, segm
 ghost use Rattle.session_model.specs.Playback.{played_back};
 ghost use Rattle.session_model.specs.Recorders.{IsAfterSegment, Lost, kept_before, recorded};
 ghost use Rattle.session_model.specs.Scripts.{turns};
-ghost use Rattle.record_ring.specs.Rings.{Getting, Sending};
-ghost use Rattle.disk_recorder.specs.Recordings.{samples_of_blocks};
+ghost use Rattle.driver_words.specs.Rings.{Getting, Sending};
+ghost use Rattle.session_model.specs.Rings.{samples_of_blocks};
 ghost use Rattle.driver_laws.specs.Keeping.{KeepsDisk, KeepsRing, kept_blocks, played_so_far};
 ghost use Rattle.driver_laws.specs.Segments.{cycles_before};
 

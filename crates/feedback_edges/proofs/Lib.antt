@@ -1,4 +1,4 @@
 pub mod NameLemmas
 mod RemarkSteps
 mod SearchLemmas
-mod TableLemmas
+pub mod TableLemmas

@@ -1,6 +1,7 @@
 //! A host of real files, step by step.
 
-use jack_host::{Failed, FailureKind, FileHost, FileSource, FileStore, Host, Source, Store};
+use host_files::{FailureKind, FileHost, FileSource, FileStore, Syncing};
+use jack_host::{Failed, Host, Source, Store};
 use std::alloc::{Alloc, Global};
 use std::fs;
 use std::fs::{File, Files};
@@ -39,6 +40,8 @@ pub enum Step {
     Done,
     /// The output that was made last can't go back, and that and why is the last failure.
     CannotDo(&'static str, FailureKind),
+    /// The output that was made last is given up.
+    GiveUp,
     /// No making and no writing failed so far.
     NothingFailed,
 }
@@ -68,7 +71,9 @@ impl<'a, R> Model for Folder<'a, R> {
 impl<'a, R: Alloc + Files<File = File> + Abort> Folder<'a, R> {
     /// A host with so many rooms, of which nothing is out.
     pub fn new(rt: &'a R, alloc: Global, rooms: usize) -> Folder<'a, R> {
-        let host = FileHost::new(alloc, rt, rooms).expect(rt, "memory");
+        let Ok(host) = FileHost::new(alloc, rt, rooms, Syncing::AtClose) else {
+            panic!(rt; "no memory");
+        };
         Folder {
             alloc,
             rt,
@@ -100,6 +105,7 @@ impl<'a, R: Alloc + Files<File = File> + Abort> Folder<'a, R> {
             Step::Put(place, bytes) => self.put(place, bytes.as_bytes()),
             Step::Done => self.done(),
             Step::CannotDo(name, kind) => self.cannot_do(name, kind),
+            Step::GiveUp => self.give_up(),
             Step::NothingFailed => self.nothing_failed(),
         }
     }
@@ -183,17 +189,22 @@ impl<'a, R: Alloc + Files<File = File> + Abort> Folder<'a, R> {
     }
 
     // Hands back the output that was made last.
-    fn give_back(&mut self) -> Result<(), Failed> {
+    fn hand_back(&mut self) -> Result<(), Failed> {
         let output = self.outputs.pop().expect(self.rt, "an output");
         self.host.done(output)
     }
 
     fn done(&mut self) {
-        self.give_back().expect(self.rt, "done");
+        self.hand_back().expect(self.rt, "done");
+    }
+
+    fn give_up(&mut self) {
+        let output = self.outputs.pop().expect(self.rt, "an output");
+        self.host.give_up(output);
     }
 
     fn cannot_do(&mut self, name: &str, kind: FailureKind) {
-        assert_eq!(self.rt; self.give_back(), Err(Failed));
+        assert_eq!(self.rt; self.hand_back(), Err(Failed));
         self.has_failed(name, kind);
     }
 

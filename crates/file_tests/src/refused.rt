@@ -1,7 +1,7 @@
 //! Files that are not made, since bytes would be lost.
 
 use crate::folder::{Folder, Step};
-use jack_host::FailureKind;
+use host_files::FailureKind;
 
 #[test]
 fn an_input_is_not_made_by_another_name(rt: HostRuntime) {

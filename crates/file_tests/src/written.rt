@@ -1,7 +1,8 @@
 //! What is written is read again.
 
 use crate::folder::{Folder, Step};
-use jack_host::{Sink, WriterSink};
+use host_files::WriterSink;
+use jack_host::Sink;
 use std::alloc::Alloc;
 use std::fs;
 use std::fs::{File, Files};

@@ -4,7 +4,7 @@
 --     rose-written      a fault of a file
 use Rattle.std.proofs.Common.{◌≡◌, ℕ, ◌≤◌, ◌⊎◌, inl, inr, Bool, false, List, Result, Ok, Err, is_ok, OnErr, OnOk, sym, ◌∙◌, arith, true≢false}
 use Rattle.std.specs.Prelude.{IsOk}
-use Rattle.jack_host.specs.Causes.{Adds, HasCause, Rose}
+use Rattle.jack_host.specs.Causes.{Adds, Rose}
 use Rattle.recorder_files.specs.Recorders.{Stored}
 use Rattle.session_run.proofs.PassedLemmas.{rose-mono}
 use Rattle.jack_control.specs.Files.{AreRaised, OneFailed}
@@ -31,18 +31,15 @@ rose-handed was now before more after earlier rose same adds is =
     let taken = adds.taken_up in
     omega (arith, rose, same, taken, is)
 
-failed-rose : {T E : Type 0} (r : Result T E) (before now : ℕ) → HasCause before now r → is_ok r ≡ false → Rose before now
-failed-rose (Ok x) before now cause is = absurd (true≢false is)
-failed-rose (Err e) before now cause is = cause.failed
+failed-rose : {T E : Type 0} (r : Result T E) (before now : ℕ) → OnErr r (Rose before now) → is_ok r ≡ false → Rose before now
+failed-rose (Ok x) before now failed is = absurd (true≢false is)
+failed-rose (Err e) before now failed is = failed
 
 -- a count rose when the files were made, a store of one had counted a fault, or one could not be handed back
-pub rose-written : {T E : Type 0} (r : Result T E) (stores : List Stored) (told : Bool) (old made done new sink sink_after : ℕ) (performed : Type 0) → told ≡ is_ok r → old ≤ made → HasCause made done r → AreRaised stores made done → new ≡ done
+pub rose-written : {T E : Type 0} (r : Result T E) (stores : List Stored) (told : Bool) (old made done new sink sink_after : ℕ) (performed : Type 0) → told ≡ is_ok r → old ≤ made → made ≤ done → OnErr r (Rose made done) → AreRaised stores made done → new ≡ done
     → (performed → Rose old made ⊎ OneFailed stores) → performed ⊎ (told ≡ false) ⊎ Rose sink sink_after → Rose old new ⊎ Rose sink sink_after
-rose-written r stores told old made done new sink sink_after performed told_is first handed raised same wrote fault = go fault
+rose-written r stores told old made done new sink sink_after performed told_is first last failed raised same wrote fault = go fault
   where
-    last : made ≤ done
-    last = handed.later
-
     late : Rose made done → Rose old new
     late rose = rose-mono old made done new first rose (omega (arith, same))
 
@@ -52,5 +49,5 @@ rose-written r stores told old made done new sink sink_after performed told_is f
 
     go : performed ⊎ (told ≡ false) ⊎ Rose sink sink_after → Rose old new ⊎ Rose sink sink_after
     go (inl is) = inl (early (wrote is))
-    go (inr (inl is)) = inl (late (failed-rose r made done handed (sym told_is ∙ is)))
+    go (inr (inl is)) = inl (late (failed-rose r made done failed (sym told_is ∙ is)))
     go (inr (inr rose)) = inr rose

@@ -1,97 +1,62 @@
 -- The files of a play, before it and behind it.
 --     apart-front, apart-take      names that are apart
---     touches-same, touches-after, touches-more      what is not touched
 --     handed, others-kept      of the files that were made, when they were handed back
 --     explained      an ended play
 --     cut      one that failed
-use Rattle.std.proofs.Common.{◌≡◌, ℕ, zero, suc, ◌<◌, ◌≤◌, ◌⊎◌, inl, inr, List, [], ◌∷◌, ◌++◌, length, map, take, drop, get_or, slice_get, Contains, Option, Some, None, IsNone, refl, sym, ◌∙◌, ap, ap₂, subst, arith, true≢false}
+use Rattle.std.proofs.Common.{◌≡◌, ℕ, zero, suc, ◌<◌, ◌≤◌, ◌⊎◌, inl, inr, ℤ, List, [], ◌∷◌, ◌++◌, length, map, take, drop, get_or, slice_get, Contains, Option, Some, None, IsNone, refl, sym, ◌∙◌, ap, ap₂, subst, arith}
 use Rattle.std.specs.Prelude.{IsSome}
 use Rattle.std.proofs.lemmas.Bool.{cases_lt}
 use Rattle.std.proofs.lemmas.List.{length-map, take-append-drop}
 use Rattle.std.proofs.lemmas.Option.{same_Some, slice_get-get_or}
+use Rattle.jack_types.specs.declared.files.Format.{Format}
 use Rattle.jack_host.specs.Bytes.{Gains}
-use Rattle.jack_host.specs.Files.{bytes_under, SameFiles}
-use Rattle.session_model.specs.Explanations.{Given, Printed}
+use Rattle.jack_host.specs.Files.{bytes_under, IsFrontOf, SameFiles}
+use Rattle.session_model.specs.Explanations.{Given, Printed, course_of, overruns_of}
 use Rattle.session_model.specs.Kinds.{Sound}
-use Rattle.session_model.specs.Serial.{serial_printed}
-use Rattle.session_model.specs.Soundness.{Apart}
+use Rattle.session_model.specs.Playback.{playback_format, played_back}
+use Rattle.session_model.specs.Recorders.{recorded, recorder_format}
+use Rattle.session_model.specs.Rings.{samples_of_blocks}
+use Rattle.session_model.specs.Serial.{serial_overruns, serial_printed}
 use Rattle.client_kinds.specs.Scores.{Score}
-use Rattle.session_laws.proofs.LoopLemmas.{Contains-cases, Contains-first, Contains-later}
+use Rattle.driver_words.specs.Tapes.{HasAnyFront}
+use Rattle.front_laws.proofs.FrontLemmas.{empty-front, front-left}
+use Rattle.session_laws.proofs.LoopFreeLemmas.{Contains-append_left}
 use Rattle.port_registry.proofs.PlaceLemmas.{Apart-place}
+use Rattle.driver_laws.specs.Keeping.{kept_blocks, played_so_far}
 use Rattle.recorder_files.specs.Recorders.{Stored}
 use Rattle.run_laws.proofs.PlaceLemmas.{front_there, some_at}
 use Rattle.run_laws.specs.Sessions.{IsGiven}
+use Rattle.serial_laws.specs.Faults.{serial_course_of}
 use Rattle.play_words.specs.Words.{Play}
 use Rattle.session_run.specs.Seen.{Parts, session_of}
-use Rattle.jack_control.specs.Files.{AreOut, IsHeld, Stand}
+use Rattle.jack_control.specs.Files.{AllStand, AreApart, AreOut, IsHeld, IsPart, IsWhole, Stand, Standing}
 use Rattle.play_inputs.specs.Inputs.{Files}
 use Rattle.jack_control.specs.Openings.{IsSessionOf}
 use Rattle.jack_control.specs.Performances.{Explain, HaveCut, HaveCutSoFar, HaveFronts, MadeSome, front_at, front_so_far}
 use Rattle.jack_control.specs.Plays.{AreMadeInOrder, Cuts, IsExplained, IsMadeOrKept, IsPlayCut, Plays, TouchesOnly, made_by}
+use Rattle.jack_control.proofs.FileLemmas.{some-told, touches-after, touches_same}
+use Rattle.jack_control.proofs.MadeLemmas.{made-touches}
 
 -- ---- names
 
-abbrev pub AreApart : List (List ℕ) → Type 0
-AreApart names = Apart (λ (name : List ℕ). name) names
-
-contains-front : {X : Type 0} (xs ys : List X) (x : X) → Contains xs x → Contains (xs ++ ys) x
-contains-front [] ys x there = absurd (let low = there.1 in omega (arith, low))
-contains-front (y ∷ xs) ys x there = go (Contains-cases y x xs there) (contains-front xs ys x)
-  where
-    go : (y ≡ x) ⊎ Contains xs x → (Contains xs x → Contains (xs ++ ys) x) → Contains (y ∷ xs ++ ys) x
-    go (inl same) rest = subst (λ z. Contains (y ∷ xs ++ ys) z) same (Contains-first y (xs ++ ys))
-    go (inr later) rest = Contains-later y x (xs ++ ys) (rest later)
-
 pub apart-front : (names others : List (List ℕ)) → AreApart (names ++ others) → AreApart names
 apart-front [] others apart = tt
-apart-front (name ∷ names) others apart = (λ other there. apart.0 other (contains-front names others other there), apart-front names others apart.1)
+apart-front (name ∷ names) others apart = (λ other there. apart.0 other (Contains-append_left names others other there), apart-front names others apart.1)
 
 pub apart-take : (many : ℕ) (names : List (List ℕ)) → AreApart names → AreApart (take many names)
 apart-take many names apart = apart-front (take many names) (drop many names) (subst (λ (whole : List (List ℕ)). AreApart whole) (sym (take-append-drop many names)) apart)
 
-contains-take : (many : ℕ) (names : List (List ℕ)) (name : List ℕ) → Contains (take many names) name → Contains names name
-contains-take many names name there = subst (λ (whole : List (List ℕ)). Contains whole name) (take-append-drop many names) (contains-front (take many names) (drop many names) name there)
-
--- ---- what is not touched
-
-pub touches-same : (a b : Option Files) (names : List (List ℕ)) → SameFiles a b → TouchesOnly a b names
-touches-same None None names same = tt
-touches-same None (Some b) names same = absurd same
-touches-same (Some a) None names same = absurd same
-touches-same (Some a) (Some b) names same = λ name other. same name
-
-pub touches-after : (a b c : Option Files) (names : List (List ℕ)) → TouchesOnly a b names → TouchesOnly b c names → TouchesOnly a c names
-touches-after None None None names first second = tt
-touches-after None None (Some c) names first second = absurd second
-touches-after None (Some b) c names first second = absurd first
-touches-after (Some a) None c names first second = absurd first
-touches-after (Some a) (Some b) None names first second = absurd second
-touches-after (Some a) (Some b) (Some c) names first second = λ name other. second name other ∙ first name other
-
-pub touches-more : (a b : Option Files) (many : ℕ) (names : List (List ℕ)) → TouchesOnly a b (take many names) → TouchesOnly a b names
-touches-more None None many names touches = tt
-touches-more None (Some b) many names touches = absurd touches
-touches-more (Some a) None many names touches = absurd touches
-touches-more (Some a) (Some b) many names touches = λ name other. touches name (λ there. other (contains-take many names name there))
-
 -- ---- handed back
 
-abbrev pub AllStand : Option Files → Option Files → List Stored → Type 0
-AllStand made behind stores = (names : List (List ℕ)) → AreOut made names stores → AreApart names → Stand made behind names stores
+pub handed : (P : Standing) (old made behind : Option Files) (names : List (List ℕ)) (stores : List Stored) → AreApart names → (some : MadeSome old made names stores) → AllStand P made behind stores → Stand P made behind (take some.made names) stores
+handed P old made behind names stores apart some stand = stand (take some.made names) some.out (apart-take some.made names apart)
 
-pub handed : (old made behind : Option Files) (names : List (List ℕ)) (stores : List Stored) → AreApart names → (some : MadeSome old made names stores) → AllStand made behind stores → Stand made behind (take some.made names) stores
-handed old made behind names stores apart some stand = stand (take some.made names) some.out (apart-take some.made names apart)
-
-pub others-kept : (old made behind new : Option Files) (names : List (List ℕ)) (stores : List Stored) → AreApart names → MadeSome old made names stores → AllStand made behind stores → SameFiles behind new → TouchesOnly old new names
+pub others-kept : (old made behind new : Option Files) (names : List (List ℕ)) (stores : List Stored) → AreApart names → MadeSome old made names stores → AllStand IsPart made behind stores → SameFiles behind new → TouchesOnly old new names
 others-kept old made behind new names stores apart some stand same =
-    touches-after old made new names (touches-more old made some.made names some.touches)
-    (touches-after made behind new names (touches-more made behind some.made names (handed old made behind names stores apart some stand).others) (touches-same behind new names same))
+    touches-after old made new names (made-touches old made some.made names some.touches)
+    (touches-after made behind new names (made-touches made behind some.made names (handed IsPart old made behind names stores apart some stand).others) (touches_same behind new names same))
 
 -- ---- ended
-
-some-told : (bytes : Option (List ℕ)) → IsSome bytes → (text : List ℕ) × (bytes ≡ Some text)
-some-told (Some text) is = (text, refl)
-some-told None is = absurd (true≢false (sym is))
 
 abbrev AllHeld : Files → List (List ℕ) → List Stored → Type 0
 AllHeld files names stores = (i : ℕ) (name : List ℕ) (store : Stored) → slice_get names i ≡ Some name → slice_get stores i ≡ Some store → IsHeld files name store
@@ -133,7 +98,7 @@ IsSerialOf sounding parts printed = (given : Given) → IsGiven (session_of soun
 
 module _ (sounding : Score → Sound) (scores : List Sound) (play : Play) (parts : Parts) (printed : Printed) (stores : List Stored) where
   plays : (files made behind new : Files) (out out_after : Option (List ℕ)) (report : List ℕ) → IsSessionOf sounding (Some files) scores play parts → AreOut (Some made) (made_by play) stores
-      → Stand (Some made) (Some behind) (made_by play) stores → SameFiles (Some behind) (Some new) → ExplainsAll sounding parts printed stores report → IsSerialOf sounding parts printed → Gains out out_after report → Plays files new out out_after scores play
+      → Stand IsWhole (Some made) (Some behind) (made_by play) stores → SameFiles (Some behind) (Some new) → ExplainsAll sounding parts printed stores report → IsSerialOf sounding parts printed → Gains out out_after report → Plays files new out out_after scores play
   plays files made behind new out out_after report is held stand same explains serial gains = go texts.0 texts.1
     where
       texts : (texts : List (List ℕ)) × (map (λ (store : Stored). store.bytes) stores ≡ map Some texts)
@@ -160,7 +125,7 @@ module _ (sounding : Score → Sound) (scores : List Sound) (play : Play) (parts
         report_is = gains;
       }
 
-  pub explained : (files old made behind new : Option Files) (out out_after : Option (List ℕ)) (report : List ℕ) → SameFiles files old → TouchesOnly old made (made_by play) → AreApart (made_by play) → AllStand made behind stores → SameFiles behind new
+  pub explained : (files old made behind new : Option Files) (out out_after : Option (List ℕ)) (report : List ℕ) → SameFiles files old → TouchesOnly old made (made_by play) → AreApart (made_by play) → AllStand IsWhole made behind stores → SameFiles behind new
       → IsSessionOf sounding files scores play parts → AreOut made (made_by play) stores → ExplainsAll sounding parts printed stores report → IsSerialOf sounding parts printed → Gains out out_after report → IsExplained files new out out_after scores play
   explained None old made behind new out out_after report first touches apart stand last is held explains serial gains = tt
   explained (Some files) None made behind new out out_after report first touches apart stand last is held explains serial gains = absurd first
@@ -180,26 +145,50 @@ none-there many names i name apart there high contains =
     let low = contains.1 in
     omega (arith, same, high, low)
 
-module _ (front : ℕ → Option (List ℕ) → Type 0) (names : List (List ℕ)) (stores : List Stored) (apart : AreApart names) (fronts : HaveFronts front stores) where
-  cut-at : (files old made behind new : Files) → SameFiles (Some files) (Some old) → (some : MadeSome (Some old) (Some made) names stores) → Stand (Some made) (Some behind) (take some.made names) stores → SameFiles (Some behind) (Some new)
+-- what holds of a store's bytes holds of the first of them, and of none
+record IsClosed (front : Option (List ℕ) → Type 0) : Type 0 where
+  left : (told : Option (List ℕ)) (left : List ℕ) → front told → IsFrontOf told left → front (Some left)
+  none : front (Some [])
+
+fronts-closed : (format : Format) (samples : List ℤ) → IsClosed (HasAnyFront format samples)
+fronts-closed format samples = record { left = front-left format samples; none = empty-front format samples }
+
+closed-at : (given : Given) (place : ℕ) → IsClosed (front_at given place)
+closed-at given zero = fronts-closed (playback_format (serial_course_of given)) (played_back (serial_course_of given))
+closed-at given (suc recorder) =
+    fronts-closed (recorder_format (serial_course_of given) recorder) (recorded (serial_course_of given) (serial_overruns given.script recorder) recorder)
+
+closed-so_far : (given : Given) (printed : Printed) (kept place : ℕ) → IsClosed (front_so_far given printed kept place)
+closed-so_far given printed kept zero = fronts-closed (playback_format (course_of given printed)) (played_so_far (course_of given printed) kept)
+closed-so_far given printed kept (suc recorder) =
+    fronts-closed (recorder_format (course_of given printed) recorder) (samples_of_blocks (kept_blocks (course_of given printed) (overruns_of printed recorder) recorder kept))
+
+module _ (front : ℕ → Option (List ℕ) → Type 0) (names : List (List ℕ)) (stores : List Stored) (apart : AreApart names) (closed : (place : ℕ) → IsClosed (front place)) (fronts : HaveFronts front stores) where
+  cut-at : (files old made behind new : Files) → SameFiles (Some files) (Some old) → (some : MadeSome (Some old) (Some made) names stores) → Stand IsPart (Some made) (Some behind) (take some.made names) stores → SameFiles (Some behind) (Some new)
       → (place : ℕ) (name : List ℕ) → slice_get names place ≡ Some name → IsMadeOrKept (front place) (length (take some.made names)) place files new name
   cut-at files old made behind new first some stand last place name there = go (cases_lt place (length (take some.made names)))
     where
+      -- its store was handed back
+      made-one : (store : Stored) → place < length (take some.made names) → slice_get stores place ≡ Some store → IsSome (bytes_under made name) → (bytes_under made name ≡ Some []) ⊎ (bytes_under made name ≡ bytes_under old name)
+          → IsPart store (bytes_under made name) (bytes_under behind name) → IsMadeOrKept (front place) (length (take some.made names)) place files new name
+      made-one store low at found empties (inr (left, part, is)) = inl (low, left, last name ∙ is, (closed place).left store.bytes left (fronts place store at) part)
+      made-one store low at found (inl empty) (inl same) = inl (low, [], last name ∙ same ∙ empty, (closed place).none)
+      made-one store low at found (inr kept) (inl same) = inr (λ _. subst (λ (now : Option (List ℕ)). IsSome now) (kept ∙ first name) found, last name ∙ same ∙ kept ∙ first name)
+
       go : (place < length (take some.made names)) ⊎ (length (take some.made names) ≤ place) → IsMadeOrKept (front place) (length (take some.made names)) place files new name
       go (inr high) =
           let other : Contains (take some.made names) name → ⊥ = none-there some.made names place name apart there high in
-          inr (high, last name ∙ stand.others name other ∙ some.touches name other ∙ first name)
+          inr (λ low. absurd (omega (arith, low, high)), last name ∙ stand.others name other ∙ some.touches name other ∙ first name)
       go (inl low) =
           let named = some_at (take some.made names) place low in
           let same : named.0 ≡ name = same_Some named.0 name (sym (front_there some.made names place named.0 named.1) ∙ there) in
           let at : slice_get (take some.made names) place ≡ Some name = named.1 ∙ ap Some same in
           let store = some_at stores place (subst (λ n. place < n) (sym some.out.as_many) low) in
           let held : IsHeld made name store.0 = some.out.each place name store.0 at store.1 in
-          let told = some-told store.0.bytes held.tells in
-          inl (low, told.0, last name ∙ stand.each place name store.0 at store.1 ∙ told.1, subst (λ (bytes : Option (List ℕ)). front place bytes) told.1 (fronts place store.0 store.1))
+          made-one store.0 low store.1 held.there (some.empties name) (stand.each place name store.0 at store.1)
 
 module _ (sounding : Score → Sound) (scores : List Sound) (play : Play) (parts : Parts) (printed : Printed) (stores : List Stored) where
-  cuts : (files old made behind new : Files) → SameFiles (Some files) (Some old) → AreApart (made_by play) → MadeSome (Some old) (Some made) (made_by play) stores → AllStand (Some made) (Some behind) stores → SameFiles (Some behind) (Some new)
+  cuts : (files old made behind new : Files) → SameFiles (Some files) (Some old) → AreApart (made_by play) → MadeSome (Some old) (Some made) (made_by play) stores → AllStand IsPart (Some made) (Some behind) stores → SameFiles (Some behind) (Some new)
       → IsSessionOf sounding (Some files) scores play parts → ((given : Given) → IsGiven (session_of sounding parts) given → given.disks ≡ [] → HaveCut given printed stores) → Cuts files new scores play
   cuts files old made behind new first apart some stand last is cut = record {
     script_bytes = is.given.0;
@@ -210,8 +199,8 @@ module _ (sounding : Score → Sound) (scores : List Sound) (play : Play) (parts
     input = is.given.2.2.1;
     serial = λ none. record {
       made = made_so_many;
-      playback = at (front_at given) ((cut given is.given.2.2.2 is.given.2.2.1.no_disk).serial none) zero play.playback refl;
-      records = λ recorder name there. at (front_at given) ((cut given is.given.2.2.2 is.given.2.2.1.no_disk).serial none) (suc recorder) name there;
+      playback = at (front_at given) (closed-at given) ((cut given is.given.2.2.2 is.given.2.2.1.no_disk).serial none) zero play.playback refl;
+      records = λ recorder name there. at (front_at given) (closed-at given) ((cut given is.given.2.2.2 is.given.2.2.1.no_disk).serial none) (suc recorder) name there;
     };
     so_far = λ threads.
         let far : HaveCutSoFar given printed stores = (cut given is.given.2.2.2 is.given.2.2.1.no_disk).so_far threads in
@@ -221,8 +210,8 @@ module _ (sounding : Score → Sound) (scores : List Sound) (play : Play) (parts
           came = far.came;
           fronts = record {
             made = made_so_many;
-            playback = at (front_so_far given printed far.kept) far.fronts zero play.playback refl;
-            records = λ recorder name there. at (front_so_far given printed far.kept) far.fronts (suc recorder) name there;
+            playback = at (front_so_far given printed far.kept) (closed-so_far given printed far.kept) far.fronts zero play.playback refl;
+            records = λ recorder name there. at (front_so_far given printed far.kept) (closed-so_far given printed far.kept) far.fronts (suc recorder) name there;
           };
         };
   }
@@ -233,15 +222,15 @@ module _ (sounding : Score → Sound) (scores : List Sound) (play : Play) (parts
       made_so_many : ℕ
       made_so_many = length (take some.made (made_by play))
 
-      at : (front : ℕ → Option (List ℕ) → Type 0) → HaveFronts front stores → (place : ℕ) (name : List ℕ) → slice_get (made_by play) place ≡ Some name → IsMadeOrKept (front place) made_so_many place files new name
-      at front fronts place name there =
-          cut-at front (made_by play) stores apart fronts files old made behind new first some (handed (Some old) (Some made) (Some behind) (made_by play) stores apart some stand) last place name there
+      at : (front : ℕ → Option (List ℕ) → Type 0) → ((place : ℕ) → IsClosed (front place)) → HaveFronts front stores → (place : ℕ) (name : List ℕ) → slice_get (made_by play) place ≡ Some name → IsMadeOrKept (front place) made_so_many place files new name
+      at front closed fronts place name there =
+          cut-at front (made_by play) stores apart closed fronts files old made behind new first some (handed IsPart (Some old) (Some made) (Some behind) (made_by play) stores apart some stand) last place name there
 
-  pub cut : (files old made behind new : Option Files) → SameFiles files old → AreApart (made_by play) → MadeSome old made (made_by play) stores → AllStand made behind stores → SameFiles behind new
+  pub cut : (files old made behind new : Option Files) → SameFiles files old → AreApart (made_by play) → MadeSome old made (made_by play) stores → AllStand IsPart made behind stores → SameFiles behind new
       → IsSessionOf sounding files scores play parts → ((given : Given) → IsGiven (session_of sounding parts) given → given.disks ≡ [] → HaveCut given printed stores) → IsPlayCut files new scores play
   cut None old made behind new first apart some stand last is fronts = tt
   cut (Some files) None made behind new first apart some stand last is fronts = absurd first
   cut (Some files) (Some old) None behind new first apart some stand last is fronts = absurd some.touches
-  cut (Some files) (Some old) (Some made) None new first apart some stand last is fronts = absurd (handed (Some old) (Some made) None (made_by play) stores apart some stand).others
+  cut (Some files) (Some old) (Some made) None new first apart some stand last is fronts = absurd (handed IsPart (Some old) (Some made) None (made_by play) stores apart some stand).others
   cut (Some files) (Some old) (Some made) (Some behind) None first apart some stand last is fronts = absurd last
   cut (Some files) (Some old) (Some made) (Some behind) (Some new) first apart some stand last is fronts = inr (cuts files old made behind new first apart some stand last is fronts)

@@ -25,8 +25,9 @@ use Rattle.session_model.specs.WaveFiles.{wave_text}
 use Rattle.session_model.specs.Kinds.{Sound}
 use Rattle.client_kinds.specs.Scores.{Score}
 use Rattle.session_laws.proofs.ActivationLemmas.{get_or-map_below}
-use Rattle.wave_write.specs.Tapes.{HasFront, IsCut}
-use Rattle.disk_recorder.specs.Recordings.{samples_of_blocks}
+use Rattle.driver_words.specs.Tapes.{HasAnyFront, HasFront, IsCut}
+use Rattle.session_model.specs.Rings.{samples_of_blocks}
+use Rattle.front_laws.proofs.FrontLemmas.{any-front}
 use Rattle.driver_laws.specs.Drivers.{overruns_on, run, underruns_on}
 use Rattle.driver_laws.specs.Keeping.{kept_blocks, played_so_far}
 use Rattle.recorder_files.specs.Recorders.{Recording, Stored, held_in, held_or}
@@ -106,7 +107,9 @@ module _ (sounding : Score → Sound) (front : ℕ → Option (List ℕ) → Typ
       (ap (λ (told : List (Option (List ℕ))). slice_get told place) (sym (told-stores sounding parts all)) ∙ mapped_there (λ (store : Stored). store.bytes) (stores_in parts) place store is)
 
 pub fronts-told : (sounding : Score → Sound) (parts : Parts) (given : Given) → AreHeld parts → StandsInSerial given (told_of sounding parts) → HaveFronts (front_at given) (stores_in parts)
-fronts-told sounding parts given all stands = fronts-held sounding (front_at given) parts all stands.playback stands.records
+fronts-told sounding parts given all stands =
+    fronts-held sounding (front_at given) parts all (any-front (playback_format (serial_course_of given)) (played_back (serial_course_of given)) (told_of sounding parts).playback_file stands.playback)
+    (λ recorder file there. any-front (recorder_format (serial_course_of given) recorder) (recorded (serial_course_of given) (serial_overruns given.script recorder) recorder) file (stands.records recorder file there))
 
 -- the overruns that the report prints of a recorder
 printed-overruns : (session : Session) (recorder : ℕ) → recorder < length session.script.header.recorders → overruns_of (printed_of session) recorder ≡ overruns_on session.driver.overruns recorder
@@ -114,17 +117,23 @@ printed-overruns session recorder low = get_or-map_below (overruns_on session.dr
 
 pub fronts-so_far : (sounding : Score → Sound) (parts : Parts) (given : Given) (kept : ℕ) → AreHeld parts → length parts.recorders ≡ length parts.gear.script.header.recorders → StandsSoFar kept (told_of sounding parts) given
     → HaveFronts (front_so_far given (printed_of (session_of sounding parts)) kept) (stores_in parts)
-fronts-so_far sounding parts given kept all many stands = fronts-held sounding (front_so_far given (printed_of (session_of sounding parts)) kept) parts all stands.playback each
+fronts-so_far sounding parts given kept all many stands =
+    fronts-held sounding (front_so_far given (printed_of session) kept) parts all
+    (any-front (playback_format (course_in given session)) (played_so_far (course_in given session) kept) (told_of sounding parts).playback_file stands.playback) each
   where
-    each : (recorder : ℕ) (file : Option (List ℕ)) → slice_get (told_of sounding parts).record_files recorder ≡ Some file → front_so_far given (printed_of (session_of sounding parts)) kept (suc recorder) file
+    session : Session
+    session = session_of sounding parts
+
+    each : (recorder : ℕ) (file : Option (List ℕ)) → slice_get (told_of sounding parts).record_files recorder ≡ Some file → front_so_far given (printed_of session) kept (suc recorder) file
     each recorder file there =
         let low : recorder < length parts.gear.script.header.recorders = subst (λ n. recorder < n) (length-map parts.recorders (λ (r : Recording). bytes_of (held_in r)) ∙ many) (slice_get_within (told_of sounding parts).record_files recorder file there) in
-        subst (λ (overruns : List Overrun). HasFront (recorder_format (course_in given (session_of sounding parts)) recorder) (samples_of_blocks (kept_blocks (course_in given (session_of sounding parts)) overruns recorder kept)) file)
-        (sym (printed-overruns (session_of sounding parts) recorder low)) (stands.records recorder file there)
+        any-front (recorder_format (course_in given session) recorder) (samples_of_blocks (kept_blocks (course_in given session) (overruns_of (printed_of session) recorder) recorder kept)) file
+        (subst (λ (overruns : List Overrun). HasFront (recorder_format (course_in given session) recorder) (samples_of_blocks (kept_blocks (course_in given session) overruns recorder kept)) file)
+        (sym (printed-overruns session recorder low)) (stands.records recorder file there))
 
-front-begun : (format of : Format) (samples : List ℤ) (told : Option (List ℕ)) → format ≡ of → IfSome told (IsCut format) → HasFront of samples told
+front-begun : (format of : Format) (samples : List ℤ) (told : Option (List ℕ)) → format ≡ of → IfSome told (IsCut format) → HasAnyFront of samples told
 front-begun format of samples None same cut = tt
-front-begun format of samples (Some bytes) same cut = inl (subst (λ (f : Format). IsCut f bytes) same cut)
+front-begun format of samples (Some bytes) same cut = any-front of samples (Some bytes) (inl (subst (λ (f : Format). IsCut f bytes) same cut))
 
 pub fronts-begun : (sounding : Score → Sound) (parts : Parts) (stores : List Stored) → AreFronts parts stores → (given : Given) → IsGiven (session_of sounding parts) given → HaveFronts (front_at given) stores
 fronts-begun sounding parts stores begun given is zero store there =

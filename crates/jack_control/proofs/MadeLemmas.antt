@@ -5,7 +5,7 @@
 --     made-count, made-all      how many there are
 --     made-fronts, made-touches      what their stores hold, and which names were touched
 --     IsUnmade ..      what stands where the next was not made, or failed when it was attached
---     left-out, left-fronts, left-cause, left-same      what is left then
+--     left-out, left-empties, left-fronts, left-cause, left-rest      what is left then
 use Rattle.std.proofs.Common.{◌≡◌, ℕ, zero, suc, ◌+◌, ◌<◌, ◌≤◌, List, [], ◌∷◌, ◌++◌, length, map, filter_map, take, slice_get, Option, Some, None, Ok, Err, inl, inr, ◌⊎◌, refl, sym, ◌∙◌, ap, subst, arith, append-nil, length-append, length-take-le, take_all}
 use Rattle.std.proofs.Math.Seq.{take-length}
 use Rattle.std.proofs.lemmas.Bool.{cases_lt}
@@ -14,8 +14,8 @@ use Rattle.std.specs.Prelude.{IfSome, OnErr, OnOk, Result, slice_index_or}
 use Rattle.jack_types.specs.Recorders.{no_format}
 use Rattle.jack_types.specs.declared.files.Format.{Format}
 use Rattle.jack_host.specs.Causes.{Rose}
-use Rattle.jack_host.specs.Files.{Replaces, SameFiles}
-use Rattle.session_run.specs.Seen.{Gear}
+use Rattle.jack_host.specs.Files.{Makes, SameFiles}
+use Rattle.session_run.specs.Seen.{Gear, playback_format, Parts, stores_in}
 use Rattle.recorder_files.specs.Recorders.{Recording, Stored, held_in, held_or, stored_of}
 use Rattle.run_laws.proofs.PlaceLemmas.{mapped_there}
 use Rattle.session_laws.proofs.ListLemmas.{slice_get-map}
@@ -23,14 +23,12 @@ use Rattle.session_model.specs.Samples.{bytes_of as sample_bytes}
 use Rattle.session_model.specs.WaveFiles.{opening_text}
 use Rattle.session_model.specs.Kinds.{Sound}
 use Rattle.client_kinds.specs.Scores.{Score}
-use Rattle.session_run.specs.Seen.{playback_format}
-use Rattle.session_run.specs.Seen.{Parts, stores_in}
 use Rattle.session_run.specs.Standings.{IsAttaching, IsBegun, format_at, format_next}
-use Rattle.wave_write.specs.Tapes.{IsCut, Tape}
-use Rattle.jack_control.specs.Files.{AreFronts, AreOut, IsOut, KeepsRest, MakesOne, OneFailed}
+use Rattle.driver_words.specs.Tapes.{IsCut, Tape}
+use Rattle.jack_control.specs.Files.{AreFronts, AreOut, Empties, IsOut, KeepsRest, MakesOne, OneFailed}
 use Rattle.play_inputs.specs.Inputs.{Files}
 use Rattle.jack_control.specs.Plays.{TouchesOnly}
-use Rattle.jack_control.proofs.FileLemmas.{out-kept, out_same, touches-more, touches-wider, touches_none, touches_same}
+use Rattle.jack_control.proofs.FileLemmas.{empties-made, empties-none, empties_same, out-kept, out_same, touches-after, touches-made, touches-more, touches-wider, touches_none, touches_same}
 use Rattle.jack_control.proofs.NameLemmas.{Contains-front, last_or}
 
 pub on_ok : {T E P : Type 0} → (r : Result T E) → P → OnOk r P
@@ -114,15 +112,15 @@ module _ (sounding : Score → Sound) (parts : Parts) (is : IsAttaching sounding
 
 -- ---- stores that are out
 
-pub out-more : (a b : Option Files) (names : List (List ℕ)) (name bytes : List ℕ) (stores : List Stored) (back : Stored) → AreOut a names stores → Replaces a b name bytes → IsOut b name back
+pub out-more : (a b : Option Files) (names : List (List ℕ)) (name : List ℕ) (stores : List Stored) (back : Stored) → AreOut a names stores → Makes a b name → IsOut b name back
     → AreOut b (names ++ name ∷ []) (stores ++ back ∷ [])
-out-more a b names name bytes stores back are r is = record {
+out-more a b names name stores back are makes is = record {
   as_many = length-append stores (back ∷ []) ∙ ap (λ n. n + 1) are.as_many ∙ sym (length-append names (name ∷ []));
   each = λ i own store n s. go i own store (last_or names name i own n) (last_or stores back i store s);
 }
   where
     go : (i : ℕ) (own : List ℕ) (store : Stored) → (slice_get names i ≡ Some own) ⊎ ((i ≡ length names) × (name ≡ own)) → (slice_get stores i ≡ Some store) ⊎ ((i ≡ length stores) × (back ≡ store)) → IsOut b own store
-    go i own store (inl n) (inl s) = out-kept a b own store name bytes (are.each i own store n s) r
+    go i own store (inl n) (inl s) = out-kept a b own store name (are.each i own store n s) makes
     go i own store (inl n) (inr s) = let low = slice_get_within names i own n in let at = s.0 in let many = are.as_many in absurd (omega (arith, low, at, many))
     go i own store (inr n) (inl s) = let low = slice_get_within stores i store s in let at = n.0 in let many = are.as_many in absurd (omega (arith, low, at, many))
     go i own store (inr n) (inr s) = subst (λ (x : List ℕ). IsOut b x store) n.1 (subst (λ (x : Stored). IsOut b name x) s.1 is)
@@ -144,6 +142,7 @@ pub record HaveMade (sounding : Score → Sound) (files now : Option Files) (nam
   pub attached : parts.attached ≡ length names
   pub out : AreOut now names (stores_in parts)
   pub others : TouchesOnly files now names
+  pub empties : Empties files now
   pub rest : KeepsRest old parts
 
 pub made-none : (sounding : Score → Sound) (files : Option Files) (old : Parts) → IsAttaching sounding old → old.attached ≡ 0 → stores_in old ≡ [] → HaveMade sounding files files [] old old
@@ -152,6 +151,7 @@ made-none sounding files old is first none = record {
   attached = first;
   out = record { as_many = ap (λ stores. length stores) none; each = λ i name store n s. absurd (none-some name n) };
   others = touches_none files [];
+  empties = empties-none files;
   rest = record { desk = refl; gear = refl; as_many = refl };
 }
 
@@ -160,8 +160,9 @@ pub made-more : (sounding : Score → Sound) (files a b : Option Files) (names :
 made-more sounding files a b names name old parts after made is more one rest = record {
   attaching = is;
   attached = more ∙ ap suc made.attached ∙ (let long = length-append names (name ∷ []) in omega (arith, long));
-  out = subst (AreOut b (names ++ name ∷ [])) (sym one.stores) (out-more a b names name [] (stores_in parts) one.back made.out one.made one.out);
-  others = touches-more files a b names name [] made.others one.made;
+  out = subst (AreOut b (names ++ name ∷ [])) (sym one.stores) (out-more a b names name (stores_in parts) one.back made.out one.made one.out);
+  others = touches-more files a b names name made.others (touches-made a b name one.made);
+  empties = empties-made files a b name made.empties one.made;
   rest = rest-then old parts after made.rest rest;
 }
 
@@ -194,14 +195,18 @@ module _ (sounding : Score → Sound) (files a b : Option Files) (names : List (
   left-out all n are more (inl same) = (
     n,
     subst (λ (xs : List (List ℕ)). AreOut b xs (stores_in after)) (sym are) (subst (λ (p : Parts). AreOut b names (stores_in p)) (sym same.1) (all_same a b names (stores_in parts) made.out same.0)),
-    subst (TouchesOnly files b) (sym are) (touches_same files a b names made.others same.0),
+    subst (TouchesOnly files b) (sym are) (touches-after files a b names made.others (touches_same a b names same.0)),
   )
   left-out all n are more (inr made_one) =
       let one = made_one.0 in (
         suc n,
-        subst (λ (xs : List (List ℕ)). AreOut b xs (stores_in after)) (sym more) (subst (AreOut b (names ++ name ∷ [])) (sym one.stores) (out-more a b names name [] (stores_in parts) one.back made.out one.made one.out)),
-        subst (TouchesOnly files b) (sym more) (touches-more files a b names name [] made.others one.made),
+        subst (λ (xs : List (List ℕ)). AreOut b xs (stores_in after)) (sym more) (subst (AreOut b (names ++ name ∷ [])) (sym one.stores) (out-more a b names name (stores_in parts) one.back made.out one.made one.out)),
+        subst (TouchesOnly files b) (sym more) (touches-more files a b names name made.others (touches-made a b name one.made)),
       )
+
+  pub left-empties : IsUnmade a b name parts after before faults → Empties files b
+  left-empties (inl same) = empties_same files a b made.empties same.0
+  left-empties (inr made_one) = empties-made files a b name made.empties made_one.0.made
 
   last-front : (back : Stored) → IfSome back.bytes (IsCut (format_next parts)) → AreFronts old (stores_in parts ++ back ∷ [])
   last-front back cut i store there = go (last_or (stores_in parts) back i store there)

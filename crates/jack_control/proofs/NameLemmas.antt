@@ -1,6 +1,6 @@
 -- Names in a list, and what stands at the places of lists.
 --     front-next, front-more      one name more is in front
---     Contains-last      the last is in the list
+--     Contains-last, Contains-one      the last is in the list, and one name alone
 --     Contains-front      what is in front is in the list
 --     last_or      what stands at a place stood there before the last was put, or is the last
 --     differ      names that are not equal
@@ -28,6 +28,16 @@ module _ {X : Type 0} where
   pub Contains-last : (xs : List X) (x : X) → Contains (xs ++ x ∷ []) x
   Contains-last [] x = Contains-first x []
   Contains-last (y ∷ xs) x = Contains-later y x (xs ++ x ∷ []) (Contains-last xs x)
+
+  pub Contains-one : (x y : X) → Contains (x ∷ []) y → x ≡ y
+  Contains-one x y h = go (Contains-cases x y [] h)
+    where
+      none : {n : ℕ} → n < 0 → ⊥
+      none low = omega (arith, low)
+
+      go : (x ≡ y) ⊎ Contains [] y → x ≡ y
+      go (inl same) = same
+      go (inr there) = absurd (none there.1)
 
   pub Contains-front : (n : ℕ) (xs : List X) (x : X) → Contains (take n xs) x → Contains xs x
   Contains-front zero xs x h = absurd (none h.1)

@@ -36,7 +36,7 @@ use Rattle.session_run.specs.Faults.{Read, Write}
 use Rattle.session_run.specs.Standings.{IsAttaching}
 use Rattle.play_inputs.specs.declared.status.Status.{Status}
 use Rattle.play_inputs.specs.declared.status.Status.TheVariants.{ReadFault, WriteFault}
-use Rattle.jack_control.specs.Files.{AreFronts, AreOut, IsOut, OneFailed}
+use Rattle.jack_control.specs.Files.{AreFronts, AreOut, Empties, IsOut, OneFailed}
 use Rattle.play_inputs.specs.Inputs.{Files}
 use Rattle.jack_control.specs.Performances.{Explain, HaveCut, MadeSome, status_of_session}
 use Rattle.jack_control.specs.Plays.{TouchesOnly}
@@ -136,14 +136,15 @@ pub record MadeAll (sounding : Score → Sound) (old new : Option Files) (names 
   pub ready : IsAttaching sounding after
   pub out : AreOut new names (stores_in after)
   pub touches : TouchesOnly old new names
+  pub empties : Empties old new
   pub many : length before.recorders ≡ length records
   pub as_many : length after.recorders ≡ length before.recorders
 
 pub made-all : (sounding : Score → Sound) {T E : Type 0} (r : Result T E) (old new : Option Files) (names records : List (List ℕ)) (before after : Parts) → false ≡ is_err r → length names ≡ suc (length records)
-    → OnOk r (IsAttaching sounding after × (after.attached ≡ suc (length after.recorders)) × AreOut new names (stores_in after)) → TouchesOnly old new names → length before.recorders ≡ length records → length after.recorders ≡ length before.recorders
+    → OnOk r (IsAttaching sounding after × (after.attached ≡ suc (length after.recorders)) × AreOut new names (stores_in after)) → TouchesOnly old new names → Empties old new → length before.recorders ≡ length records → length after.recorders ≡ length before.recorders
     → MadeAll sounding old new names records before after
-made-all sounding (Ok x) old new names records before after is names_are made touches many as_many = record { names_are = names_are; ready = made.0; out = made.2; touches = touches; many = many; as_many = as_many }
-made-all sounding (Err e) old new names records before after is names_are made touches many as_many = absurd (true≢false (sym is))
+made-all sounding (Ok x) old new names records before after is names_are made touches empties many as_many = record { names_are = names_are; ready = made.0; out = made.2; touches = touches; empties = empties; many = many; as_many = as_many }
+made-all sounding (Err e) old new names records before after is names_are made touches empties many as_many = absurd (true≢false (sym is))
 
 module _ (sounding : Score → Sound) (old new : Option Files) (names records : List (List ℕ)) (before after : Parts) (made : MadeAll sounding old new names records before after) where
   pub all-held : AreHeld after
@@ -158,6 +159,7 @@ module _ (sounding : Score → Sound) (old new : Option Files) (names records : 
       made = length names;
       out = subst (λ (done : List (List ℕ)). AreOut new done (stores_in later)) (sym all) (out-behind new names (stores_in after) (stores_in later) made.out goes);
       touches = subst (λ (done : List (List ℕ)). TouchesOnly old new done) (sym all) made.touches;
+      empties = made.empties;
     }
       where
         all : take (length names) names ≡ names

@@ -17,7 +17,7 @@ use Rattle.session_model.specs.Serial.{serial, serial_printed}
 use Rattle.session_model.specs.WaveFiles.{IsWave}
 use Rattle.session_model.specs.WaveOpening.{Opened, opened, wave_in}
 use Rattle.client_kinds.specs.Scores.{Score}
-use Rattle.session_laws.proofs.WaveFaults.{wave-same}
+use Rattle.wave_laws.proofs.WaveFaults.{wave-same}
 use Rattle.play_words.specs.Words.{Play}
 use Rattle.rehearsals.specs.Made.{Made}
 use Rattle.session_run.specs.Seen.{Parts}

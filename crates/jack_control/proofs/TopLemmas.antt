@@ -3,7 +3,6 @@ use Rattle.std.proofs.Common.{◌≡◌, ◌∙◌, ℕ, List, Some, None, subst
 use Rattle.std.specs.Prelude.{Option}
 use Rattle.jack_types.specs.declared.replies.Row.{Row}
 use Rattle.check_sights.specs.declared.sights.Sight.{Sight}
-use Rattle.jack_host.specs.Files.{SameFiles}
 use Rattle.session_model.specs.Explanations.{Given}
 use Rattle.session_model.specs.Kinds.{Sound}
 use Rattle.client_kinds.specs.Scores.{Score}
@@ -16,17 +15,7 @@ use Rattle.play_inputs.specs.declared.status.Status.TheVariants.{Words, Wrong}
 use Rattle.play_inputs.specs.Answers.{IfInput, PlayStatus}
 use Rattle.jack_control.specs.Rehearsals.{IsRehearsed}
 use Rattle.jack_control.specs.Openings.{IsSessionOf}
-use Rattle.jack_control.specs.Plays.{TouchesOnly}
 use Rattle.play_inputs.proofs.InputLemmas.{if_bytes_map}
-
--- what is touched behind reading is touched in all
-pub touches-after : (a b c : Option Files) (names : List (List ℕ)) → SameFiles a b → TouchesOnly b c names → TouchesOnly a c names
-touches-after None None None names same touched = tt
-touches-after None None (Some c) names same touched = absurd touched
-touches-after None (Some b) c names same touched = absurd same
-touches-after (Some a) None c names same touched = absurd same
-touches-after (Some a) (Some b) None names same touched = absurd touched
-touches-after (Some a) (Some b) (Some c) names same touched = λ name other. touched name other ∙ same name
 
 -- what a session was opened with
 pub input-of : (sounding : Score → Sound) (files : Option Files) (scores : List Sound) (play : Play) (parts : Parts) → IsSessionOf sounding files scores play parts → IfInput files scores play

@@ -41,7 +41,8 @@ fn status_of(fault: SessionFault) -> Status
     }
 }
 
-/// Makes the files, runs the session and ends it. However that goes, the stores that are out have fronts of their files.
+/// Makes the files, runs the session and ends it. However that goes, the stores that are out have fronts of their files. Answers
+/// also whether these are wanted: they are not where one of them could not be made.
 pub(crate) fn perform<H: Host, G: Guest + Send, T: Threads + Sync, R: Wait + Sync, A: Gate>(
     threads: &T,
     wait: &R,
@@ -49,12 +50,13 @@ pub(crate) fn perform<H: Host, G: Guest + Send, T: Threads + Sync, R: Wait + Syn
     names: &Names<'_>,
     host: &mut H,
     mut session: Session<H::In, H::Out, G>,
-) -> (Session<H::In, H::Out, G>, Result<(), Status>)
+) -> (Session<H::In, H::Out, G>, Result<(), Status>, bool)
     requires out { H.lent host.old < 950 }
     requires attaching { IsAttaching G.sound session × (session.attached ≡ 0) × (stores_in session ≡ []) }
     requires recorders { length session.recorders ≡ length names.now.records }
     requires apart { Apart (λ (name : List ℕ). name) (made_by names.now) }
     ensures ended { OnOk result.1 (HasEnded G.sound result.0) }
+    ensures wanted { OnOk result.1 (IsTrue result.2) }
     ensures explained { OnOk result.1 ((given : Given) → IsGiven (session_of G.sound session) given → given.disks ≡ [] → Explain given (printed_of (session_of G.sound result.0)) (stores_in result.0) (text_in (session_of G.sound result.0))) }
     ensures serial { OnOk result.1 ((given : Given) → IsGiven (session_of G.sound session) given → given.disks ≡ [] → IsNone given.script.header.threads → printed_of (session_of G.sound result.0) ≡ serial_printed given) }
     ensures history { OnOk result.1 (IsNone session.gear.script.header.threads → result.0.desk.history ≡ (serial session.gear.script).history) }
@@ -75,16 +77,16 @@ pub(crate) fn perform<H: Host, G: Guest + Send, T: Threads + Sync, R: Wait + Syn
     all_is_played_back();
     blocks_kept_are_recorded();
     if make_files(host, names, &mut session).is_err() {
-        return (session, Err(Status::WriteFault));
+        return (session, Err(Status::WriteFault), false);
     }
     let (mut session, ran) = session.run(threads, wait, gate);
     if let Err(fault) = ran {
-        return (session, Err(status_of(fault)));
+        return (session, Err(status_of(fault)), true);
     }
     if let Err(fault) = session.end() {
-        return (session, Err(status_of(fault)));
+        return (session, Err(status_of(fault)), true);
     }
-    (session, Ok(()))
+    (session, Ok(()), true)
 }
 
 // Puts the report out, where all files were handed back.
@@ -168,8 +170,8 @@ pub(crate) fn play_session<
     ensures puts { OnOk result (K.faults out.new ≡ K.faults out.old) }
     ensures lent { H.lent host.new + 1 ≡ H.lent host.old }
 {
-    let (mut session, performed) = perform(threads, wait, gate, names, host, session);
-    let handed = hand_back(host, &mut session);
+    let (mut session, performed, wanted) = perform(threads, wait, gate, names, host, session);
+    let handed = hand_back(host, &mut session, wanted);
     let reported = conclude(out, &session, performed, handed.is_ok());
     host.back(session.into_capture().into_source());
     reported

@@ -2,7 +2,7 @@
 
 ghost use Rattle.std.specs.Prelude.{◌≡◌, ◌<◌, ◌≤◌, [], ◌∷◌, ◌++◌, ℕ, List, None, IfOk, OnOk, map, string_bytes};
 ghost use Rattle.jack_host.specs.Causes.{Rose};
-ghost use Rattle.jack_host.specs.MemoryHost.{host_files, host_lent};
+ghost use Rattle.host_memory.specs.MemoryHost.{host_files, host_lent};
 ghost use Rattle.play_words.specs.Words.{IsPlay, names_of};
 ghost use Rattle.rehearsal_model.specs.Rehearsals.{summary_text};
 ghost use Rattle.session_model.specs.Soundness.{Apart};
@@ -15,7 +15,8 @@ use crate::files::hand_back;
 use crate::opening::open_session;
 use crate::playing::perform;
 use client_kinds::Guest;
-use jack_host::{Gate, Host, MemoryHost, Sink};
+use host_memory::MemoryHost;
+use jack_host::{Gate, Host, Sink};
 use jack_types::{Entry, Memory};
 use play_inputs::Status;
 use play_words::laws::words_name_one_play;
@@ -24,10 +25,10 @@ use rehearsal_laws::captures::rehearsal_is_a_wave;
 use rehearsal_laws::scripts::rehearsal_is_a_script;
 use rehearsal_laws::serial::no_disk_has_no_underrun;
 use rehearsals::{Rehearsal, Summary, summary};
-use session_laws::waves::forward_reading;
 use std::alloc::{AllocError, Global};
 use std::sync::Wait;
 use std::thread::Threads;
+use wave_laws::waves::forward_reading;
 
 // The names of its files: the script, the capture, the playback and the recorder's.
 const SCRIPT: &str = "script";
@@ -87,9 +88,9 @@ fn play_silently<T: Threads + Sync, R: Wait + Sync, H: Host, G: Guest + Send, A:
     ensures history { IfOk result (λ history. HasHistory (H.files host.old) names.now history.items) }
 {
     let session = open_session(alloc, names, host, guests)?;
-    let (mut session, performed) = perform(threads, wait, gate, names, host, session);
+    let (mut session, performed, wanted) = perform(threads, wait, gate, names, host, session);
     let history = Vec::from_slice(alloc, session.desk().history());
-    let handed = hand_back(host, &mut session);
+    let handed = hand_back(host, &mut session, wanted);
     host.back(session.into_capture().into_source());
     if let Err(status) = performed {
         return Err(status);

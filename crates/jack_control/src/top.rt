@@ -6,7 +6,7 @@ ghost use Rattle.jack_host.specs.Files.{SameFiles};
 ghost use Rattle.session_model.specs.Soundness.{Apart};
 ghost use Rattle.jack_types.specs.declared.replies.Row.{Row as RowValue};
 ghost use Rattle.check_sights.specs.declared.sights.Sight.{Sight as SightValue};
-ghost use Rattle.session_model.specs.Checking.{IsFirstWrong};
+ghost use Rattle.check_model.specs.Checking.{IsFirstWrong};
 ghost use Rattle.play_words.specs.Checks.{Check, IsCheck};
 ghost use Rattle.play_words.specs.Commands.{IsCommand};
 ghost use Rattle.play_words.specs.Rehearsals.{IsRehearse};

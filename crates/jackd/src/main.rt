@@ -1,31 +1,34 @@
 //! The program: the real files, standard output and the exit code.
 #![tactic(auto)]
 
-mod checks;
+mod graphs;
 mod handed;
-mod telling;
+mod options;
 mod usage;
 
+use crate::graphs::{show_graph, tell_feeds};
 use crate::handed::hand_in;
+use crate::options::take_option;
+use exit_reasons::{MOST_OF_CAPTURE, MOST_OF_SCRIPT, NO_MEMORY, tell};
+use host_files::{FileHost, Syncing, WriterSink};
+use host_listener::ListeningHost;
 use jack_control::{Status, jackd};
-use jack_host::{FileHost, FreeGate, WriterSink};
+use jack_host::FreeGate;
 use report_listener::ListeningSink;
-use session_graph::graph;
 use std::alloc::Global;
 use std::env::Env;
-use std::fs::{File, Files};
 use std::process::ExitCode;
 use std::{env, io};
 
 // The exit code where the help or the version can't be made or printed.
 const UNPRINTED: u8 = 6;
 
+// The exit code of a strict play that lost something.
+const LOSSY: u8 = 9;
+
 // The most files of a command: the script, the capture, the report of a check, the playback, and a file of each of four
 // recorders.
 const MOST_FILES: usize = 8;
-
-// The files of a graph: the script and the report.
-const GRAPH_FILES: usize = 2;
 
 // The words of the command line, without the program's name.
 fn words(rt: &(impl Env + AllocGlobal)) -> io::Result<Vec<String>> {
@@ -77,34 +80,32 @@ fn code_of(printed: io::Result<()>) -> ExitCode {
 
 // The exit code for want of memory, which is told.
 fn out_of_memory(rt: &impl Eprint) -> ExitCode {
-    let _ = rt.eprint(telling::NO_MEMORY);
+    let _ = rt.eprint(NO_MEMORY);
     ExitCode::from(Status::NoMemory.code())
 }
 
-// Puts out the graph of a cycle.
-fn show_graph<R: Files<File = File> + Env + AllocGlobal + Eprint + Print>(
-    rt: &R,
-    words: &[String],
-) -> ExitCode {
-    let Ok(mut host) = FileHost::new(rt.alloc(), rt, GRAPH_FILES) else {
-        return out_of_memory(rt);
-    };
-    let mut out = WriterSink::new(io::writer(rt));
-    match graph(rt.alloc(), words, &mut host, &mut out) {
-        Ok(()) => ExitCode::SUCCESS,
-        Err(fault) => {
-            telling::tell_graph(rt, words, &host, &out, fault);
-            ExitCode::from(fault.code())
-        }
+// Whether a call of the report was refused, or a block lost.
+fn is_lossy<K>(out: &ListeningSink<K>) -> bool {
+    out.notes().refused() > 0 || out.losses().has_any()
+}
+
+// When the files of a play are synced: an option tells it, which is taken out of the words.
+fn take_syncing(words: &mut Vec<String>) -> Syncing {
+    if take_option(words, "--no-sync") {
+        Syncing::Never
+    } else {
+        Syncing::AtClose
     }
 }
 
 fn main(rt: HostRuntime) -> ExitCode {
-    let words = match words(&rt) {
+    let mut words = match words(&rt) {
         Ok(words) => words,
         Err(error) if error.kind() == io::ErrorKind::OutOfMemory => return out_of_memory(&rt),
         Err(_) => Vec::new(rt.alloc()),
     };
+    let is_strict = take_option(&mut words, "--strict");
+    let syncing = take_syncing(&mut words);
     if ask_help(&words) {
         return code_of(usage::print_help(&rt));
     }
@@ -117,7 +118,10 @@ fn main(rt: HostRuntime) -> ExitCode {
     let Ok(guests) = hand_in(rt.alloc()) else {
         return out_of_memory(&rt);
     };
-    let Ok(mut host) = FileHost::new(rt.alloc(), &rt, words.len().min(MOST_FILES)) else {
+    let Ok(files) = FileHost::new(rt.alloc(), &rt, words.len().min(MOST_FILES), syncing) else {
+        return out_of_memory(&rt);
+    };
+    let Ok(mut host) = ListeningHost::new(rt.alloc(), files, MOST_OF_SCRIPT, MOST_OF_CAPTURE) else {
         return out_of_memory(&rt);
     };
     let mut out = ListeningSink::new(WriterSink::new(io::writer(&rt)));
@@ -131,6 +135,10 @@ fn main(rt: HostRuntime) -> ExitCode {
         guests,
         &FreeGate,
     );
-    telling::tell(&rt, &words, &host, &out, status);
+    tell(&rt, &words, &host, &out, status);
+    tell_feeds(&rt, &words, status);
+    if is_strict && status == Status::Ok && is_lossy(&out) {
+        return ExitCode::from(LOSSY);
+    }
     ExitCode::from(status.code())
 }

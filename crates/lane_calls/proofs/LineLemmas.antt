@@ -13,7 +13,7 @@ use Rattle.jack_types.specs.declared.scripts.Body.TheVariants.{Do, Run, Freewhee
 use Rattle.jack_types.specs.declared.scripts.Header.{Header}
 use Rattle.session_model.specs.Grammar.{IsScript, IsBody, is_call, is_segment, open_segment, segment_after}
 use Rattle.session_model.specs.Scripts.{Script, Phase, LaneCall, Planned, Uncounted, phases_of, planned_of, uncounted, counted, lane_calls, with_do}
-use Rattle.session_laws.proofs.GrammarLimits.{all_cycles-append, cycles_in}
+use Rattle.grammar_laws.proofs.GrammarLimits.{all_cycles-append, cycles_in}
 use Rattle.session_laws.proofs.SerialLawfulLemmas.{AreBodies, AreBodies-rest}
 use Rattle.lane_calls.specs.declared.calls.PlannedCall.{PlannedCall}
 use Rattle.lane_calls.specs.declared.progress.Progress.{Progress}

@@ -15,7 +15,7 @@ use std::marker::Model;
 const LANES: u8 = 5;
 
 /// A call of a script, with when it is made.
-#[derive(Clone, Copy, PartialEq, Eq, Debug)]
+#[derive(Clone, Copy, PartialEq, Eq)]
 pub struct PlannedCall {
     pub call: Call,
     /// It is made behind all calls of lower stages.

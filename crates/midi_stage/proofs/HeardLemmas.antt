@@ -21,7 +21,8 @@ use Rattle.port_registry.specs.Registered.{open_client, open_clients, system_ent
 use Rattle.cycle_plan.specs.Plans.{IsPlanned, Planned, state_of_plan}
 use Rattle.midi_player.specs.Standings.{IsMidi, Standing}
 use Rattle.midi_wiring.specs.declared.joints.MidiGiven.{MidiGiven}
-use Rattle.midi_wiring.specs.Hearings.{AreCarried, Carried, HearsPlan, PlaysHeard, carried_at, heard_by, listed_for, log_at, played_at}
+use Rattle.midi_wiring.specs.Hearings.{AreCarried, HearsPlan, PlaysHeard, heard_by}
+use Rattle.driver_words.specs.Hearings.{Carried, carried_at, listed_for, log_at, played_at}
 use Rattle.midi_wiring.specs.Wirings.{midi_wired_of}
 use Rattle.midi_stage.specs.declared.sounds.Output.{Output}
 use Rattle.midi_stage.specs.Sounding.{Sounded, bench_born, events_at, output_on, seat_at}

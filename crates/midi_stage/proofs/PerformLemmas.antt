@@ -12,7 +12,7 @@ use Rattle.session_model.specs.Benches.{node_at}
 use Rattle.port_registry.specs.Registered.{open_client, open_clients}
 use Rattle.cycle_plan.specs.Plans.{Planned}
 use Rattle.midi_player.specs.Standings.{IsMidi, Standing}
-use Rattle.midi_wiring.specs.Hearings.{log_at}
+use Rattle.driver_words.specs.Hearings.{log_at}
 use Rattle.midi_wiring.specs.Wirings.{midi_wired_of}
 use Rattle.midi_seats.specs.Owning.{HaveSeats, code_at, kind_at}
 use Rattle.midi_seats.specs.Seating.{midi_code, owner_of}

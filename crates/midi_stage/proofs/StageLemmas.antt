@@ -15,7 +15,8 @@ use Rattle.session_model.specs.Scripts.{Script}
 use Rattle.port_registry.specs.Registered.{open_clients}
 use Rattle.cycle_plan.specs.Plans.{IsPlanned, Planned}
 use Rattle.session_model.specs.Kinds.{Memory, MidiPlayed}
-use Rattle.midi_wiring.specs.Hearings.{Carried, HearsPlan, PlaysHeard, heard_by, listed_for}
+use Rattle.midi_wiring.specs.Hearings.{HearsPlan, PlaysHeard, heard_by}
+use Rattle.driver_words.specs.Hearings.{Carried, listed_for}
 use Rattle.midi_wiring.specs.Wirings.{midi_wired_of}
 use Rattle.midi_seats.specs.declared.seating.Owned.{Owned}
 use Rattle.midi_seats.specs.Owning.{AreKnown, IsShort, midi_kinds}

@@ -11,7 +11,8 @@ use Rattle.midi_player.specs.Standings.{Standing}
 use Rattle.midi_wiring.specs.declared.joints.MidiFrom.{MidiFrom}
 use Rattle.midi_wiring.specs.declared.joints.MidiFrom.TheVariants.{Played, Kept, Nothing}
 use Rattle.midi_wiring.specs.declared.joints.MidiJoint.{MidiJoint}
-use Rattle.midi_wiring.specs.Hearings.{BornLog, Carried, brought, carried_at, heard_at, heard_by, inputs_at, played_at}
+use Rattle.midi_wiring.specs.Hearings.{brought, heard_at, heard_by, inputs_at}
+use Rattle.driver_words.specs.Hearings.{BornLog, Carried, carried_at, played_at}
 use Rattle.midi_wiring.specs.Wirings.{MidiWired, midi_joints_at}
 use Rattle.midi_stage.specs.declared.sounds.Output.{Output}
 use Rattle.midi_stage.specs.Sounding.{all_heard, bench_born, brings, events_at, no_standing, seat_at}

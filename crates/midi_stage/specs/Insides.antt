@@ -13,7 +13,7 @@ use Rattle.session_model.specs.Scripts.{Script}
 use Rattle.port_registry.specs.Registered.{open_clients}
 use Rattle.cycle_plan.specs.Plans.{IsPlanned, Planned}
 use Rattle.midi_player.specs.Standings.{Standing}
-use Rattle.midi_wiring.specs.Hearings.{Heard}
+use Rattle.driver_words.specs.Hearings.{Heard}
 use Rattle.midi_wiring.specs.Wirings.{midi_wired_of}
 use Rattle.midi_seats.specs.declared.seating.Owned.{Owned}
 use Rattle.midi_seats.specs.Owning.{AreKnown, HaveSeats, IsShort, midi_kinds}

@@ -18,7 +18,8 @@ use Rattle.midi_wiring.specs.declared.joints.MidiFrom.{MidiFrom}
 use Rattle.midi_wiring.specs.declared.joints.MidiFrom.TheVariants.{Played, Kept, Nothing}
 use Rattle.midi_wiring.specs.declared.joints.MidiGiven.{MidiGiven}
 use Rattle.midi_wiring.specs.declared.joints.MidiJoint.{MidiJoint}
-use Rattle.midi_wiring.specs.Hearings.{inputs_at, listed_for}
+use Rattle.midi_wiring.specs.Hearings.{inputs_at}
+use Rattle.driver_words.specs.Hearings.{listed_for}
 use Rattle.midi_wiring.specs.Wirings.{MidiWired}
 use Rattle.port_registry.specs.Registered.{system_entry}
 use Rattle.midi_stage.specs.declared.sounds.Output.{Output}

@@ -11,7 +11,7 @@ use Rattle.port_registry.specs.Registered.{open_clients}
 use Rattle.cycle_plan.specs.Plans.{Planned}
 use Rattle.midi_player.specs.Standings.{IsMidi, Standing}
 use Rattle.midi_wiring.specs.declared.joints.MidiGiven.{MidiGiven}
-use Rattle.midi_wiring.specs.Hearings.{BornLog, Carried, Heard}
+use Rattle.driver_words.specs.Hearings.{BornLog, Carried, Heard}
 use Rattle.midi_wiring.specs.Wirings.{midi_wired_of}
 use Rattle.midi_stage.specs.declared.sounds.Output.{Output}
 use Rattle.midi_stage.specs.Sounding.{HavePlayed, Sounded, events_at, no_standing, output_from, seat_at}

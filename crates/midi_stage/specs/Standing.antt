@@ -7,7 +7,7 @@ use Rattle.std.specs.Prelude.{◌≡◌, ℕ, ◌==◌, List, [], if◌then◌el
 use Rattle.jack_types.specs.declared.commands.Change.{Change}
 use Rattle.graph_word.specs.declared.plans.Base.{Base}
 use Rattle.session_model.specs.Scripts.{Script}
-use Rattle.midi_wiring.specs.Hearings.{Heard, log_at}
+use Rattle.driver_words.specs.Hearings.{Heard, log_at}
 
 -- no change before the first cycle
 pub record OnMidi : Type 0 where

@@ -2,7 +2,7 @@
 
 ghost use Rattle.std.specs.Prelude.{◌≡◌, ◌+◌, ◌<◌, ◌≤◌, ◌^◌, ℕ, [], None, Some, length, slice_index_or};
 ghost use Rattle.port_registry.specs.Registered.{system_entry};
-ghost use Rattle.midi_wiring.specs.Hearings.{listed_for};
+ghost use Rattle.driver_words.specs.Hearings.{listed_for};
 ghost use Rattle.midi_stage.specs.Sounding.{AreLower, AreSeated, HavePlayed, no_standing, sounded};
 
 use crate::playing::{Rooms, play_node};

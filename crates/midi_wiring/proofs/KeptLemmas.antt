@@ -28,7 +28,8 @@ use Rattle.client_wiring.specs.Wirings.{source_birth}
 use Rattle.client_wiring.proofs.OverLemmas.{name-of_place}
 use Rattle.client_wiring.proofs.PlaybackLemmas.{inside-plan, sound-plan}
 use Rattle.midi_wiring.specs.declared.joints.MidiGiven.{MidiGiven}
-use Rattle.midi_wiring.specs.Hearings.{AreCarried, Heard, carried_at, played_at}
+use Rattle.midi_wiring.specs.Hearings.{AreCarried}
+use Rattle.driver_words.specs.Hearings.{Heard, carried_at, played_at}
 use Rattle.midi_wiring.specs.Keeping.{Gave, KeepsEvents}
 use Rattle.midi_wiring.specs.Wirings.{midi_given_at, midi_given_of, midi_wired_of}
 use Rattle.client_wiring.proofs.FollowLemmas.{Follows, Follows-opening, Follows-replay, Follows-self}

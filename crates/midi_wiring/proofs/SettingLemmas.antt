@@ -33,7 +33,8 @@ use Rattle.client_wiring.proofs.PlaybackLemmas.{inside-plan, sound-plan, wired-p
 use Rattle.client_wiring.proofs.TaskLemmas.{passes, same-made}
 use Rattle.midi_wiring.specs.declared.joints.MidiJoint.{MidiJoint}
 use Rattle.midi_wiring.specs.declared.joints.MidiWidths.{MidiWidths}
-use Rattle.midi_wiring.specs.Hearings.{Heard, brought, heard_at, heard_by}
+use Rattle.midi_wiring.specs.Hearings.{brought, heard_at, heard_by}
+use Rattle.driver_words.specs.Hearings.{Heard}
 use Rattle.midi_wiring.specs.Setting.{HandsOver, SetsEvents}
 use Rattle.midi_wiring.specs.Wirings.{midi_from, midi_from_of, midi_joint_into, midi_joint_of, midi_widths_of, midi_wired_of}
 use Rattle.midi_wiring.proofs.ListLemmas.{map-twice, same-places}

@@ -14,7 +14,8 @@ use Rattle.session_model.specs.State.{OpenClient}
 use Rattle.port_registry.specs.Registered.{open_clients}
 use Rattle.cycle_plan.specs.Plans.{IsPlanned, Planned, state_of_plan}
 use Rattle.client_wiring.specs.Wirings.{source_birth}
-use Rattle.midi_wiring.specs.Hearings.{AreCarried, Carried, Heard, HearsPlan, carried_at, listed_for}
+use Rattle.midi_wiring.specs.Hearings.{AreCarried, HearsPlan}
+use Rattle.driver_words.specs.Hearings.{Carried, Heard, carried_at, listed_for}
 use Rattle.midi_wiring.specs.Keeping.{BringsCarried, KeepsEvents}
 use Rattle.midi_wiring.specs.Setting.{HandsOver, PlaysTask}
 use Rattle.midi_wiring.proofs.SettingLemmas.{SetsEvents-wired}

@@ -1,5 +1,4 @@
 -- What the clients of a plan hear of MIDI, and what they play.
---     Heard      by node and by birth the events of a cycle, and the logs
 --     heard_by wiring heard n      the events of each MIDI input of a node
 --     AreCarried plan heard      by its birth each MIDI output of a node carries what its client played
 --     HearsPlan old plan moment period new      the clients of a plan played a cycle
@@ -15,6 +14,7 @@ use Rattle.session_model.specs.Events.{merge}
 use Rattle.session_model.specs.Kinds.{Memory, midi_play}
 use Rattle.session_model.specs.Samples.{below}
 use Rattle.session_model.specs.State.{OpenClient}
+use Rattle.driver_words.specs.Hearings.{Carried, Heard, carried_at, listed_for, log_at, played_at}
 use Rattle.port_registry.specs.Registered.{open_clients}
 use Rattle.cycle_plan.specs.Plans.{Planned}
 use Rattle.midi_wiring.specs.declared.joints.MidiFrom.{MidiFrom}
@@ -22,36 +22,6 @@ use Rattle.midi_wiring.specs.declared.joints.MidiFrom.TheVariants.{Played, Kept,
 use Rattle.midi_wiring.specs.declared.joints.MidiGiven.{MidiGiven}
 use Rattle.midi_wiring.specs.declared.joints.MidiJoint.{MidiJoint}
 use Rattle.midi_wiring.specs.Wirings.{MidiWired, midi_joints_at, midi_wired_of}
-
--- the events that the MIDI output of this birth carries
-pub record Carried : Type 0 where
-  pub birth : ℕ
-  pub events : List Event
-
--- the log of the client of this birth
-pub record BornLog : Type 0 where
-  pub birth : ℕ
-  pub log : List Logged
-
--- the event lists of the script; the period of the cycle, 0 before the first; by node the events that each MIDI output of its client carries; by birth what MIDI
--- outputs carry, and what feedback edges had of those of the cycle before; by birth the logs
-pub record Heard : Type 0 where
-  pub lists : List (List (ℕ × Event))
-  pub period : ℕ
-  pub played : List (List Event)
-  pub carried : List Carried
-  pub before : List Carried
-  pub logs : List BornLog
-
-abbrev pub played_at : Heard → ℕ → List Event
-played_at heard n = slice_index_or heard.played n []
-
--- no event where no output has the birth
-abbrev pub carried_at : List Carried → ℕ → List Event
-carried_at carried birth = option_map_or (λ (output : Carried). output.events) (find (λ (output : Carried). output.birth == birth) carried) []
-
-abbrev pub log_at : Heard → ℕ → List Logged
-log_at heard birth = option_map_or (λ (client : BornLog). client.log) (find (λ (client : BornLog). client.birth == birth) heard.logs) []
 
 -- what a connection brings
 abbrev pub brought : Heard → MidiFrom → List Event
@@ -68,11 +38,6 @@ heard_at wiring heard n input = merge (map (λ (joint : MidiJoint). brought hear
 
 abbrev pub heard_by : MidiWired → Heard → ℕ → List (List Event)
 heard_by wiring heard n = map (heard_at wiring heard n) (below (inputs_at wiring n))
-
--- the list that a client of this kind plays
-abbrev pub listed_for : List (List (ℕ × Event)) → Kind → List (ℕ × Event)
-listed_for lists (Midiplay list) = slice_index_or lists list []
-listed_for lists _ = []
 
 -- by its birth each MIDI output of a node carries what its client played; no other birth carries an event
 pub record AreCarried (plan : Planned) (heard : Heard) : Type 0 where

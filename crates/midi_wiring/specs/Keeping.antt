@@ -12,7 +12,8 @@ use Rattle.session_model.specs.State.{Connection}
 use Rattle.port_registry.specs.Registered.{open_clients}
 use Rattle.cycle_plan.specs.Plans.{Planned, state_of_plan}
 use Rattle.client_wiring.specs.Wirings.{source_birth}
-use Rattle.midi_wiring.specs.Hearings.{AreCarried, Heard, carried_at, played_at}
+use Rattle.midi_wiring.specs.Hearings.{AreCarried}
+use Rattle.driver_words.specs.Hearings.{Heard, carried_at, played_at}
 
 abbrev pub Gave : Planned → Heard → (ℕ → Bench) → Type 0
 Gave plan heard benches = (n : ℕ) → n < length plan.nodes → (benches n).midi ≡ replicate (length (midi_outputs (state_of_plan plan) (node_at (open_clients plan.nodes) n).name)) (played_at heard n)

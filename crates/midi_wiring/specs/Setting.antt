@@ -14,7 +14,8 @@ use Rattle.session_model.specs.State.{Connection}
 use Rattle.port_registry.specs.Registered.{open_clients}
 use Rattle.cycle_plan.specs.Plans.{Planned, state_of_plan}
 use Rattle.client_wiring.specs.Wirings.{source_birth}
-use Rattle.midi_wiring.specs.Hearings.{Heard, carried_at, heard_by, log_at, played_at}
+use Rattle.midi_wiring.specs.Hearings.{heard_by}
+use Rattle.driver_words.specs.Hearings.{Heard, carried_at, log_at, played_at}
 use Rattle.midi_wiring.specs.Wirings.{MidiWired}
 
 -- of the edges from MIDI outputs

@@ -1,7 +1,7 @@
 -- What the players of a session's disks are given in a period of two frames.
 use Rattle.std.proofs.Common.{◌≡◌, [], ◌∷◌, pos, refl, arith}
 use Rattle.std.specs.Prelude.{Some, None}
-use Rattle.disk_feeds.specs.Feeding.{AreCounted, Fed, HasNoDisks, MayGet, fed_at, no_disks, no_ring}
+use Rattle.driver_words.specs.Feeding.{AreCounted, Fed, HasNoDisks, MayGet, fed_at, no_disks, no_ring}
 
 -- of the first disk, which has two channels, a block was got; of the second one, which has one, none
 abbrev two_disks : Fed

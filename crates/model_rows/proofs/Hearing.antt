@@ -1,7 +1,8 @@
 -- What the clients of a plan of three nodes hear of MIDI.
 use Rattle.std.proofs.Common.{◌≡◌, [], ◌∷◌, refl}
 use Rattle.cycle_laws.specs.Gears.{no_events}
-use Rattle.midi_wiring.specs.Hearings.{Heard, carried_at, heard_by, log_at}
+use Rattle.midi_wiring.specs.Hearings.{heard_by}
+use Rattle.driver_words.specs.Hearings.{Heard, carried_at, log_at}
 use Rattle.midi_wiring.specs.Wirings.{MidiWired}
 use Rattle.midi_wiring.specs.declared.joints.MidiFrom.TheVariants.{Played, Kept, Nothing}
 use Rattle.model_rows.specs.Given.{event_at}

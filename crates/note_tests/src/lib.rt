@@ -1,7 +1,11 @@
-//! Tests of what is noted of a report: its calls, and which of them were refused.
+//! Tests of what is noted of a play: its calls, which of them were refused, its recorders, and the first bytes of its files.
 #![tactic(auto)]
 
 #[cfg(test)]
+mod fronts;
+#[cfg(test)]
 mod listening;
+#[cfg(test)]
+mod losses;
 #[cfg(test)]
 mod notes;

@@ -1,4 +1,5 @@
-use jack_host::{MemorySink, Sink};
+use host_memory::MemorySink;
+use jack_host::Sink;
 use jack_types::Refusal;
 use report_listener::ListeningSink;
 
@@ -14,8 +15,25 @@ fn calls_are_noted_up_to_the_first_line_of_another_kind(rt: HostRuntime) {
     assert_eq!(rt; sink.notes().calls(), 2);
     assert_eq!(rt; sink.notes().refused(), 1);
     assert_eq!(rt; sink.notes().first().len(), 1);
-    assert_eq!(rt; sink.notes().first()[0].refusal, Refusal::Inactive);
+    assert!(rt; sink.notes().first()[0].refusal == Refusal::Inactive);
     assert_eq!(rt; sink.notes().first()[0].index, 2);
+}
+
+#[test]
+fn recorders_are_noted_behind_the_cycles(rt: HostRuntime) {
+    let mut sink = ListeningSink::new(MemorySink::new(rt.alloc()));
+    assert!(rt; sink.put(b"report 1\n".as_slice()).is_ok());
+    assert!(rt;
+        sink.put(b"cycle 1 0 stopped 0 -\ncycle 2 0 stopped 0 -\n".as_slice())
+            .is_ok()
+    );
+    assert!(rt; sink.put(b"meter recorder 7\n".as_slice()).is_ok());
+    assert!(rt; sink.put(b"recorder 1 1 1\n".as_slice()).is_ok());
+    assert!(rt; sink.put(b"overrun 1 2 1 0\n".as_slice()).is_ok());
+    assert!(rt; sink.put(b"end\n".as_slice()).is_ok());
+    assert_eq!(rt; sink.notes().calls(), 0);
+    assert!(rt; sink.losses().has_any());
+    assert_eq!(rt; sink.losses().tapes()[1].first, 2);
 }
 
 #[test]

@@ -11,7 +11,7 @@ use Rattle.session_model.specs.Kinds.{Sound}
 use Rattle.session_model.specs.Reading.{fault_of, script_fault}
 use Rattle.session_model.specs.Scripts.{Script}
 use Rattle.session_model.specs.WaveOpening.{Opened, wave_in}
-use Rattle.session_laws.proofs.GrammarLaws.{read}
+use Rattle.grammar_laws.proofs.GrammarLaws.{read}
 use Rattle.play_words.specs.Words.{Play}
 use Rattle.play_inputs.specs.declared.status.Difference.{Difference}
 use Rattle.play_inputs.specs.declared.status.Status.{Status}

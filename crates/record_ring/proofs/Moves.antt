@@ -11,7 +11,7 @@ use Rattle.record_ring.specs.declared.view.Size.{Size}
 use Rattle.record_ring.specs.declared.view.ProducerView.{ProducerView}
 use Rattle.record_ring.specs.declared.view.ConsumerView.{ConsumerView}
 use Rattle.record_ring.specs.declared.view.SeatView.{SeatView}
-use Rattle.record_ring.specs.Rings.{items_of}
+use Rattle.driver_words.specs.Rings.{items_of}
 use Rattle.record_ring.specs.Rule.{KnowsPut, KnowsGot, RingRule, shown}
 use Rattle.record_ring.specs.Steps.{Sat, with_producer, with_consumer}
 

@@ -17,7 +17,8 @@ use Rattle.record_ring.specs.declared.block.Block.{Block}
 use Rattle.record_ring.specs.declared.view.Size.{Size}
 use Rattle.record_ring.specs.declared.view.ProducerView.{ProducerView}
 use Rattle.record_ring.specs.declared.view.SeatView.{SeatView}
-use Rattle.record_ring.specs.Rings.{content, items_of}
+use Rattle.record_ring.specs.Rings.{content}
+use Rattle.driver_words.specs.Rings.{items_of}
 use Rattle.record_ring.specs.Rule.{weight, HasRoomFor, IsNext, RingRule}
 use Rattle.record_ring.specs.Steps.{Sat, with_producer, look_after, Looked, Glanced, send_after, Sent, Marked}
 use Rattle.record_ring.proofs.Moves.{Goes, shows, reset, producer_moves, consumer_stays}

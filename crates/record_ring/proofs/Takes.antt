@@ -19,7 +19,8 @@ use Rattle.record_ring.specs.declared.block.Block.{Block}
 use Rattle.record_ring.specs.declared.view.Size.{Size}
 use Rattle.record_ring.specs.declared.view.ConsumerView.{ConsumerView}
 use Rattle.record_ring.specs.declared.view.SeatView.{SeatView}
-use Rattle.record_ring.specs.Rings.{content, items_of}
+use Rattle.record_ring.specs.Rings.{content}
+use Rattle.driver_words.specs.Rings.{items_of}
 use Rattle.record_ring.specs.Rule.{weight, HasRoomFor, IsNext, RingRule}
 use Rattle.record_ring.specs.Steps.{Sat, with_consumer, find_after, Found, take_after, Took}
 use Rattle.record_ring.proofs.Moves.{Goes, shows, reset, consumer_moves, producer_stays}

@@ -5,7 +5,7 @@ use Rattle.atomic_table.specs.Seated.{TableId}
 use Rattle.record_ring.specs.declared.view.SeatView.{SeatView}
 use Rattle.record_ring.specs.declared.producer.Producer.TheInside.{Inside as Producer}
 use Rattle.record_ring.specs.declared.consumer.Consumer.TheInside.{Inside as Consumer}
-use Rattle.record_ring.specs.Rings.{Sending, Getting, items_of}
+use Rattle.driver_words.specs.Rings.{Sending, Getting, items_of}
 
 abbrev pub sending_of : TableId → ℕ → SeatView → Sending
 sending_of table capacity v = record {

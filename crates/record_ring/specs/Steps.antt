@@ -6,7 +6,8 @@ use Rattle.record_ring.specs.declared.block.Block.{Block}
 use Rattle.record_ring.specs.declared.view.ProducerView.{ProducerView}
 use Rattle.record_ring.specs.declared.view.ConsumerView.{ConsumerView}
 use Rattle.record_ring.specs.declared.view.SeatView.{SeatView}
-use Rattle.record_ring.specs.Rings.{content, items_of}
+use Rattle.record_ring.specs.Rings.{content}
+use Rattle.driver_words.specs.Rings.{items_of}
 use Rattle.record_ring.specs.Rule.{HasRoomFor, opening_view}
 
 abbrev pub Sat : Type 0

@@ -26,7 +26,7 @@ pub struct Consumer {
 }
 
 impl Model for Consumer {
-    ghost use Rattle.record_ring.specs.Rings.{Getting};
+    ghost use Rattle.driver_words.specs.Rings.{Getting};
 
     ghost Value = { Getting };
 
@@ -39,7 +39,8 @@ impl Model for Consumer {
 
 impl Consumer {
     ghost use Rattle.std.specs.Prelude.{◌≡◌, ◌≢◌, ◌<◌, ◌≤◌, ◌^◌, ℕ, length};
-    ghost use Rattle.record_ring.specs.Rings.{content, items_of, Gets};
+    ghost use Rattle.record_ring.specs.Rings.{content, Gets};
+    ghost use Rattle.driver_words.specs.Rings.{items_of};
 
     /// Takes the oldest block of the ring, and leaves the content of `block` there as a spare.
     ///

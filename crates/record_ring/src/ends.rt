@@ -1,6 +1,6 @@
 //! How a ring is made, and how its two ends meet.
 ghost use Rattle.std.specs.Prelude.{◌≡◌, ◌<◌, ◌≤◌, length, All, IfOk};
-ghost use Rattle.record_ring.specs.Rings.{IsOpening, IsPair, Renews, Tells};
+ghost use Rattle.driver_words.specs.Rings.{IsOpening, IsPair, Renews, Tells};
 
 use crate::block::Block;
 use crate::consumer::Consumer;

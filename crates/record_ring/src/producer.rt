@@ -24,7 +24,7 @@ pub struct Producer {
 }
 
 impl Model for Producer {
-    ghost use Rattle.record_ring.specs.Rings.{Sending};
+    ghost use Rattle.driver_words.specs.Rings.{Sending};
 
     ghost Value = { Sending };
 
@@ -37,7 +37,8 @@ impl Model for Producer {
 
 impl Producer {
     ghost use Rattle.std.specs.Prelude.{◌≡◌, ◌+◌, ◌<◌, ◌≤◌, ◌^◌, ℕ, false, true, length, OnOk, OnErr, IfErr};
-    ghost use Rattle.record_ring.specs.Rings.{content, items_of, Puts, IsFull};
+    ghost use Rattle.record_ring.specs.Rings.{content};
+    ghost use Rattle.driver_words.specs.Rings.{items_of, Puts, IsFull};
 
     /// Puts the block's content into the ring, and leaves a spare in its place.
     ///

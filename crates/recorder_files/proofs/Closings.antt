@@ -1,6 +1,6 @@
 -- A recorder whose file came out.
 use Rattle.std.proofs.Common.{◌≡◌, ◌∙◌, Option, None, Some, ap}
-use Rattle.wave_write.specs.Tapes.{Tape}
+use Rattle.driver_words.specs.Tapes.{Tape}
 use Rattle.recorder_files.specs.Recorders.{Recording, Stored}
 
 pub closed-is : (before now : Recording) (left : Option Tape) (back : Stored) → before ≡ now → left ≡ None → record before { tape = left; store = Some back } ≡ record now { tape = None; store = Some back }

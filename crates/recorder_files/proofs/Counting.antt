@@ -6,8 +6,8 @@
 use Rattle.std.proofs.Common.{◌≡◌, ℕ, ◌+◌, [], ◌∷◌, length, Option, None, Some, Result, Ok, Err, IfOk, OnErr, refl, ap, ◌∙◌, subst, arith, length-append}
 use Rattle.std.proofs.lemmas.Option.{none-some, same_Some}
 use Rattle.jack_host.specs.Told.{BothTold}
-use Rattle.record_ring.specs.Rings.{Getting, Renews, Sending}
-use Rattle.wave_write.specs.Tapes.{Tape}
+use Rattle.driver_words.specs.Rings.{Getting, Renews, Sending}
+use Rattle.driver_words.specs.Tapes.{Tape}
 use Rattle.disk_recorder.specs.Recordings.{Drains, Fails, Serves}
 use Rattle.recorder_files.specs.Recorders.{BreaksOff, GivesUp, Recording, Tears}
 

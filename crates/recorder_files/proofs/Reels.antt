@@ -5,8 +5,8 @@
 use Rattle.std.proofs.Common.{◌≡◌, ◌∙◌, ℕ, ◌≤◌, false, None, Some, sym, ap, subst, arith}
 use Rattle.jack_types.specs.declared.files.Format.{Format}
 use Rattle.session_model.specs.WaveFiles.{IsFormat}
-use Rattle.record_ring.specs.Rings.{Getting, IsOpening, IsPair, Renews, Sending, items_of}
-use Rattle.wave_write.specs.Tapes.{Tape}
+use Rattle.driver_words.specs.Rings.{Getting, IsOpening, IsPair, Renews, Sending, items_of}
+use Rattle.driver_words.specs.Tapes.{Tape}
 use Rattle.disk_recorder.specs.Recordings.{MayWrite}
 use Rattle.recorder_files.specs.Recorders.{GivesUp, Recording, Reel}
 

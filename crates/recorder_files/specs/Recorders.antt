@@ -8,8 +8,8 @@
 --     Tears before tape after tape_after      so it did while another thread put them
 use Rattle.std.specs.Prelude.{◌≡◌, ℕ, ◌+◌, List, Option, Some, None}
 use Rattle.jack_types.specs.declared.files.Format.{Format}
-use Rattle.record_ring.specs.Rings.{Sending, Getting, Renews}
-use Rattle.wave_write.specs.Tapes.{Tape}
+use Rattle.driver_words.specs.Rings.{Sending, Getting, Renews}
+use Rattle.driver_words.specs.Tapes.{Tape}
 use Rattle.disk_recorder.specs.Recordings.{Drains, Fails}
 
 -- its name and its bytes, where it tells them, and its count of faults

@@ -104,9 +104,9 @@ impl<W: Store> Recorder<W> {
     ghost use Rattle.std.specs.Prelude.{◌≡◌, ℕ, ◌+◌, ◌≤◌, [], List, ℤ, IfOk, IfSome, None, OnErr, OnOk, Some, false, is_some, option_map};
     ghost use Rattle.std.specs.Option.{ForSome};
     ghost use Rattle.jack_host.specs.Causes.{HasCause, Rose};
-    ghost use Rattle.record_ring.specs.Rings.{IsPair, Renews};
+    ghost use Rattle.driver_words.specs.Rings.{IsPair, Renews};
     ghost use Rattle.session_model.specs.WaveFiles.{IsFormat, wave_text};
-    ghost use Rattle.wave_write.specs.Tapes.{HasFront, HasSamples, IsCut, Tape};
+    ghost use Rattle.driver_words.specs.Tapes.{HasFront, HasSamples, IsCut, Tape};
     ghost use Rattle.disk_recorder.specs.Recordings.{MayWrite, Serves};
     ghost use Rattle.recorder_files.specs.Recorders.{BreaksOff, GivesUp, Stored, Tears, held_in};
 

@@ -14,7 +14,7 @@ use Rattle.std.proofs.lemmas.List.{get_or-map, get_or-set_same}
 use Rattle.std.proofs.lemmas.Option.{slice_get_read, get_or_from_slice_get}
 use Rattle.jack_types.specs.declared.replies.Overrun.{Overrun}
 use Rattle.record_ring.specs.declared.block.Block.{Block}
-use Rattle.record_ring.specs.Rings.{Sending, Getting}
+use Rattle.driver_words.specs.Rings.{Sending, Getting}
 use Rattle.recorder_rings.specs.Sending.{Sent, no_ring}
 use Rattle.recorder_rings.specs.Insides.{IsSound, sent_of}
 

@@ -16,7 +16,7 @@ use Rattle.std.proofs.lemmas.Simd.{splat_is_map}
 use Rattle.jack_types.specs.Recorders.{no_format}
 use Rattle.jack_types.specs.declared.files.Format.{Format}
 use Rattle.record_ring.specs.declared.block.Block.{Block}
-use Rattle.record_ring.specs.Rings.{Sending, Getting, IsOpening}
+use Rattle.driver_words.specs.Rings.{Sending, Getting, IsOpening}
 use Rattle.driver_laws.specs.Openings.{IsEmptyRing}
 use Rattle.recorder_rings.specs.Sending.{no_ring}
 use Rattle.recorder_rings.specs.Openings.{AreOpened}

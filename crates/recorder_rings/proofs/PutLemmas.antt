@@ -12,7 +12,7 @@ use Rattle.std.specs.Prelude.{◌==◌}
 use Rattle.jack_types.specs.declared.replies.Overrun.{Overrun}
 use Rattle.session_model.specs.Rings.{RingBlock}
 use Rattle.record_ring.specs.declared.block.Block.{Block}
-use Rattle.record_ring.specs.Rings.{Sending, Getting, IsFull, Puts}
+use Rattle.driver_words.specs.Rings.{Sending, Getting, IsFull, Puts}
 use Rattle.driver_laws.specs.Cycling.{PutsOne, Went, Lacked}
 use Rattle.driver_laws.specs.Drivers.{overruns_on}
 use Rattle.recorder_rings.specs.Sending.{Sent, no_ring}

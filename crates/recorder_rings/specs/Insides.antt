@@ -2,7 +2,7 @@
 use Rattle.std.specs.Prelude.{◌≡◌, ℕ, ◌*◌, ◌≤◌, List, length, map, All, Option}
 use Rattle.jack_types.specs.declared.replies.Overrun.{Overrun}
 use Rattle.record_ring.specs.declared.block.Block.{Block}
-use Rattle.record_ring.specs.Rings.{Sending, Getting}
+use Rattle.driver_words.specs.Rings.{Sending, Getting}
 use Rattle.recorder_rings.specs.Sending.{Sent}
 
 abbrev pub sent_of : List Sending → List (Option Getting) → List ℕ → List ℕ → List Block → List Overrun → ℕ → ℕ → Sent

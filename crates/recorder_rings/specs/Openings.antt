@@ -3,7 +3,7 @@
 --     IsNew formats capacity period losses seen      all of it
 use Rattle.std.specs.Prelude.{◌≡◌, ℕ, ◌*◌, ◌<◌, ◌≤◌, List, [], length, map, slice_index, slice_index_or, All, MatchOption, Option, None}
 use Rattle.jack_types.specs.declared.files.Format.{Format}
-use Rattle.record_ring.specs.Rings.{Sending, Getting, IsOpening}
+use Rattle.driver_words.specs.Rings.{Sending, Getting, IsOpening}
 use Rattle.driver_laws.specs.Openings.{IsEmptyRing}
 use Rattle.recorder_rings.specs.Sending.{Sent, no_ring}
 

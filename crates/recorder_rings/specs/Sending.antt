@@ -5,7 +5,7 @@
 --     AreCounted seen      no block but those of `put` is in a ring
 use Rattle.std.specs.Prelude.{◌≡◌, ℕ, ◌+◌, ◌*◌, ◌<◌, ◌≤◌, ◌^◌, false, List, [], length, map, slice_index, slice_index_or, ℤ, Option, None}
 use Rattle.jack_types.specs.declared.replies.Overrun.{Overrun}
-use Rattle.record_ring.specs.Rings.{Sending, Getting, items_of}
+use Rattle.driver_words.specs.Rings.{Sending, Getting, items_of}
 
 -- by recorder: the end of its ring that puts, the end that gets until it is handed out, its channels, how many blocks `put` put into
 -- its ring, and the block that is put next, interleaved; then the overruns of all in the order in which they came, the greatest

@@ -1,7 +1,7 @@
 //! How a cycle's block goes into its ring.
 
 ghost use Rattle.std.specs.Prelude.{◌≡◌, ℕ, ◌+◌, ◌<◌, ◌≤◌, ◌^◌, false, IfNone, IfSome, length};
-ghost use Rattle.record_ring.specs.Rings.{IsFull, Puts, items_of};
+ghost use Rattle.driver_words.specs.Rings.{IsFull, Puts, items_of};
 
 use crate::rings::RecorderRings;
 use jack_types::Overrun;

@@ -12,7 +12,7 @@ use std::marker::Model;
 pub const MOST_NOTED: usize = 20;
 
 /// A call that was refused: its lane, its number among the calls of the lane, counted from 1, and why.
-#[derive(Clone, Copy, PartialEq, Eq, Debug)]
+#[derive(Clone, Copy, PartialEq, Eq)]
 pub struct Refused {
     pub lane: u64,
     pub index: u64,

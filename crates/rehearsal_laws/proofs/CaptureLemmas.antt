@@ -15,7 +15,7 @@ use Rattle.rand_pcg.specs.Lcg.{Lcg}
 use Rattle.rehearsal_model.specs.Rehearsals.{capture_samples, draw, drawn, rehearsal, rehearsal_capture, rehearsal_format, sample_drawn}
 use Rattle.session_model.specs.Samples.{down, signed, up}
 use Rattle.session_model.specs.WaveFiles.{AreWritable, IsFormat, IsWave}
-use Rattle.session_laws.proofs.WaveWritten.{wave_text-wave}
+use Rattle.wave_laws.proofs.WaveWritten.{wave_text-wave}
 use Rattle.rehearsal_laws.proofs.DrawnLemmas.{drawn-each, drawn-length}
 
 -- a sample of 32 bits whose low half is zero

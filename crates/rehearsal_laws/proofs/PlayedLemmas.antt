@@ -26,7 +26,7 @@ use Rattle.session_model.specs.Scripts.{Phase, ScriptCycle, phases_of, turns, tu
 use Rattle.session_model.specs.Serial.{serial}
 use Rattle.session_model.specs.State.{Connection, playback_port}
 use Rattle.session_model.specs.WaveFiles.{file_text, wave_text}
-use Rattle.session_laws.proofs.WaveSamples.{length-bytes_of, samples_of-bytes_of}
+use Rattle.wave_laws.proofs.WaveSamples.{length-bytes_of, samples_of-bytes_of}
 use Rattle.rehearsal_laws.proofs.CaptureLemmas.{up-negsuc, up-pos}
 use Rattle.rehearsal_laws.proofs.DrawnLemmas.{all-append}
 use Rattle.rehearsal_laws.proofs.ScriptLemmas.{AreDos, AreLanes, dos-in, dos_of, parts}

@@ -43,7 +43,7 @@ use Rattle.session_laws.proofs.ListLemmas.{Each, Each-append, Each-contains, Eac
 use Rattle.session_laws.proofs.SerialCallsLemmas.{Each-counted, KeepsLanes}
 use Rattle.session_laws.proofs.SerialLawfulLemmas.{KeepsLanes-phases, serial-has_cycles}
 use Rattle.session_laws.proofs.SerialLemmas.{plan_of-planned, planned_from_serial}
-use Rattle.session_laws.proofs.WaveSamples.{length-bytes_of}
+use Rattle.wave_laws.proofs.WaveSamples.{length-bytes_of}
 use Rattle.rehearsal_laws.specs.Lines.{capture_line}
 use Rattle.rehearsal_laws.proofs.DrawnLemmas.{all-append}
 use Rattle.rehearsal_laws.proofs.PlayedLemmas.{HasTurns, all-pass, file-size, flat-length, plain, told-bytes, turn-plain, turns-are}

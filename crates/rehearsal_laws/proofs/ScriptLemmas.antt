@@ -22,8 +22,8 @@ use Rattle.rehearsal_model.specs.Rehearsals.{any_line, capture_samples, chain_li
 use Rattle.session_model.specs.Grammar.{IsCommand, IsFormat, IsHeader, IsIn, IsKind, IsListed, IsScript, all_bytes, all_cycles, begun_after, is_call, is_period_line, is_segment, last_begun, open_segment, opens, segment_after}
 use Rattle.session_model.specs.Samples.{below}
 use Rattle.session_model.specs.Scripts.{phases_of}
-use Rattle.session_laws.proofs.GrammarLimits.{all_bytes-append, all_cycles-append, bytes_in, count_by-append, cycles_in}
-use Rattle.session_laws.proofs.GrammarLoops.{AreBodies, bodies-at}
+use Rattle.grammar_laws.proofs.GrammarLimits.{all_bytes-append, all_cycles-append, bytes_in, count_by-append, cycles_in}
+use Rattle.grammar_laws.proofs.GrammarLoops.{AreBodies, bodies-at}
 use Rattle.session_laws.proofs.ListLemmas.{IsNonDecreasing-ordered}
 use Rattle.rehearsal_laws.specs.Lines.{HasCounts, capture_line, end_lines, is_do, is_lane, lines_drawn}
 use Rattle.rehearsal_laws.proofs.DrawnLemmas.{all-append, drawn-count, drawn-each}

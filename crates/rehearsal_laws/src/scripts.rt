@@ -6,7 +6,7 @@ ghost use Rattle.rehearsal_model.specs.Rehearsals.{rehearsal, rehearsal_script};
 ghost use Rattle.session_model.specs.Grammar.{IsScript, Spells, all_cycles};
 ghost use Rattle.session_model.specs.Scripts.{phases};
 
-use session_laws::grammar::printed_script;
+use grammar_laws::grammar::printed_script;
 
 /// The script of each number is one, and its bytes spell it.
 pub fn rehearsal_is_a_script()

@@ -12,7 +12,7 @@ use Rattle.session_model.specs.Grammar.{int_text}
 use Rattle.session_model.specs.Reports.{line}
 use Rattle.session_model.specs.Samples.{down, samples_of, total}
 use Rattle.session_model.specs.Serial.{serial}
-use Rattle.session_laws.proofs.WaveSamples.{length-samples_of}
+use Rattle.wave_laws.proofs.WaveSamples.{length-samples_of}
 use Rattle.rehearsals.specs.Summaries.{IsRehearsal, summary_of, units_behind}
 
 shape : (r a nl c1 b sp rf c l3 p1 d sm e l5 l6 : List ℕ)

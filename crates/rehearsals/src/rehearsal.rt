@@ -6,7 +6,7 @@ ghost use Rattle.rehearsal_model.specs.Rehearsals.{rehearsal_capture, rehearsal_
 use crate::drawing::generator;
 use crate::lines::draw_script;
 use crate::sounds::{draw_samples, file_of};
-use jack_host::MemoryStore;
+use host_memory::MemoryStore;
 use jack_types::Memory;
 use rehearsal_laws::captures::rehearsal_is_a_wave;
 use std::alloc::Global;
@@ -21,7 +21,7 @@ pub struct Rehearsal {
 
 impl Model for Rehearsal {
     ghost use Rattle.std.specs.Prelude.{string_bytes};
-    ghost use Rattle.jack_host.specs.Memory.{store_bytes};
+    ghost use Rattle.host_memory.specs.Memory.{store_bytes};
     ghost use Rattle.rehearsals.specs.Made.{Made};
 
     ghost Value = { Made };

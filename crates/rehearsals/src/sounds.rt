@@ -1,14 +1,14 @@
 //! The capture of a rehearsal.
 
 ghost use Rattle.std.specs.Prelude.{◌≡◌, ◌^◌, [], IfOk};
-ghost use Rattle.jack_host.specs.Memory.{store_bytes};
+ghost use Rattle.host_memory.specs.Memory.{store_bytes};
 ghost use Rattle.rehearsal_laws.specs.Lines.{Adds};
 ghost use Rattle.rehearsal_model.specs.Rehearsals.{capture_samples, draw, drawn, rehearsal_format, sample_drawn};
 ghost use Rattle.session_model.specs.Samples.{signed, up};
 ghost use Rattle.session_model.specs.WaveFiles.{AreWritable, wave_text};
 
 use crate::drawing::draw;
-use jack_host::MemoryStore;
+use host_memory::MemoryStore;
 use jack_types::{Format, Memory};
 use rand_pcg::Pcg32;
 use std::alloc::{AllocError, Global};

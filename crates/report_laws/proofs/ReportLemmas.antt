@@ -5,7 +5,7 @@
 use Rattle.std.proofs.Common.{◌≡◌, ℕ, zero, suc, ◌<◌, ◌≤◌, List, [], ◌∷◌, ◌++◌, length, map, take, drop, All, refl, sym, ◌∙◌, ap, subst, arith}
 use Rattle.std.specs.Prelude.{option_and_then}
 use Rattle.std.proofs.lemmas.List.{map-append, length-take, take_all, take-append-drop}
-use Rattle.session_model.specs.Checking.{BeginsReport, IsForm, ended_lines}
+use Rattle.check_model.specs.Checking.{BeginsReport, IsForm, ended_lines}
 use Rattle.session_model.specs.Grammar.{IsScript}
 use Rattle.session_model.specs.Reports.{Report, report_lines}
 use Rattle.session_model.specs.Scripts.{Script}

@@ -11,7 +11,7 @@ use Rattle.session_model.specs.Grammar.{IsScript}
 use Rattle.session_model.specs.Reports.{PrintedCycle, PrintedRecorder, PrintedDisk}
 use Rattle.session_model.specs.Scripts.{Script}
 use Rattle.session_laws.proofs.ListLemmas.{Each, Each-append, Each-map, Each-flat_map, slice-some}
-use Rattle.session_laws.proofs.SameReportLemmas.{turns-few}
+use Rattle.report_texts.proofs.SameReportLemmas.{turns-few}
 use Rattle.report_reader.specs.Forms.{IsLineForm}
 use Rattle.report_reader.specs.Reports.{IsPlacedRecorder, IsPlacedDisk, cycle_row, disk_rows, overrun_row, recorder_rows, underrun_row}
 use Rattle.report_reader.specs.declared.rows.Line.{Line}

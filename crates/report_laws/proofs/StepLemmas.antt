@@ -1,23 +1,21 @@
 -- One line more.
+--     same-lines      texts are those of one list of lines at most
 --     same-place      texts lead to one place at most
 --     more-read, read-more      one text more is read exactly where it is a line that may come
-use Rattle.std.proofs.Common.{◌≡◌, ℕ, List, [], ◌∷◌, ◌++◌, map, Option, Some, None, refl, sym, ◌∙◌, ap, ap₂, subst}
-use Rattle.std.specs.Prelude.{option_and_then}
+use Rattle.std.proofs.Common.{◌≡◌, ℕ, List, [], ◌∷◌, ◌++◌, map, Some, refl, sym, ◌∙◌, ap, ap₂, subst}
 use Rattle.std.proofs.lemmas.List.{map-append}
-use Rattle.session_model.specs.Reports.{spaced}
 use Rattle.session_model.specs.Scripts.{Script}
 use Rattle.session_laws.proofs.ListLemmas.{Each, Each-append, slice-some}
 use Rattle.session_laws.proofs.SerialLossLemmas.{All-from_each}
 use Rattle.check_laws.proofs.SameLemmas.{Each-from_all}
-use Rattle.report_reader.proofs.LineLemmas.{line-again, text-words, words_of}
+use Rattle.report_reader.proofs.LineLemmas.{same-line}
 use Rattle.report_reader.proofs.RowLemmas.{Each-split}
 use Rattle.report_reader.specs.Forms.{IsLineForm, line_text}
 use Rattle.report_reader.specs.declared.rows.Line.{Line}
 use Rattle.report_laws.specs.Places.{IsRead, limits_of, next, walk}
-use Rattle.report_laws.specs.declared.places.Limits.{Limits}
 use Rattle.report_laws.specs.declared.places.Place.{Place}
 use Rattle.report_laws.specs.declared.places.Place.TheVariants.{Start}
-use Rattle.report_laws.proofs.WalkLemmas.{walk-append}
+use Rattle.report_laws.proofs.WalkLemmas.{walk-more}
 
 module _ {X : Type 0} where
   head-same : (x y : X) (xs ys : List X) → x ∷ xs ≡ y ∷ ys → x ≡ y
@@ -29,11 +27,7 @@ module _ {X : Type 0} where
   nil-cons : (x : X) (xs : List X) → [] ≡ x ∷ xs → ⊥
   nil-cons x xs e = cc
 
--- a text is the line of one row at most
-same-line : (x y : Line) → IsLineForm x → IsLineForm y → line_text x ≡ line_text y → x ≡ y
-same-line x y g h e = slice-some x y (sym (line-again (spaced (words_of x)) x g (sym (text-words x))) ∙ line-again (spaced (words_of x)) y h (sym (text-words x) ∙ e))
-
-same-lines : (xs ys : List Line) → Each IsLineForm xs → Each IsLineForm ys → map line_text xs ≡ map line_text ys → xs ≡ ys
+pub same-lines : (xs ys : List Line) → Each IsLineForm xs → Each IsLineForm ys → map line_text xs ≡ map line_text ys → xs ≡ ys
 same-lines [] [] g h e = refl
 same-lines [] (y ∷ ys) g h e = absurd (nil-cons (line_text y) (map line_text ys) e)
 same-lines (x ∷ xs) [] g h e = absurd (nil-cons (line_text x) (map line_text xs) (sym e))
@@ -63,10 +57,6 @@ part (x ∷ lines) (t ∷ texts) text e =
       text_is = r.text_is;
     }
 
-last-step : (limits : Limits) (o : Option Place) → option_and_then (λ q. walk limits q []) o ≡ o
-last-step limits None = refl
-last-step limits (Some q) = refl
-
 module _ (script : Script) where
   pub same-place : (texts : List (List ℕ)) (one two : Place) → IsRead script texts one → IsRead script texts two → one ≡ two
   same-place texts one two a b =
@@ -83,11 +73,7 @@ module _ (script : Script) where
         r.last,
         form.1.0,
         sym r.text_is,
-        sym (last-step (limits_of script) (next (limits_of script) place r.last))
-            ∙ sym (ap (option_and_then (λ q. walk (limits_of script) q (r.last ∷ []))) there)
-            ∙ sym (walk-append (limits_of script) Start r.front (r.last ∷ []))
-            ∙ sym (ap (walk (limits_of script) Start) r.lines_are)
-            ∙ that.3,
+        sym (walk-more (limits_of script) Start place r.front r.last there) ∙ sym (ap (walk (limits_of script) Start) r.lines_are) ∙ that.3,
       )
 
   pub read-more : (texts : List (List ℕ)) (place : Place) → IsRead script texts place → (text : List ℕ) (behind : Place)
@@ -96,8 +82,5 @@ module _ (script : Script) where
     it.0 ++ one.0 ∷ [],
     All-from_each IsLineForm (it.0 ++ one.0 ∷ []) (Each-append IsLineForm it.0 (one.0 ∷ []) (Each-from_all IsLineForm it.0 it.1) (one.1, tt)),
     ap₂ (λ (ts : List (List ℕ)) (t : List ℕ). ts ++ t ∷ []) it.2 one.2 ∙ sym (map-append line_text it.0 (one.0 ∷ [])),
-    walk-append (limits_of script) Start it.0 (one.0 ∷ [])
-        ∙ ap (option_and_then (λ q. walk (limits_of script) q (one.0 ∷ []))) it.3
-        ∙ last-step (limits_of script) (next (limits_of script) place one.0)
-        ∙ one.3,
+    walk-more (limits_of script) Start place it.0 one.0 it.3 ∙ one.3,
   )

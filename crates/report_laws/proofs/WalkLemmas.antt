@@ -1,5 +1,5 @@
 -- The lines of a placed report lead from the start to the end.
---     walk-append, walk-prefix      one part after the other
+--     walk-append, walk-more, walk-prefix      one part after the other
 --     report-walks      all lines of a report
 --     overruns-pass, recorders-pass, ..      the lines of a kind
 use Rattle.std.proofs.Common.{◌≡◌, ℕ, suc, ◌+◌, ◌-◌, ◌<◌, ◌≤◌, ◌==◌, true, nat_lt, nat_le, List, [], ◌∷◌, ◌++◌, length, map, flat_map, slice_get, Option, Some, None, refl, sym, ◌∙◌, ap, subst, arith, append_assoc}
@@ -27,6 +27,14 @@ walk-append limits p (x ∷ xs) ys = go (next limits p x) (λ q. walk-append lim
         → option_and_then (λ q. walk limits q (xs ++ ys)) o ≡ option_and_then (λ q. walk limits q ys) (option_and_then (λ q. walk limits q xs) o)
     go None f = refl
     go (Some q) f = f q
+
+-- one line more
+pub walk-more : (limits : Limits) (p q : Place) (lines : List Line) (line : Line) → walk limits p lines ≡ Some q → walk limits p (lines ++ line ∷ []) ≡ next limits q line
+walk-more limits p q lines line there = walk-append limits p lines (line ∷ []) ∙ ap (option_and_then (λ r. walk limits r (line ∷ []))) there ∙ last (next limits q line)
+  where
+    last : (o : Option Place) → option_and_then (λ r. walk limits r []) o ≡ o
+    last None = refl
+    last (Some r) = refl
 
 pub walk-prefix : (limits : Limits) (p q : Place) (xs ys : List Line) → walk limits p (xs ++ ys) ≡ Some q → (r : Place) × (walk limits p xs ≡ Some r)
 walk-prefix limits p q xs ys h = go (walk limits p xs) refl (sym (walk-append limits p xs ys) ∙ h)

@@ -7,7 +7,7 @@ use Rattle.std.specs.Prelude.{◌≡◌, ℕ, zero, suc, ◌+◌, ◌-◌, ◌*�
 use Rattle.jack_types.specs.declared.moments.TransportState.TheVariants.{Stopped}
 use Rattle.jack_types.specs.declared.replies.Overrun.{Overrun}
 use Rattle.jack_types.specs.declared.replies.Underrun.{Underrun}
-use Rattle.session_model.specs.Checking.{calls_that, opens_log, opens_meter}
+use Rattle.check_model.specs.Checking.{calls_that, opens_log, opens_meter}
 use Rattle.session_model.specs.Reports.{PrintedCycle, PrintedDisk, PrintedRecorder}
 use Rattle.session_model.specs.Scripts.{Script, planned, turns}
 use Rattle.report_reader.specs.Forms.{IsLineForm, line_text}

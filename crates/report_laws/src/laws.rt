@@ -1,7 +1,7 @@
 //! A report is read line by line exactly where it is of its form.
 
 ghost use Rattle.std.specs.Prelude.{◌≡◌, ◌≤◌, ◌<◌, ◌↔◌, ◌++◌, ◌∷◌, [], ℕ, List, Some, length, map, take};
-ghost use Rattle.session_model.specs.Checking.{BeginsReport, IsForm, ended_lines};
+ghost use Rattle.check_model.specs.Checking.{BeginsReport, IsForm, ended_lines};
 ghost use Rattle.session_model.specs.Grammar.{IsScript};
 ghost use Rattle.session_model.specs.Reports.{Report, report_lines};
 ghost use Rattle.session_model.specs.Scripts.{Script};

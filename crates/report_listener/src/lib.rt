@@ -1,4 +1,4 @@
-//! A sink that listens to the report that goes through it, and notes its calls.
+//! A sink that listens to the report that goes through it, and notes its calls and its recorders.
 #![tactic(auto)]
 
 mod listening;

@@ -1,19 +1,21 @@
 //! A sink that listens to the report that goes through it.
 
-ghost use Rattle.std.specs.Prelude.{◌≡◌, [], true};
+ghost use Rattle.std.specs.Prelude.{◌≡◌, []};
+ghost use Rattle.lost_blocks.specs.Losses.{none_noted};
 
 use jack_host::{Failed, Sink};
+use lost_blocks::Losses;
 use refused_calls::Notes;
 
-/// A sink in front of another one. It passes each put on as it is, and notes the calls of the report: the lines from the
-/// first on, up to the first that is none of a call.
+/// A sink in front of another one. It passes each put on as it is, and notes the calls and the recorders of the report: of each
+/// put the lines from the first on, up to the first of another kind.
 ///
-/// It takes no memory and copies no byte. Behind the calls it looks at no byte. A put holds whole lines.
+/// It takes no memory and copies no byte. Of the lines of cycles it reads the first of each put. A put holds whole lines.
 #[derive(Drop)]
 pub struct ListeningSink<K> {
     inner: K,
     notes: Notes,
-    listens: bool,
+    losses: Losses,
 }
 
 impl<K> ListeningSink<K> {
@@ -21,12 +23,12 @@ impl<K> ListeningSink<K> {
     pub fn new(inner: K) -> ListeningSink<K>
         ensures inner { result.inner ≡ inner }
         ensures notes { result.notes ≡ record { first = []; refused = 0; calls = 0 } }
-        ensures listens { result.listens ≡ true }
+        ensures losses { result.losses ≡ none_noted }
     {
         ListeningSink {
             inner,
             notes: Notes::new(),
-            listens: true,
+            losses: Losses::new(),
         }
     }
 
@@ -37,11 +39,18 @@ impl<K> ListeningSink<K> {
         &self.inner
     }
 
-    /// What is noted so far.
+    /// What is noted so far of calls.
     pub fn notes(&self) -> &Notes
         ensures { result.now ≡ self.now.notes }
     {
         &self.notes
+    }
+
+    /// What is noted so far of recorders.
+    pub fn losses(&self) -> &Losses
+        ensures { result.now ≡ self.now.losses }
+    {
+        &self.losses
     }
 }
 
@@ -55,20 +64,16 @@ fn first_line(bytes: &[u8]) -> (&[u8], &[u8]) {
     (bytes, &bytes[..0])
 }
 
-// Hears lines of a report, and answers whether lines of calls may follow.
-fn hear(notes: &mut Notes, lines: &[u8]) -> bool {
+// Hears lines of a report, up to the first that is none of a call or of a recorder.
+fn hear(notes: &mut Notes, losses: &mut Losses, lines: &[u8]) {
     let mut rest = lines;
     for _ in 0..lines.len() {
-        if rest.is_empty() {
-            return true;
-        }
         let (line, behind) = first_line(rest);
-        if !notes.hear(line) {
-            return false;
+        if rest.is_empty() || !(notes.hear(line) || losses.hear(line)) {
+            return;
         }
         rest = behind;
     }
-    true
 }
 
 impl<K: Sink> Sink for ListeningSink<K> {
@@ -78,8 +83,8 @@ impl<K: Sink> Sink for ListeningSink<K> {
 
     fn put(&mut self, bytes: &[u8]) -> Result<(), Failed> {
         let put = self.inner.put(bytes);
-        if put.is_ok() && self.listens {
-            self.listens = hear(&mut self.notes, bytes);
+        if put.is_ok() {
+            hear(&mut self.notes, &mut self.losses, bytes);
         }
         put
     }

@@ -10,7 +10,7 @@ use Rattle.jack_types.specs.declared.moments.TransportState.TheVariants.{Stopped
 use Rattle.jack_types.specs.declared.replies.Refusal.{Refusal}
 use Rattle.jack_types.specs.declared.replies.Refusal.TheVariants.{NoClient, NoPort, IsOpen, IsSystem, NameTaken, AlreadyActive, NotActive, ClientsFull, PortsFull, NoSource, NoDestination, NotOutput, NotInput, TypeDiffers, Inactive, Exists, Full, NotConnected, Busy, NotMaster, InUse}
 use Rattle.session_model.specs.Reports.{state_name}
-use Rattle.session_model.specs.Checking.{IsNumber}
+use Rattle.check_model.specs.Checking.{IsNumber}
 use Rattle.report_reader.proofs.NumberLemmas.{number_of-again}
 use Rattle.report_reader.proofs.ReaderLemmas.{bind_some, some_same, Inverse, number-back, small-back, one_word}
 use Rattle.report_reader.specs.Forms.{IsReply, IsCall}

@@ -1,6 +1,7 @@
 -- Lines: what is read is what was written.
 --     line-is, line-again      the two directions
 --     line-found      the clause of the reader
+--     same-line      a text is the line of one row at most
 use Rattle.std.proofs.Common.{◌≡◌, ℕ, Bool, true, false, List, [], ◌∷◌, ◌++◌, flat_map, decimal, codes, Option, Some, None, refl, sym, ap, ap₂, subst, ◌∙◌, ◌≢◌, arith, append_assoc, append-nil}
 use Rattle.std.specs.Prelude.{if◌then◌else◌}
 use Rattle.std.specs.Str.{bytes_eq}
@@ -10,10 +11,10 @@ use Rattle.jack_types.specs.declared.moments.TransportState.{TransportState}
 use Rattle.jack_types.specs.declared.moments.TransportState.TheVariants.{Stopped, Rolling, Starting}
 use Rattle.jack_types.specs.declared.replies.Refusal.{Refusal}
 use Rattle.jack_types.specs.declared.replies.Refusal.TheVariants.{NoClient, NoPort, IsOpen, IsSystem, NameTaken, AlreadyActive, NotActive, ClientsFull, PortsFull, NoSource, NoDestination, NotOutput, NotInput, TypeDiffers, Inactive, Exists, Full, NotConnected, Busy, NotMaster, InUse}
-use Rattle.session_model.specs.Reports.{line, state_name, bbt_word, hex_byte}
-use Rattle.session_laws.proofs.ListLemmas.{Each, Each-append}
+use Rattle.session_model.specs.Reports.{line, spaced, state_name, bbt_word, hex_byte}
+use Rattle.session_laws.proofs.ListLemmas.{Each, Each-append, slice-some}
 use Rattle.session_laws.proofs.TextLemmas.{Lacks}
-use Rattle.session_laws.proofs.ReportLemmas.{lacks, no_space}
+use Rattle.report_texts.proofs.ReportLemmas.{lacks, no_space}
 use Rattle.check_laws.proofs.NameLemmas.{name-lacks}
 use Rattle.report_reader.proofs.CallLemmas.{same_word, call-back, call_words, reply_of_words}
 use Rattle.report_reader.proofs.CycleLemmas.{whole-is, cycle-back, cycle_words, place_word}
@@ -262,3 +263,6 @@ line-found text None e = λ other g h. none other (e ∙ line-again text other g
   where
     none : (y : Line) → None ≡ Some y → ⊥
     none y q = cc
+
+pub same-line : (x y : Line) → IsLineForm x → IsLineForm y → line_text x ≡ line_text y → x ≡ y
+same-line x y g h e = slice-some x y (sym (line-again (spaced (words_of x)) x g (sym (text-words x))) ∙ line-again (spaced (words_of x)) y h (sym (text-words x) ∙ e))

@@ -11,7 +11,7 @@ use Rattle.std.proofs.lemmas.Str.Parse.{IsNumeralModel, numerals_by_fold, digits
 use Rattle.session_model.specs.Grammar.{is_digit, number_value}
 use Rattle.session_laws.proofs.LoopLemmas.{and_parts}
 use Rattle.session_laws.proofs.TextLemmas.{Lacks}
-use Rattle.session_model.specs.Checking.{IsNumber}
+use Rattle.check_model.specs.Checking.{IsNumber}
 use Rattle.report_reader.specs.Readers.{is_digits, leads_zero, number_of}
 
 powers : (i : ℕ) → i ≤ 19 → 10 ^ i ≤ 10 ^ 19

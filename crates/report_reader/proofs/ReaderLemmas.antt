@@ -5,7 +5,7 @@ use Rattle.std.specs.Prelude.{nat_lt, if◌then◌else◌}
 use Rattle.std.proofs.lemmas.Bool.Decides.{nat_tests}
 use Rattle.jack_types.specs.Names.{IsClientName, client_name_fault}
 use Rattle.jack_types.specs.declared.names.NameFault.{NameFault}
-use Rattle.session_model.specs.Checking.{IsNumber}
+use Rattle.check_model.specs.Checking.{IsNumber}
 use Rattle.report_reader.proofs.NumberLemmas.{number_of-is, number_of-again}
 use Rattle.report_reader.specs.Forms.{count_words, IsCount, IsLoss, IsThree, IsMeter}
 use Rattle.report_reader.specs.Readers.{◌>>=◌, Reader, word, number_of, number, small_number, name_where, client, place, meter, count, loss}

@@ -8,12 +8,12 @@ use Rattle.jack_types.specs.declared.replies.Overrun.{Overrun}
 use Rattle.jack_types.specs.declared.replies.Reply.{Reply}
 use Rattle.jack_types.specs.declared.replies.Reply.TheVariants.{Accepted, Refused, Latency}
 use Rattle.jack_types.specs.declared.replies.Underrun.{Underrun}
-use Rattle.session_model.specs.Checking.{IsForm, IsCallLine, IsCycleLine, IsMeterLine, IsEventLine, IsOverrunLine, IsUnderrunLine, IsRecorderLine, IsDiskLine, IsReplyForm, IsBbtForm}
+use Rattle.check_model.specs.Checking.{IsForm, IsCallLine, IsCycleLine, IsMeterLine, IsEventLine, IsOverrunLine, IsUnderrunLine, IsRecorderLine, IsDiskLine, IsReplyForm, IsBbtForm}
 use Rattle.session_model.specs.Grammar.{IsScript}
 use Rattle.session_model.specs.Reports.{Report, PrintedCall, PrintedCycle, PrintedMeter, PrintedEvent, PrintedRecorder, PrintedDisk, report_lines, line, call_line, cycle_line, meter_line, event_line, overrun_line, underrun_line, recorder_lines, disk_lines}
 use Rattle.session_model.specs.Scripts.{Script, turns}
 use Rattle.session_laws.proofs.ListLemmas.{Each, Each-weaker, Each-append, Each-map, Each-flat_map, Each-unmap, Each-at}
-use Rattle.session_laws.proofs.SameReportLemmas.{turns-few}
+use Rattle.report_texts.proofs.SameReportLemmas.{turns-few}
 use Rattle.session_laws.proofs.SerialLossLemmas.{All-from_each}
 use Rattle.check_laws.proofs.SameLemmas.{Each-from_all, Each-from_get, place-inside}
 use Rattle.check_laws.proofs.ShortFits.{lines-short}
@@ -32,7 +32,7 @@ call-text call = go call.reply
     go (Refused r) = refl
     go (Latency range) = refl
 
-cycle-text : (cycle : PrintedCycle) → line_text (cycle_row cycle) ≡ cycle_line cycle
+pub cycle-text : (cycle : PrintedCycle) → line_text (cycle_row cycle) ≡ cycle_line cycle
 cycle-text cycle = go cycle.moment.bbt
   where
     go : (p : Option Bbt)
@@ -111,7 +111,7 @@ form-reply (Accepted n) h = h
 form-reply (Refused r) h = tt
 form-reply (Latency range) h = (h.0, h.1)
 
-place-form : (p : Option Bbt) → IsBbtForm p → IsPlace (place_row p)
+pub place-form : (p : Option Bbt) → IsBbtForm p → IsPlace (place_row p)
 place-form None h = tt
 place-form (Some place) h = (h.0, h.1, h.2)
 

@@ -9,7 +9,7 @@ use Rattle.jack_types.specs.declared.moments.Bbt.{Bbt}
 use Rattle.jack_types.specs.declared.replies.Reply.{Reply}
 use Rattle.jack_types.specs.declared.replies.Reply.TheVariants.{Accepted, Refused, Latency}
 use Rattle.session_model.specs.Reports.{line, PrintedCall, PrintedCycle, PrintedMeter, PrintedEvent, call_line, cycle_line, meter_line, event_line, overrun_line, underrun_line}
-use Rattle.session_model.specs.Checking.{IsNumber}
+use Rattle.check_model.specs.Checking.{IsNumber}
 use Rattle.report_reader.specs.declared.rows.CallLine.{CallLine}
 use Rattle.report_reader.specs.declared.rows.Count.{Count}
 use Rattle.report_reader.specs.declared.rows.CycleLine.{CycleLine}

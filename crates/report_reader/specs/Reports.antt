@@ -7,7 +7,7 @@ use Rattle.jack_types.specs.declared.replies.Overrun.{Overrun}
 use Rattle.jack_types.specs.declared.replies.Reply.{Reply}
 use Rattle.jack_types.specs.declared.replies.Reply.TheVariants.{Accepted, Refused, Latency}
 use Rattle.jack_types.specs.declared.replies.Underrun.{Underrun}
-use Rattle.session_model.specs.Checking.{calls_that, opens_log, opens_meter}
+use Rattle.check_model.specs.Checking.{calls_that, opens_log, opens_meter}
 use Rattle.session_model.specs.Reports.{PrintedCall, PrintedCycle, PrintedDisk, PrintedEvent, PrintedMeter, PrintedRecorder, Report}
 use Rattle.session_model.specs.Scripts.{Script, planned, turns}
 use Rattle.report_reader.specs.declared.rows.Line.{Line}

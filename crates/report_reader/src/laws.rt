@@ -1,7 +1,7 @@
 //! The lines of a whole report, against the definition of its form.
 
 ghost use Rattle.std.specs.Prelude.{◌≡◌, ◌↔◌, All, map};
-ghost use Rattle.session_model.specs.Checking.{IsForm};
+ghost use Rattle.check_model.specs.Checking.{IsForm};
 ghost use Rattle.session_model.specs.Grammar.{IsScript};
 ghost use Rattle.session_model.specs.Reports.{Report, report_lines};
 ghost use Rattle.session_model.specs.Scripts.{Script};

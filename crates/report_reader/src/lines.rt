@@ -16,7 +16,7 @@ pub const MOST_BYTES: usize = 512;
 
 /// What a source gives next: a line of a report, a line of no form, or its end.
 /// A line without an LF, or of more than 512 bytes before it, is of no form.
-#[derive(Clone, Copy, PartialEq, Eq, Debug)]
+#[derive(Clone, Copy, PartialEq, Eq)]
 pub enum Next {
     Line(Line),
     Other,

@@ -9,8 +9,8 @@ use Rattle.jack_types.specs.declared.replies.Overrun.{Overrun}
 use Rattle.session_model.specs.Courses.{Course}
 use Rattle.session_model.specs.Recorders.{is_taping}
 use Rattle.session_model.specs.Serial.{Counts, drained, put_one}
-use Rattle.record_ring.specs.Rings.{Getting, Sending}
-use Rattle.wave_write.specs.Tapes.{Tape}
+use Rattle.driver_words.specs.Rings.{Getting, Sending}
+use Rattle.driver_words.specs.Tapes.{Tape}
 use Rattle.disk_recorder.specs.Recordings.{Drains}
 use Rattle.driver_laws.specs.Cycling.{Idle, Lacked, PutsOne, Went}
 use Rattle.run_laws.specs.SerialRuns.{HasCounts, HasPut}

@@ -23,7 +23,7 @@ use Rattle.session_model.specs.Soundness.{Apart}
 use Rattle.session_laws.proofs.ActivationLemmas.{get_or-map_below, length-map_below}
 use Rattle.graph_word.specs.declared.view.TakenRow.{TakenRow}
 use Rattle.graph_word.specs.Publications.{HaveMet, IsFront}
-use Rattle.record_ring.specs.Rings.{Getting, Sending}
+use Rattle.driver_words.specs.Rings.{Getting, Sending}
 use Rattle.control_desk.specs.Laws.{AreApart, AreOfCalls as AcceptsCalls, OfCallsAccepted}
 use Rattle.driver_laws.specs.Drivers.{Driver, underruns_on}
 use Rattle.driver_laws.specs.Keeping.{AreOfCalls, Fits, FitsDisk, Keeps, file_block}
@@ -45,7 +45,7 @@ pub AreOfCalls-kept : (script : Script) (changes : List Change) → AcceptsCalls
 AreOfCalls-kept script changes accepts = record { calls = accepts.calls; commands = accepts.commands; planned_ones = accepts.planned_ones; once = Apart-from accepts.calls accepts.once }
 
 -- a row at a place is a front of all that is published, as long as the driver's number says
-row_at : (rows : List TakenRow) (all : List Change) (numbers : List ℕ) → map (λ (row : TakenRow). length row.changes) rows ≡ numbers → All (λ (row : TakenRow). IsFront row.changes all) rows
+pub row_at : (rows : List TakenRow) (all : List Change) (numbers : List ℕ) → map (λ (row : TakenRow). length row.changes) rows ≡ numbers → All (λ (row : TakenRow). IsFront row.changes all) rows
     → (k : ℕ) (row : TakenRow) → slice_get rows k ≡ Some row → row.changes ≡ take (slice_index_or numbers k 0) all
 row_at rows all numbers same fronts k row there =
     let row_is : get_or rows k row ≡ row = get_or_from_slice_get rows k row row there in

@@ -26,7 +26,7 @@ use Rattle.run_laws.proofs.CourseLemmas.{IsOver-own}
 use Rattle.run_laws.proofs.PlaceLemmas.{some_at}
 
 -- a front is no longer than the whole
-front-short : (front whole : List Change) → IsFront front whole → length front ≤ length whole
+pub front-short : (front whole : List Change) → IsFront front whole → length front ≤ length whole
 front-short front whole is =
     let short : length front ≡ min (length front) (length whole) = ap length is ∙ length-take (length front) whole in
     subst (λ n. n ≤ length whole) (sym short) (min-le_right (length front) (length whole))

@@ -23,7 +23,7 @@ use Rattle.session_model.specs.Scripts.{Script, phases, turns}
 use Rattle.session_model.specs.Transport.{moment}
 use Rattle.session_laws.proofs.ActivationLemmas.{get_or-map_below}
 use Rattle.session_laws.proofs.ListLemmas.{flat_map-same}
-use Rattle.record_ring.specs.Rings.{Getting, Sending}
+use Rattle.driver_words.specs.Rings.{Getting, Sending}
 use Rattle.driver_laws.specs.Drivers.{log_in, memory_in, overruns_on, peak_in, run, underruns_on}
 use Rattle.driver_laws.specs.Keeping.{Keeps, kept_blocks}
 use Rattle.serial_lanes.specs.Laws.{CyclesTotal}

@@ -12,12 +12,12 @@ use Rattle.session_model.specs.Disks.{IsBehindRing, file_blocks}
 use Rattle.session_model.specs.Explanations.{Given}
 use Rattle.session_model.specs.Histories.{IsWithinPhase}
 use Rattle.session_model.specs.Recorders.{IsAfterSegment}
-use Rattle.session_model.specs.Rings.{RingBlock}
+use Rattle.session_model.specs.Rings.{RingBlock, samples_of_blocks}
 use Rattle.session_model.specs.Samples.{below}
 use Rattle.session_model.specs.Scripts.{Script, ScriptCycle, turns}
-use Rattle.record_ring.specs.Rings.{Sending, Getting}
-use Rattle.wave_write.specs.Tapes.{Tape, HasSamples}
-use Rattle.disk_recorder.specs.Recordings.{MayWrite, samples_of_blocks}
+use Rattle.driver_words.specs.Rings.{Sending, Getting}
+use Rattle.driver_words.specs.Tapes.{Tape, HasSamples}
+use Rattle.disk_recorder.specs.Recordings.{MayWrite}
 use Rattle.disk_player.specs.Files.{PlaysFile}
 use Rattle.disk_player.specs.Playing.{Playing}
 use Rattle.control_desk.specs.Desks.{IsDone}

@@ -11,7 +11,7 @@ use Rattle.session_model.specs.Histories.{accepted}
 use Rattle.session_model.specs.Serial.{Counts, counts, serial_course, serial_history, serial_numbers}
 use Rattle.graph_word.specs.declared.view.TakenRow.{TakenRow}
 use Rattle.graph_word.specs.Publications.{IsFront}
-use Rattle.record_ring.specs.Rings.{Sending, Getting}
+use Rattle.driver_words.specs.Rings.{Sending, Getting}
 use Rattle.disk_player.specs.Playing.{Playing}
 use Rattle.driver_laws.specs.Drivers.{overruns_on, run}
 use Rattle.driver_laws.specs.Keeping.{Fits}

@@ -14,8 +14,8 @@ use Rattle.session_model.specs.Grammar.{IsScript}
 use Rattle.session_model.specs.Samples.{below}
 use Rattle.session_model.specs.Scripts.{Script}
 use Rattle.graph_word.specs.Publications.{HaveMet}
-use Rattle.record_ring.specs.Rings.{Sending, Getting, IsPair}
-use Rattle.wave_write.specs.Tapes.{Tape}
+use Rattle.driver_words.specs.Rings.{Sending, Getting, IsPair}
+use Rattle.driver_words.specs.Tapes.{Tape}
 pub use Rattle.disk_player.specs.Playing.{Playing}
 use Rattle.control_desk.specs.Desks.{Desk, IsDesk}
 use Rattle.driver_laws.specs.Drivers.{Driver, HasOwnRings, HasOwnRows, overruns_on, run, underruns_on}

@@ -22,9 +22,9 @@ use Rattle.session_model.specs.Samples.{below}
 use Rattle.session_model.specs.Scripts.{Script, phases}
 use Rattle.session_model.specs.Serial.{serial}
 use Rattle.graph_word.specs.Publications.{IsOpening}
-use Rattle.record_ring.specs.Rings.{Sending, Getting}
-use Rattle.wave_write.specs.Tapes.{HasFront}
-use Rattle.disk_recorder.specs.Recordings.{samples_of_blocks}
+use Rattle.driver_words.specs.Rings.{Sending, Getting}
+use Rattle.driver_words.specs.Tapes.{HasFront}
+use Rattle.session_model.specs.Rings.{samples_of_blocks}
 use Rattle.disk_player.specs.Playing.{Playing}
 use Rattle.control_desk.specs.Desks.{IsNewDesk, base_of}
 use Rattle.driver_laws.specs.Drivers.{Driver, log_in, overruns_on, peak_in, run, underruns_on}

@@ -4,7 +4,7 @@ ghost use Rattle.std.specs.Prelude.{◌≡◌, ℕ, List, Some, length, map};
 ghost use Rattle.session_model.specs.Explanations.{Explained, Given};
 ghost use Rattle.session_model.specs.Reports.{report_of};
 ghost use Rattle.session_model.specs.Scripts.{phases};
-ghost use Rattle.record_ring.specs.Rings.{Sending};
+ghost use Rattle.driver_words.specs.Rings.{Sending};
 ghost use Rattle.run_laws.specs.Runs.{RanPhases};
 ghost use Rattle.run_laws.specs.Sessions.{IsGiven, KeepsGiven, Session, course_in, printed_of};
 ghost use Rattle.run_laws.specs.Told.{Ends, Runs, report_in, text_in};

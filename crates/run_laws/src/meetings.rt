@@ -4,7 +4,7 @@ ghost use Rattle.std.specs.Prelude.{◌≡◌, ℕ, Some, slice_get};
 ghost use Rattle.session_model.specs.Explanations.{Given};
 ghost use Rattle.session_model.specs.Histories.{KeepsAsked};
 ghost use Rattle.graph_word.specs.Publications.{HaveMet};
-ghost use Rattle.record_ring.specs.Rings.{Getting, Sending};
+ghost use Rattle.driver_words.specs.Rings.{Getting, Sending};
 ghost use Rattle.control_desk.specs.Desks.{Desk, IsDesk};
 ghost use Rattle.driver_laws.specs.Drivers.{Driver, HasOwnRows};
 ghost use Rattle.driver_laws.specs.Keeping.{Fits, FitsDisk};

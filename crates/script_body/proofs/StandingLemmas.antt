@@ -13,9 +13,9 @@ use Rattle.jack_types.specs.declared.scripts.Many.TheVariants.{Calls, Opens, Seg
 use Rattle.script_commands.proofs.ChoosingLemmas.{found_in-maybe}
 use Rattle.script_commands.specs.Choosing.{Choice, found_in, or_else}
 use Rattle.script_words.specs.Reads.{Reads}
-use Rattle.session_laws.proofs.GrammarLimits.{Limits, Limits-none, Limits-more, period_behind, cycles_in, bytes_in, count_by-append, all_cycles-append, all_bytes-append}
-use Rattle.session_laws.proofs.GrammarReaders.{number-reads}
-use Rattle.session_laws.proofs.GrammarWidths.{open_segment-more}
+use Rattle.grammar_laws.proofs.GrammarLimits.{Limits, Limits-none, Limits-more, period_behind, cycles_in, bytes_in, count_by-append, all_cycles-append, all_bytes-append}
+use Rattle.grammar_laws.proofs.GrammarReaders.{number-reads}
+use Rattle.grammar_laws.proofs.GrammarWidths.{open_segment-more}
 use Rattle.session_model.specs.Grammar.{is_call, opens, is_segment, is_period_line, segment_after, open_segment, begun_after, last_begun, most_channels, all_cycles, all_bytes}
 use Rattle.session_model.specs.Reading.{◌>>=◌, Read, word, chosen, made, number, any_number, fixed, begun_in, command, lane_line, old_lines, has_periods, body_line, Limit, body_limits, passed_limit, unless, whole, body_of, at_line, body_lines}
 use Rattle.session_model.specs.Scripts.{phases_of}

@@ -14,7 +14,7 @@ use Rattle.session_model.specs.Texts.{Line}
 use Rattle.script_words.specs.Remaining.{begun_line}
 use Rattle.script_header.specs.LineReads.{wholly}
 use Rattle.script_header.proofs.HeaderLemmas.{several-more, several-faulty, several-passed}
-use Rattle.session_laws.proofs.GrammarReaders.{number-reads}
+use Rattle.grammar_laws.proofs.GrammarReaders.{number-reads}
 use Rattle.script_words.specs.Midi.{midi, midi_event}
 use Rattle.script_header.specs.Fronts.{Item, event_behind}
 

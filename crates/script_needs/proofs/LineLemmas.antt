@@ -9,7 +9,7 @@ use Rattle.jack_types.specs.declared.scripts.Body.TheVariants.{Do, Run, Freewhee
 use Rattle.jack_types.specs.declared.scripts.Header.{Header}
 use Rattle.session_model.specs.Grammar.{all_cycles}
 use Rattle.session_model.specs.Scripts.{Phase, Script, phases, phases_of, with_do}
-use Rattle.session_laws.proofs.GrammarLimits.{all_cycles-append, cycles_in}
+use Rattle.grammar_laws.proofs.GrammarLimits.{all_cycles-append, cycles_in}
 use Rattle.driver_laws.specs.Drivers.{greatest_period}
 use Rattle.script_needs.specs.Lines.{cycles_on, first_periods, longest, past}
 

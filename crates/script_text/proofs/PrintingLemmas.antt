@@ -2,7 +2,7 @@
 use Rattle.std.proofs.Common.{◌≡◌, ℕ, zero, suc, ◌+◌, ◌<◌, ◌≤◌, true, false, List, [], ◌∷◌, ◌++◌, length, map, take, inl, inr, refl, sym, ap, subst, ◌∙◌, arith, append_assoc}
 use Rattle.std.proofs.lemmas.Fmt.{hex_byte as std_hex_byte}
 use Rattle.std.specs.Fmt.{AppendsText, digit_glyph, digits, format_spec, padded_integral}
-use Rattle.session_laws.proofs.GrammarEvents.{hex_digit-is}
+use Rattle.grammar_laws.proofs.GrammarEvents.{hex_digit-is}
 use Rattle.std.specs.Prelude.{◌/◌, ◌%◌, ◌⊎◌, nat_lt, OnOk, Option, Some, flat_map, codes, slice_index_or, Result, Ok, Err, IfOk, get_or}
 use Rattle.std.proofs.lemmas.List.{append-nil, map-append, take_more}
 use Rattle.std.proofs.lemmas.List.Concat.{flat_map-append}

@@ -1,2 +1,2 @@
-pub mod HexLemmas
+mod HexLemmas
 pub mod WordLemmas

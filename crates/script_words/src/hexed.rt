@@ -39,7 +39,7 @@ fn behind_pair(digits: &[u8]) -> &[u8]
 
 /// Writes the bytes that the word spells to the front of the buffer, and answers how many they are.
 /// `None` where the word spells no bytes, or more than the buffer takes.
-fn spelled(word: &[u8], buffer: &mut [u8]) -> Option<usize>
+pub fn spelled(word: &[u8], buffer: &mut [u8]) -> Option<usize>
     ensures none { IfNone result ((bytes : List ℕ) → hex_bytes word.now ≡ Some bytes → length buffer.old < length bytes) }
     ensures some { IfSome result (λ n. (hex_bytes word.now ≡ Some (take n buffer.new)) × (n ≤ length buffer.new)) }
     ensures size { length buffer.new ≡ length buffer.old }

@@ -7,5 +7,6 @@ mod lines;
 mod numbers;
 mod words;
 
+pub use hexed::spelled;
 pub use lines::{Line, Lines};
 pub use words::Words;

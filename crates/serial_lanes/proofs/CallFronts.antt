@@ -8,7 +8,8 @@ use Rattle.session_model.specs.Scripts.{Script, Phase, Planned, phases}
 use Rattle.session_model.specs.Serial.{calls_from, do_calls, lanes_at}
 use Rattle.control_desk.specs.Desks.{cycles_before}
 use Rattle.serial_lanes.specs.Lanes.{calls_behind}
-use Rattle.serial_lanes.proofs.ItemLemmas.{none-some, some-same, take-whole}
+use Rattle.call_laws.proofs.ItemLemmas.{none-some, some-same}
+use Rattle.serial_lanes.proofs.ItemLemmas.{take-whole}
 use Rattle.serial_lanes.specs.Laws.{CallsNextRound, CallsWhole, CallsNextPhase}
 
 pub lanes-next : (script : Script) (done base n : ℕ) → flat_map (λ t. lanes_at script done (base + t)) (below (suc n)) ≡ flat_map (λ t. lanes_at script done (base + t)) (below n) ++ lanes_at script done (base + n)

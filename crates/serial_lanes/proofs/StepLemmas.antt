@@ -13,7 +13,8 @@ use Rattle.control_desk.specs.Desks.{Desk, IsDone, LooksBy, Makes, MayStep, Wait
 use Rattle.call_laws.proofs.LaneLemmas.{of_lane}
 use Rattle.control_desk.proofs.LaneLemmas.{within-some}
 use Rattle.serial_lanes.specs.Lanes.{LaneRuns, LaneSteps, LanesRun, RanOn, SawUpTo, Stops}
-use Rattle.serial_lanes.proofs.ItemLemmas.{all-front, contained}
+use Rattle.call_laws.proofs.ItemLemmas.{contained}
+use Rattle.serial_lanes.proofs.ItemLemmas.{all-front}
 use Rattle.serial_lanes.proofs.MadeLemmas.{made_more}
 
 -- the same publication, in which the publisher looked further

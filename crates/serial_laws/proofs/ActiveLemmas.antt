@@ -18,7 +18,7 @@ use Rattle.session_model.specs.Serial.{course_in_serial, serial, serial_course, 
 use Rattle.session_model.specs.State.{State}
 use Rattle.graph_word.specs.declared.view.TakenRow.{TakenRow}
 use Rattle.graph_word.specs.Publications.{IsFront}
-use Rattle.record_ring.specs.Rings.{Getting}
+use Rattle.driver_words.specs.Rings.{Getting}
 use Rattle.control_desk.specs.Laws.{OfCallsAccepted}
 use Rattle.driver_laws.specs.Cycling.{StepsOnce}
 use Rattle.driver_laws.specs.Drivers.{Driver, HasOwnRows, graph_now, has_tape, run, underruns_on}

@@ -15,7 +15,7 @@ use Rattle.session_model.specs.Scripts.{Script}
 use Rattle.session_model.specs.Serial.{Counts, counts, put_one, serial_course, serial_history, serial_numbers}
 use Rattle.graph_word.specs.declared.view.TakenRow.{TakenRow}
 use Rattle.graph_word.specs.Publications.{IsFront}
-use Rattle.record_ring.specs.Rings.{Getting, Sending}
+use Rattle.driver_words.specs.Rings.{Getting, Sending}
 use Rattle.control_desk.specs.Laws.{OfCallsAccepted}
 use Rattle.driver_laws.specs.Cycling.{PutsOne}
 use Rattle.driver_laws.specs.Drivers.{block_in, graph_now, has_tape, overruns_on, run, turn_of}

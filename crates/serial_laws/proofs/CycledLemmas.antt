@@ -6,8 +6,8 @@ use Rattle.std.proofs.lemmas.Option.{none-some}
 use Rattle.jack_types.specs.declared.replies.Overrun.{Overrun}
 use Rattle.jack_types.specs.declared.replies.Underrun.{Underrun}
 use Rattle.graph_word.specs.Publications.{Reading}
-use Rattle.record_ring.specs.Rings.{Sending}
-use Rattle.wave_write.specs.Tapes.{Tape}
+use Rattle.driver_words.specs.Rings.{Sending}
+use Rattle.driver_words.specs.Tapes.{Tape}
 use Rattle.driver_laws.specs.Cycling.{StepsOnce, WritesOnce}
 use Rattle.driver_laws.specs.Drivers.{block_in, graph_now, has_tape, overruns_on, run, turn_of}
 use Rattle.driver_laws.proofs.PlaceLemmas.{there_too}

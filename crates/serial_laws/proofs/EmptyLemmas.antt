@@ -9,8 +9,8 @@ use Rattle.jack_types.specs.declared.replies.Overrun.{Overrun}
 use Rattle.jack_types.specs.declared.scripts.Header.{Header}
 use Rattle.session_model.specs.Courses.{Course, turn}
 use Rattle.session_model.specs.Serial.{Counts, counted_in, drained, emptied, put_one}
-use Rattle.record_ring.specs.Rings.{Getting, Renews, Sending}
-use Rattle.wave_write.specs.Tapes.{Tape}
+use Rattle.driver_words.specs.Rings.{Getting, Renews, Sending}
+use Rattle.driver_words.specs.Tapes.{Tape}
 use Rattle.disk_recorder.specs.Recordings.{Drains}
 use Rattle.driver_laws.specs.Cycling.{Idle, Lacked, PutsOne, Went}
 use Rattle.recorder_files.specs.Recorders.{GivesUp, Reel}

@@ -17,9 +17,9 @@ use Rattle.session_model.specs.Recorders.{recorded, recorder_format}
 use Rattle.session_model.specs.Samples.{below}
 use Rattle.session_model.specs.Scripts.{Script, phases, turns}
 use Rattle.session_model.specs.Serial.{counts, serial_course, serial_history, serial_numbers, serial_overruns}
-use Rattle.record_ring.specs.Rings.{Getting, Sending}
-use Rattle.wave_write.specs.Tapes.{HasFront, HasSamples, Tape}
-use Rattle.disk_recorder.specs.Recordings.{samples_of_blocks}
+use Rattle.driver_words.specs.Rings.{Getting, Sending}
+use Rattle.driver_words.specs.Tapes.{HasFront, HasSamples, Tape}
+use Rattle.session_model.specs.Rings.{samples_of_blocks}
 use Rattle.driver_laws.specs.Drivers.{overruns_on, run, underruns_on}
 use Rattle.driver_laws.specs.Keeping.{HasTape, Keeps, kept_blocks, played_so_far}
 use Rattle.driver_laws.proofs.PlaceLemmas.{none_below}

@@ -4,8 +4,8 @@
 use Rattle.std.proofs.Common.{List, [], Option, None, refl}
 use Rattle.session_model.specs.Courses.{Course}
 use Rattle.session_model.specs.Explanations.{Given}
-use Rattle.record_ring.specs.Rings.{Sending}
-use Rattle.wave_write.specs.Tapes.{Tape}
+use Rattle.driver_words.specs.Rings.{Sending}
+use Rattle.driver_words.specs.Tapes.{Tape}
 use Rattle.driver_laws.specs.Cycling.{HasMetOthers}
 use Rattle.driver_laws.specs.Drivers.{Driver}
 use Rattle.driver_laws.specs.Keeping.{Fits, Keeps}

@@ -10,13 +10,12 @@ use Rattle.session_model.specs.Courses.{Course}
 use Rattle.session_model.specs.Explanations.{Given, overruns_of, playback_text, record_text}
 use Rattle.session_model.specs.Playback.{played_back, playback_format}
 use Rattle.session_model.specs.Recorders.{recorded, recorder_format}
-use Rattle.session_model.specs.Rings.{RingBlock}
+use Rattle.session_model.specs.Rings.{RingBlock, samples_of_blocks}
 use Rattle.session_model.specs.Scripts.{Script, phases, turns}
 use Rattle.session_model.specs.WaveFiles.{wave_text}
 use Rattle.session_laws.proofs.ActivationLemmas.{get_or-map_below}
-use Rattle.record_ring.specs.Rings.{items_of}
-use Rattle.wave_write.specs.Tapes.{HasSamples, Tape}
-use Rattle.disk_recorder.specs.Recordings.{samples_of_blocks}
+use Rattle.driver_words.specs.Rings.{items_of}
+use Rattle.driver_words.specs.Tapes.{HasSamples, Tape}
 use Rattle.driver_laws.specs.Drivers.{channels_on, frames_run, overruns_on, run}
 use Rattle.driver_laws.specs.Keeping.{HasTape, Keeps, kept_blocks, played_so_far}
 use Rattle.serial_lanes.specs.Laws.{CyclesTotal}

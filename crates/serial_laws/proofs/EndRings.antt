@@ -11,10 +11,9 @@ use Rattle.std.proofs.lemmas.Bool.{cases_lt}
 use Rattle.std.proofs.lemmas.List.{length-map}
 use Rattle.std.proofs.lemmas.Option.{get_or_from_slice_get, same_Some, slice_get-get_or, slice_get_within}
 use Rattle.jack_types.specs.declared.files.Format.{Format}
-use Rattle.session_model.specs.Rings.{RingBlock}
-use Rattle.record_ring.specs.Rings.{Getting, IsPair, Sending}
-use Rattle.wave_write.specs.Tapes.{HasSamples, Tape}
-use Rattle.disk_recorder.specs.Recordings.{samples_of_blocks}
+use Rattle.session_model.specs.Rings.{RingBlock, samples_of_blocks}
+use Rattle.driver_words.specs.Rings.{Getting, IsPair, Sending}
+use Rattle.driver_words.specs.Tapes.{HasSamples, Tape}
 use Rattle.driver_laws.specs.Cycling.{RingStays}
 use Rattle.recorder_files.specs.Recorders.{GivesUp, Reel}
 use Rattle.run_laws.specs.Runs.{HasFiles}

@@ -9,8 +9,8 @@ use Rattle.session_model.specs.Explanations.{Given}
 use Rattle.session_model.specs.Scripts.{Script, turns}
 use Rattle.session_model.specs.Serial.{course_before, course_in_serial}
 use Rattle.graph_word.specs.Publications.{HaveMet}
-use Rattle.record_ring.specs.Rings.{Getting, Sending}
-use Rattle.wave_write.specs.Tapes.{Tape}
+use Rattle.driver_words.specs.Rings.{Getting, Sending}
+use Rattle.driver_words.specs.Tapes.{Tape}
 use Rattle.control_desk.specs.Laws.{OfCallsAccepted}
 use Rattle.driver_laws.specs.Cycling.{HasMetOthers, RingStays, StepsOnce}
 use Rattle.driver_laws.specs.Drivers.{Driver, run}

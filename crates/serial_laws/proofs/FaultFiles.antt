@@ -14,14 +14,13 @@ use Rattle.session_model.specs.Disks.{turned_underruns}
 use Rattle.session_model.specs.Explanations.{Given}
 use Rattle.session_model.specs.Playback.{playback_format, played_back}
 use Rattle.session_model.specs.Recorders.{recorded, recorder_format}
-use Rattle.session_model.specs.Rings.{RingBlock}
+use Rattle.session_model.specs.Rings.{RingBlock, samples_of_blocks}
 use Rattle.session_model.specs.Samples.{below}
 use Rattle.session_model.specs.Scripts.{Script, turns}
 use Rattle.session_model.specs.Serial.{course_before, course_in_serial, serial_overruns}
 use Rattle.session_laws.proofs.ListLemmas.{slice_get-map}
-use Rattle.record_ring.specs.Rings.{Sending}
-use Rattle.wave_write.specs.Tapes.{HasFront, HasUnfinished, Tape}
-use Rattle.disk_recorder.specs.Recordings.{samples_of_blocks}
+use Rattle.driver_words.specs.Rings.{Sending}
+use Rattle.driver_words.specs.Tapes.{HasFront, HasUnfinished, Tape}
 use Rattle.driver_laws.specs.Keeping.{kept_blocks, played_so_far}
 use Rattle.recorder_files.specs.Recorders.{Reel}
 use Rattle.run_laws.specs.Sessions.{Session}

@@ -8,12 +8,11 @@ use Rattle.std.proofs.lemmas.Option.{get_or_from_slice_get, same_Some, slice_get
 use Rattle.jack_types.specs.Recorders.{no_format}
 use Rattle.jack_types.specs.declared.files.Format.{Format}
 use Rattle.jack_types.specs.declared.replies.Overrun.{Overrun}
-use Rattle.session_model.specs.Rings.{RingBlock}
+use Rattle.session_model.specs.Rings.{RingBlock, samples_of_blocks}
 use Rattle.session_model.specs.Scripts.{Script}
-use Rattle.record_ring.specs.Rings.{Getting, Renews, Sending}
-use Rattle.wave_write.specs.Tapes.{HasSamples, HasUnfinished, Tape}
+use Rattle.driver_words.specs.Rings.{Getting, Renews, Sending}
+use Rattle.driver_words.specs.Tapes.{HasSamples, HasUnfinished, Tape}
 use Rattle.wave_write.proofs.TapeLemmas.{samples-unfinished}
-use Rattle.disk_recorder.specs.Recordings.{samples_of_blocks}
 use Rattle.disk_recorder.proofs.Fronts.{front_append, front_itself, front_on}
 use Rattle.driver_laws.specs.Cycling.{Idle, Lacked, PutsOne, RingStays, StepsOnce, Went}
 use Rattle.driver_laws.specs.Drivers.{Driver}

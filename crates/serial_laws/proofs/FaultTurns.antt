@@ -14,7 +14,7 @@ use Rattle.session_model.specs.Explanations.{Given}
 use Rattle.session_model.specs.Scripts.{Script, turns}
 use Rattle.session_model.specs.Serial.{counts, course_before, serial_course, serial_overruns}
 use Rattle.graph_word.specs.Publications.{HaveMet}
-use Rattle.wave_write.specs.Tapes.{HasUnfinished, SameFile, Tape}
+use Rattle.driver_words.specs.Tapes.{HasUnfinished, SameFile, Tape}
 use Rattle.wave_write.proofs.TapeLemmas.{samples-unfinished}
 use Rattle.control_desk.specs.Desks.{Desk}
 use Rattle.control_desk.specs.Laws.{OfCallsAccepted}

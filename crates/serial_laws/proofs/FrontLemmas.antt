@@ -14,13 +14,12 @@ use Rattle.jack_types.specs.declared.replies.Overrun.{Overrun}
 use Rattle.session_model.specs.Courses.{Course, turn}
 use Rattle.session_model.specs.Playback.{played_back, played_in}
 use Rattle.session_model.specs.Recorders.{block, recorded}
-use Rattle.session_model.specs.Rings.{RingBlock}
+use Rattle.session_model.specs.Rings.{RingBlock, samples_of_blocks}
 use Rattle.session_model.specs.Samples.{below}
 use Rattle.session_model.specs.Scripts.{turns}
 use Rattle.session_model.specs.WaveFiles.{wave_text}
-use Rattle.wave_write.specs.Tapes.{HasFront, HasUnfinished}
+use Rattle.driver_words.specs.Tapes.{HasFront, HasUnfinished}
 use Rattle.wave_write.proofs.TapeLemmas.{unfinished-front, unfinished-longer}
-use Rattle.disk_recorder.specs.Recordings.{samples_of_blocks}
 use Rattle.driver_laws.specs.Keeping.{is_kept, kept_blocks, played_so_far}
 
 -- a list goes on behind its front

@@ -6,7 +6,7 @@ use Rattle.session_model.specs.Courses.{Course}
 use Rattle.session_model.specs.Explanations.{Given}
 use Rattle.session_model.specs.Scripts.{Script}
 use Rattle.graph_word.specs.Publications.{Reading}
-use Rattle.record_ring.specs.Rings.{Sending}
+use Rattle.driver_words.specs.Rings.{Sending}
 use Rattle.control_desk.specs.Desks.{Desk}
 use Rattle.driver_laws.specs.Cycling.{HasMetOthers, RingStays, StepsOnce}
 use Rattle.driver_laws.specs.Drivers.{Driver}

@@ -8,7 +8,7 @@ use Rattle.std.proofs.lemmas.List.Elements.{All-append, All-head, filter-append}
 use Rattle.jack_types.specs.declared.replies.Overrun.{Overrun}
 use Rattle.jack_types.specs.declared.replies.Underrun.{Underrun}
 use Rattle.session_model.specs.Scripts.{Script}
-use Rattle.record_ring.specs.Rings.{Sending}
+use Rattle.driver_words.specs.Rings.{Sending}
 use Rattle.driver_laws.specs.Cycling.{Idle, Lacked, PutsOne, StepsOnce, Went}
 use Rattle.driver_laws.specs.Drivers.{block_in, graph_now, has_tape, overruns_on, run, turn_of}
 use Rattle.driver_laws.proofs.PlaceLemmas.{there_too}

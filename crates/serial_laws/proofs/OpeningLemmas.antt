@@ -18,7 +18,7 @@ use Rattle.session_model.specs.Serial.{counts, serial_course, serial_history, se
 use Rattle.graph_word.specs.declared.plans.Base.{Base}
 use Rattle.graph_word.specs.declared.view.TakenRow.{TakenRow}
 use Rattle.graph_word.specs.Publications.{HaveMet, IsFront, IsOpening, Publishing, Reading, last_row}
-use Rattle.record_ring.specs.Rings.{Getting, Sending}
+use Rattle.driver_words.specs.Rings.{Getting, Sending}
 use Rattle.control_desk.specs.Desks.{base_of}
 use Rattle.driver_laws.specs.Drivers.{Driver, HasOwnRings, HasOwnRows, overruns_on, run, turn_of}
 use Rattle.driver_laws.specs.Keeping.{Fits, HasTape, Keeps, played_so_far}

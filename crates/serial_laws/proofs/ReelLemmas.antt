@@ -12,8 +12,8 @@ use Rattle.session_model.specs.Scripts.{Script}
 use Rattle.session_model.specs.Serial.{Counts, counts, serial_course}
 use Rattle.graph_word.specs.declared.view.TakenRow.{TakenRow}
 use Rattle.graph_word.specs.Publications.{Reading}
-use Rattle.record_ring.specs.Rings.{Getting, Sending}
-use Rattle.wave_write.specs.Tapes.{Tape}
+use Rattle.driver_words.specs.Rings.{Getting, Sending}
+use Rattle.driver_words.specs.Tapes.{Tape}
 use Rattle.driver_laws.specs.Drivers.{overruns_on, run}
 use Rattle.recorder_files.specs.Recorders.{Reel}
 use Rattle.run_laws.specs.Sessions.{Session}

@@ -7,9 +7,10 @@
 use Rattle.std.proofs.Common.{◌≡◌, ℕ, ◌+◌, ◌<◌, ◌≤◌, ◌⊎◌, inl, inr, Bool, false, List, [], length, ℤ, sym, ◌∙◌, ap, subst, arith}
 use Rattle.std.proofs.lemmas.Bool.{cases_lt}
 use Rattle.jack_types.specs.declared.replies.Overrun.{Overrun}
-use Rattle.record_ring.specs.Rings.{Getting, IsPair, Sending}
-use Rattle.wave_write.specs.Tapes.{HasSamples}
-use Rattle.disk_recorder.specs.Recordings.{MayWrite, samples_of_blocks}
+use Rattle.driver_words.specs.Rings.{Getting, IsPair, Sending}
+use Rattle.driver_words.specs.Tapes.{HasSamples}
+use Rattle.disk_recorder.specs.Recordings.{MayWrite}
+use Rattle.session_model.specs.Rings.{samples_of_blocks}
 use Rattle.driver_laws.specs.Cycling.{Idle, Lacked, PutsOne, RingStays, Went}
 use Rattle.recorder_files.specs.Recorders.{GivesUp, Reel}
 

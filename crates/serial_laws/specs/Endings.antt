@@ -3,8 +3,8 @@
 --     EndFails session after      or a file failed
 use Rattle.std.specs.Prelude.{◌≡◌, ℕ, List, [], length, slice_get, ℤ, Option, IfSome, None, Some}
 use Rattle.session_model.specs.WaveFiles.{wave_text}
-use Rattle.record_ring.specs.Rings.{Getting, Sending}
-use Rattle.wave_write.specs.Tapes.{HasFront, HasSamples, Tape}
+use Rattle.driver_words.specs.Rings.{Getting, Sending}
+use Rattle.driver_words.specs.Tapes.{HasFront, HasSamples, Tape}
 use Rattle.recorder_files.specs.Recorders.{BreaksOff, GivesUp, Reel}
 use Rattle.run_laws.specs.Sessions.{Session}
 use Rattle.serial_laws.specs.Steps.{IsReel}

@@ -10,7 +10,7 @@ use Rattle.session_model.specs.Explanations.{Given, course_of}
 use Rattle.session_model.specs.Playback.{played_back, playback_format}
 use Rattle.session_model.specs.Recorders.{recorded, recorder_format}
 use Rattle.session_model.specs.Serial.{serial_overruns, serial_printed}
-use Rattle.wave_write.specs.Tapes.{HasFront, SameFile, Tape}
+use Rattle.driver_words.specs.Tapes.{HasFront, SameFile, Tape}
 use Rattle.driver_laws.specs.Cycling.{FailsAtRead, FailsAtWrite}
 use Rattle.recorder_files.specs.Recorders.{BreaksOff, GivesUp, Reel}
 use Rattle.run_laws.specs.Sessions.{Session}

@@ -2,7 +2,7 @@
 --     bare session      the session without its files
 --     AreFresh session      no end of a recorder's ring knows more than that nothing was put and nothing got
 use Rattle.std.specs.Prelude.{◌≡◌, [], All, None}
-use Rattle.record_ring.specs.Rings.{Sending, Getting}
+use Rattle.driver_words.specs.Rings.{Sending, Getting}
 use Rattle.run_laws.specs.Sessions.{Session}
 
 abbrev pub bare : Session → Session

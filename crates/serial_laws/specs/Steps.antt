@@ -13,7 +13,7 @@ use Rattle.session_model.specs.Serial.{serial_history, serial_numbers}
 use Rattle.graph_word.specs.declared.view.TakenRow.{TakenRow}
 use Rattle.graph_word.specs.Publications.{IsFront, Meets, Publishing, Reading}
 use Rattle.jack_types.specs.declared.scripts.Header.{Header}
-use Rattle.record_ring.specs.Rings.{Sending}
+use Rattle.driver_words.specs.Rings.{Sending}
 use Rattle.control_desk.specs.Desks.{IsDesk}
 use Rattle.driver_laws.specs.Cycling.{CyclesOnce}
 use Rattle.driver_laws.specs.Drivers.{run}

@@ -3,7 +3,7 @@
 ghost use Rattle.std.specs.Prelude.{◌≡◌, ◌<◌, ℕ, Some, false, [], All, length, slice_get, suc};
 ghost use Rattle.session_model.specs.Explanations.{Given};
 ghost use Rattle.session_model.specs.Scripts.{Phase, phases};
-ghost use Rattle.record_ring.specs.Rings.{Sending};
+ghost use Rattle.driver_words.specs.Rings.{Sending};
 ghost use Rattle.run_laws.specs.SerialRuns.{SerialAt, SerialBehind, SerialKept};
 ghost use Rattle.run_laws.specs.Sessions.{Session};
 ghost use Rattle.serial_laws.specs.Steps.{Begun, IsSound, Turned};

@@ -17,7 +17,7 @@ pub fn blocks_leave_the_parts()
 {}
 
 /// So does a cycle of the driver, where the rings are empty before a freewheel cycle.
-pub fn a_cycle_leaves_the_parts()
+pub fn the_driver_leaves_the_parts()
     ensures { (session after : Session) → IsSound session → run session.driver < length (turns session.script)
         → ((turn_of session.script (run session.driver + 1)).is_freewheel ≡ true → AreEmpty session) → Cycled session after → IsSound after }
 {}
@@ -55,7 +55,7 @@ pub fn a_turn_leaves_the_parts()
         → (turn_of session.script (run session.driver + 1)).is_freewheel ≡ freewheel → Turned freewheel session after → KeepsOwn given session → KeepsOwn given after }
 {
     blocks_leave_the_parts();
-    a_cycle_leaves_the_parts();
+    the_driver_leaves_the_parts();
     desks_leave_the_parts();
     steps_keep_what_was_given();
 }

@@ -4,7 +4,7 @@ ghost use Rattle.std.specs.Prelude.{◌≡◌, ◌+◌, ◌<◌, ℕ, Bool, Some
 ghost use Rattle.session_model.specs.Explanations.{Given};
 ghost use Rattle.session_model.specs.Scripts.{turns};
 ghost use Rattle.driver_laws.specs.Drivers.{run, turn_of};
-ghost use Rattle.record_ring.specs.Rings.{Getting, Sending};
+ghost use Rattle.driver_words.specs.Rings.{Getting, Sending};
 ghost use Rattle.run_laws.specs.SerialRuns.{RingSerial};
 ghost use Rattle.run_laws.specs.Sessions.{Session};
 ghost use Rattle.serial_laws.specs.Steps.{AreExact, Begun, IsSound, KeepsOwn, Turned};

@@ -11,7 +11,7 @@ use Rattle.session_model.specs.Grammar.{IsBits}
 use Rattle.session_model.specs.Samples.{bytes_of, down, storing, width}
 use Rattle.session_model.specs.Scripts.{Script, ScriptCycle, turns}
 use Rattle.session_model.specs.WaveFiles.{is_width}
-use Rattle.session_laws.proofs.WaveSamples.{by_width}
+use Rattle.wave_laws.proofs.WaveSamples.{by_width}
 use Rattle.driver_laws.specs.Drivers.{turn_of}
 use Rattle.check_walk.proofs.LengthLemmas.{sum-next}
 use Rattle.session_check.specs.Passes.{IsTurn, frames_until}

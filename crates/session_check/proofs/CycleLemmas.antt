@@ -10,7 +10,7 @@ use Rattle.std.proofs.lemmas.List.{length_push}
 use Rattle.jack_types.specs.declared.commands.Change.{Change}
 use Rattle.jack_types.specs.declared.moments.Moment.{Moment}
 use Rattle.jack_host.specs.Causes.{HasCause}
-use Rattle.session_model.specs.Checking.{IsCycleInTurn, IsFirstNot, IsForm, printed_of}
+use Rattle.check_model.specs.Checking.{IsCycleInTurn, IsFirstNot, IsForm, printed_of}
 use Rattle.session_model.specs.Courses.{Course, number}
 use Rattle.session_model.specs.Explanations.{Given, Written}
 use Rattle.session_model.specs.Grammar.{IsScript}

@@ -1,7 +1,7 @@
 //! Decides whether a report explains its files.
 
 ghost use Rattle.std.specs.Prelude.{◌≡◌, ◌≤◌, ℕ, All, IsErrOf, Ok, OnOk, false, length, map};
-ghost use Rattle.session_model.specs.Checking.{IsFirstWrong};
+ghost use Rattle.check_model.specs.Checking.{IsFirstWrong};
 ghost use Rattle.session_model.specs.Explanations.{Explained, Given, Printed, Written};
 ghost use Rattle.jack_types.specs.declared.replies.Row.{Row as RowValue};
 ghost use Rattle.check_sights.specs.declared.sights.Sight.{Sight as SightValue};

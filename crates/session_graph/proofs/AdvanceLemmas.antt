@@ -1,65 +1,22 @@
 -- From place to place, up to a cycle.
---     next-as      the calls and the cycles that a script has say which line may come before the cycle
 --     advance      what a line's place says of the next one
 use Rattle.std.proofs.Common.{◌≡◌, ◌≢◌, ℕ, ◌+◌, ◌<◌, ◌≤◌, Bool, true, false, cond, ◌==◌, ◌&&◌, nat_lt, [], ◌∷◌, length, Some, None, refl, sym, ◌∙◌, ap, subst, arith, ne_eqb, eqb-true}
 use Rattle.std.proofs.lemmas.Bool.Decides.{nat_tests}
-use Rattle.session_model.specs.Scripts.{Script}
 use Rattle.session_laws.proofs.ListLemmas.{slice-some}
+use Rattle.check_laws.proofs.PlaceLists.{none-some}
 use Rattle.report_reader.specs.declared.rows.CycleLine.{CycleLine}
 use Rattle.report_reader.specs.declared.rows.Line.{Line}
 use Rattle.report_reader.specs.declared.rows.Line.TheVariants.{Report, Call, Cycle, Meter, Midi, Recorder, Overrun, Disk, Underrun, End}
-use Rattle.report_laws.specs.Places.{in_meters, limits_of, next}
+use Rattle.report_laws.specs.Places.{in_meters, next}
 use Rattle.report_laws.specs.declared.places.Limits.{Limits}
 use Rattle.report_laws.specs.declared.places.Place.{Place}
 use Rattle.report_laws.specs.declared.places.Place.TheVariants.{Start, Calls, Cycles, Meters, Events, Recorders, Disks, Done}
 use Rattle.session_graph.specs.Fronts.{IsBefore, calls_in}
-use Rattle.session_graph.specs.Readings.{AreLimits, IsNear}
-
-none-some : {X : Type 0} (x : X) → None ≡ Some x → ⊥
-none-some x e = cc
+use Rattle.session_graph.specs.Readings.{IsNear}
 
 -- where a cycle is still to come, no line of a later kind may
 closed : (limits : Limits) (cycles : ℕ) (line : Line) → cycles < limits.cycles → cond (cycles == limits.cycles) (in_meters limits 0 line) None ≡ None
 closed limits cycles line few = ap (λ b. cond b (in_meters limits 0 line) None) (ne_eqb cycles limits.cycles (λ e. omega (arith, few, e)))
-
-module _ (l m : Limits) (calls : l.calls ≡ m.calls) (cycles : l.cycles ≡ m.cycles) where
-  both-closed : (k : ℕ) (line : Line) → k < l.cycles → cond (k == l.cycles) (in_meters l 0 line) None ≡ cond (k == m.cycles) (in_meters m 0 line) None
-  both-closed k line few = closed l k line few ∙ sym (closed m k line (omega (arith, few, cycles)))
-
-  same-calls : (k : ℕ) (line : Line) → 0 < l.cycles → next l (Calls k) line ≡ next m (Calls k) line
-  same-calls k Report few = both-closed 0 Report few
-  same-calls k (Call call) few = ap (λ n. cond (nat_lt k n) (Some (Calls (k + 1))) None) calls
-  same-calls k (Cycle cycle) few = ap (λ n. cond (nat_lt 0 n && (cycle.cycle == 0 + 1)) (Some (Cycles (0 + 1))) None) cycles
-  same-calls k (Meter meter) few = both-closed 0 (Meter meter) few
-  same-calls k (Midi event) few = both-closed 0 (Midi event) few
-  same-calls k (Recorder count) few = both-closed 0 (Recorder count) few
-  same-calls k (Overrun loss) few = both-closed 0 (Overrun loss) few
-  same-calls k (Disk count) few = both-closed 0 (Disk count) few
-  same-calls k (Underrun loss) few = both-closed 0 (Underrun loss) few
-  same-calls k End few = both-closed 0 End few
-
-  same-cycles : (k : ℕ) (line : Line) → k < l.cycles → next l (Cycles k) line ≡ next m (Cycles k) line
-  same-cycles k Report few = both-closed k Report few
-  same-cycles k (Call call) few = both-closed k (Call call) few
-  same-cycles k (Cycle cycle) few = ap (λ n. cond (nat_lt k n && (cycle.cycle == k + 1)) (Some (Cycles (k + 1))) None) cycles
-  same-cycles k (Meter meter) few = both-closed k (Meter meter) few
-  same-cycles k (Midi event) few = both-closed k (Midi event) few
-  same-cycles k (Recorder count) few = both-closed k (Recorder count) few
-  same-cycles k (Overrun loss) few = both-closed k (Overrun loss) few
-  same-cycles k (Disk count) few = both-closed k (Disk count) few
-  same-cycles k (Underrun loss) few = both-closed k (Underrun loss) few
-  same-cycles k End few = both-closed k End few
-
-pub next-as : (script : Script) (limits : Limits) (cycle : ℕ) (place : Place) (line : Line) → AreLimits script limits → 1 ≤ cycle → cycle ≤ limits.cycles → IsBefore cycle place
-    → next limits place line ≡ next (limits_of script) place line
-next-as script limits cycle Start line are lo hi before = refl
-next-as script limits cycle (Calls k) line are lo hi before = same-calls limits (limits_of script) are.calls are.cycles k line (omega (arith, lo, hi))
-next-as script limits cycle (Cycles k) line are lo hi before = same-cycles limits (limits_of script) are.calls are.cycles k line (omega (arith, before, hi))
-next-as script limits cycle (Meters k) line are lo hi before = absurd before
-next-as script limits cycle (Events k) line are lo hi before = absurd before
-next-as script limits cycle (Recorders k left) line are lo hi before = absurd before
-next-as script limits cycle (Disks k left) line are lo hi before = absurd before
-next-as script limits cycle Done line are lo hi before = absurd before
 
 -- behind a call, behind the line of a cycle, or behind the first line
 abbrev pub Advances : Limits → ℕ → ℕ → ℕ → Place → Line → Type 0

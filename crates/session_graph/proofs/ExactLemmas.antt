@@ -12,7 +12,7 @@ use Rattle.session_model.specs.Grammar.{IsScript, Spells, number_value}
 use Rattle.session_model.specs.Histories.{accepted}
 use Rattle.session_model.specs.Reading.{fault_of, script_fault}
 use Rattle.session_model.specs.Scripts.{Script, turns}
-use Rattle.session_laws.proofs.GrammarLaws.{read}
+use Rattle.grammar_laws.proofs.GrammarLaws.{read}
 use Rattle.report_reader.specs.declared.rows.CallLine.{CallLine}
 use Rattle.report_reader.specs.declared.rows.CycleLine.{CycleLine}
 use Rattle.session_graph.specs.Askings.{Asking, IsGraph, dot_words}
@@ -264,7 +264,7 @@ module _ (files : Files) (asking : Asking) where
 -- ---- what was answered
 
 module _ (files : Option Files) (asking : Asking) (before now : ℕ) (unrisen : Rose before now → ⊥) where
-  -- it is want of memory, or a refusal of the files
+  -- memory ran out, or it is a refusal of the files
   answered : (files : Files) (told : GraphFault) → HasFault (Some files) asking told → (told ≡ ReadFault → Rose before now ⊎ LacksFile (Some files) asking) → (told ≡ NoMemory) ⊎ HasRefusal (Some files) asking told
   answered files NoMemory fault lacks = inl refl
   answered files Words fault lacks = inr fault

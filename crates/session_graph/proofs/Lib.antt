@@ -1,9 +1,6 @@
 mod PlaceLemmas
 mod TextLemmas
-mod LimitLemmas
-mod StepLemmas
 mod AdvanceLemmas
-mod LawfulLemmas
 mod ShortLemmas
 mod ReplayLemmas
 mod FrontLemmas

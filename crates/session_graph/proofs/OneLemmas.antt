@@ -3,7 +3,7 @@
 --     broken-one, broken-front      one line is the first wrong one, and then there is no front
 --     row-one, row-used      one call, or the cycle, is wrong, and then no graph was used
 --     front-within      a front leads to a cycle that the script has
-use Rattle.std.proofs.Common.{◌≡◌, ℕ, zero, suc, ◌+◌, ◌-◌, ◌<◌, ◌≤◌, Bool, true, false, cond, ◌&&◌, ◌==◌, nat_le, nat_lt, List, [], ◌∷◌, ◌++◌, length, length-append, map, take, drop, slice_get, Option, Some, None, refl, sym, ◌∙◌, ap, ap₂, subst, arith, take-append-drop}
+use Rattle.std.proofs.Common.{◌≡◌, ℕ, zero, suc, ◌+◌, ◌-◌, ◌<◌, ◌≤◌, Bool, true, false, cond, ◌&&◌, ◌==◌, nat_le, nat_lt, List, [], ◌∷◌, ◌++◌, length, length-append, map, take, drop, slice_get, Option, Some, None, refl, sym, ◌∙◌, ap, subst, arith, take-append-drop}
 use Rattle.std.specs.Prelude.{IfSome, ⊤, option_and_then}
 use Rattle.std.proofs.lemmas.Bool.Decides.{nat_tests}
 use Rattle.std.proofs.lemmas.List.{length-take}
@@ -11,15 +11,16 @@ use Rattle.jack_types.specs.declared.replies.Entry.{Entry}
 use Rattle.jack_types.specs.declared.replies.Part.{Part}
 use Rattle.jack_types.specs.declared.replies.Part.TheVariants as part
 use Rattle.jack_types.specs.declared.replies.Row.{Row}
-use Rattle.session_model.specs.Checking.{BeginsReport, IsWrongLine, ended_lines}
+use Rattle.check_model.specs.Checking.{BeginsReport, IsWrongLine, ended_lines}
 use Rattle.session_model.specs.Grammar.{IsScript}
 use Rattle.session_model.specs.Histories.{accepted}
 use Rattle.session_model.specs.Reports.{report_lines}
 use Rattle.session_model.specs.Scripts.{Script, turns}
 use Rattle.session_model.specs.State.{State}
-use Rattle.session_laws.proofs.ListLemmas.{Each, slice-some}
-use Rattle.check_laws.proofs.PlaceLists.{slice-take, take-twice}
+use Rattle.session_laws.proofs.ListLemmas.{slice-some}
+use Rattle.check_laws.proofs.PlaceLists.{length-map, slice-take, take-twice}
 use Rattle.check_laws.proofs.SameLemmas.{Each-from_all}
+use Rattle.check_laws.proofs.StateFits.{Each-take}
 use Rattle.report_reader.specs.Forms.{IsLineForm, line_text}
 use Rattle.report_reader.specs.declared.rows.CallLine.{CallLine}
 use Rattle.report_reader.specs.declared.rows.CycleLine.{CycleLine}
@@ -27,16 +28,16 @@ use Rattle.report_reader.specs.declared.rows.Line.{Line}
 use Rattle.report_reader.specs.declared.rows.Line.TheVariants.{Report, Call, Cycle, Meter, Midi, Recorder, Overrun, Disk, Underrun, End}
 use Rattle.report_laws.proofs.ReportLemmas.{read-begins}
 use Rattle.report_laws.proofs.RestLemmas.{walk-near}
+use Rattle.report_laws.proofs.StepLemmas.{same-lines}
 use Rattle.report_laws.proofs.WalkLemmas.{walk-append}
 use Rattle.report_laws.specs.Places.{IsRead, in_disks, in_events, in_meters, in_recorders, limits_of, next, walk}
 use Rattle.report_laws.specs.declared.places.Limits.{Limits}
 use Rattle.report_laws.specs.declared.places.Place.{Place}
 use Rattle.report_laws.specs.declared.places.Place.TheVariants.{Start, Calls, Cycles, Meters, Events, Recorders, Disks, Done}
+use Rattle.told_laws.proofs.StuckLemmas.{take-front}
 use Rattle.session_graph.specs.Fronts.{IsBefore, IsBroken, IsFront, calls_in}
 use Rattle.session_graph.specs.Told.{AreRight, IsOfRow, IsRight, IsTooMany, IsUsed, IsWrongCall, history_told}
-use Rattle.session_graph.proofs.LawfulLemmas.{accepted-append}
-use Rattle.session_graph.proofs.ReplayLemmas.{told-append}
-use Rattle.session_graph.proofs.StepLemmas.{same-line}
+use Rattle.session_graph.proofs.ReplayLemmas.{accepted-append, told-append}
 
 -- ---- places behind a cycle
 
@@ -194,43 +195,11 @@ module _ (limits : Limits) where
 
 -- ---- texts are of one list of lines
 
-head-same : (x y : List ℕ) (xs ys : List (List ℕ)) → x ∷ xs ≡ y ∷ ys → x ≡ y
-head-same x y xs ys e = cc
-
-tail-same : (x y : List ℕ) (xs ys : List (List ℕ)) → x ∷ xs ≡ y ∷ ys → xs ≡ ys
-tail-same x y xs ys e = cc
-
-nil-cons : (x : List ℕ) (xs : List (List ℕ)) → [] ≡ x ∷ xs → ⊥
-nil-cons x xs e = cc
-
-lines-one : (xs ys : List Line) → Each IsLineForm xs → Each IsLineForm ys → map line_text xs ≡ map line_text ys → xs ≡ ys
-lines-one [] [] f g e = refl
-lines-one [] (y ∷ ys) f g e = absurd (nil-cons (line_text y) (map line_text ys) e)
-lines-one (x ∷ xs) [] f g e = absurd (nil-cons (line_text x) (map line_text xs) (sym e))
-lines-one (x ∷ xs) (y ∷ ys) f g e =
-    ap₂ (λ (z : Line) (zs : List Line). z ∷ zs) (same-line x y f.0 g.0 (head-same (line_text x) (line_text y) (map line_text xs) (map line_text ys) e))
-    (lines-one xs ys f.1 g.1 (tail-same (line_text x) (line_text y) (map line_text xs) (map line_text ys) e))
-
 module _ {X : Type 0} where
-  each-taken : (P : X → Type 0) (n : ℕ) (xs : List X) → Each P xs → Each P (take n xs)
-  each-taken P zero xs h = tt
-  each-taken P (suc n) [] h = tt
-  each-taken P (suc n) (x ∷ xs) h = (h.0, each-taken P n xs h.1)
-
   map-taken : {Y : Type 0} (f : X → Y) (n : ℕ) (xs : List X) → take n (map f xs) ≡ map f (take n xs)
   map-taken f zero xs = refl
   map-taken f (suc n) [] = refl
   map-taken f (suc n) (x ∷ xs) = ap (λ ys. f x ∷ ys) (map-taken f n xs)
-
-  map-size : {Y : Type 0} (f : X → Y) (xs : List X) → length (map f xs) ≡ length xs
-  map-size f [] = refl
-  map-size f (x ∷ xs) = ap suc (map-size f xs)
-
-  front-of : (xs ys : List X) (n : ℕ) → length xs ≡ n → take n (xs ++ ys) ≡ xs
-  front-of [] ys zero e = refl
-  front-of [] ys (suc n) e = absurd (omega (arith, e))
-  front-of (x ∷ xs) ys zero e = absurd (omega (arith, e))
-  front-of (x ∷ xs) ys (suc n) e = ap (λ zs. x ∷ zs) (front-of xs ys n (omega (arith, e)))
 
   last-of : (xs : List X) (x : X) → slice_get (xs ++ x ∷ []) (length xs) ≡ Some x
   last-of [] x = refl
@@ -252,7 +221,7 @@ module _ (script : Script) (bytes : List ℕ) where
   -- so many lines are there
   there-are : (calls : List CallLine) (line : CycleLine) (front : IsFront script bytes calls line) → length front.before + 1 ≤ length texts
   there-are calls line front =
-      let taken : length (take (length front.before + 1) texts) ≡ length front.before + 1 = ap (λ (ts : List (List ℕ)). length ts) front.texts ∙ map-size line_text (lines_of calls line front) ∙ size-of calls line front in
+      let taken : length (take (length front.before + 1) texts) ≡ length front.before + 1 = ap (λ (ts : List (List ℕ)). length ts) front.texts ∙ length-map line_text (lines_of calls line front) ∙ size-of calls line front in
       let most = length-take (length front.before + 1) texts in
       omega (arith, taken, most)
 
@@ -266,7 +235,7 @@ module _ (script : Script) (bytes : List ℕ) where
       let k : ℕ = length front.before + 1 in
       let first : List Line = lines_of calls line front in
       let same : take k read.0 ≡ first =
-      lines-one (take k read.0) first (each-taken IsLineForm k read.0 (Each-from_all IsLineForm read.0 read.1)) (Each-from_all IsLineForm first front.forms)
+      same-lines (take k read.0) first (Each-take IsLineForm k read.0 (Each-from_all IsLineForm read.0 read.1)) (Each-from_all IsLineForm first front.forms)
       (sym (map-taken line_text k read.0) ∙ ap (take k) (sym read.2) ∙ take-twice k n texts more ∙ front.texts) in
       let parts : read.0 ≡ first ++ drop k read.0 = sym (take-append-drop k read.0) ∙ ap (λ (ls : List Line). ls ++ drop k read.0) same in
       let walked : walk (limits_of script) Start (first ++ drop k read.0) ≡ Some place = ap (walk (limits_of script) Start) (sym parts) ∙ read.3 in
@@ -294,10 +263,10 @@ module _ (script : Script) (bytes : List ℕ) where
       let size : length one.before ≡ length two.before =
       equal (length one.before) (length two.before) (not-longer calls others line other one two same) (not-longer others calls other line two one (sym same)) in
       let all : lines_of calls line one ≡ lines_of others other two =
-      lines-one (lines_of calls line one) (lines_of others other two) (Each-from_all IsLineForm (lines_of calls line one) one.forms) (Each-from_all IsLineForm (lines_of others other two) two.forms)
+      same-lines (lines_of calls line one) (lines_of others other two) (Each-from_all IsLineForm (lines_of calls line one) one.forms) (Each-from_all IsLineForm (lines_of others other two) two.forms)
       (sym one.texts ∙ ap (λ n. take (n + 1) texts) size ∙ two.texts) in
       let before : one.before ≡ two.before =
-      sym (front-of one.before (Cycle line ∷ []) (length one.before) refl) ∙ ap (take (length one.before)) all ∙ front-of two.before (Cycle other ∷ []) (length one.before) (sym size) in
+      sym (take-front (length one.before) one.before (Cycle line ∷ []) refl) ∙ ap (take (length one.before)) all ∙ take-front (length one.before) two.before (Cycle other ∷ []) (sym size) in
       let last : Some (Cycle line) ≡ Some (Cycle other) =
       sym (last-of one.before (Cycle line)) ∙ ap (λ (ls : List Line). slice_get ls (length one.before)) all ∙ ap (slice_get (lines_of others other two)) size ∙ last-of two.before (Cycle other) in
       (one.calls_are ∙ ap calls_in before ∙ sym two.calls_are, some-cycle line other last)

@@ -1,4 +1,5 @@
 -- Calls that lines tell of, made one after the other.
+--     accepted-append, told-append      lines behind lines
 --     replay-first, replay-more      before the first, and one more
 --     not-told, not-next, not-so      a call that is not right
 --     used-front, wrong-call, too-many      how a replay ends
@@ -12,30 +13,32 @@ use Rattle.jack_types.specs.declared.replies.Reply.{Reply}
 use Rattle.jack_types.specs.declared.replies.Reply.TheVariants.{Accepted, Refused, Latency}
 use Rattle.session_model.specs.Commands.{after}
 use Rattle.session_model.specs.Grammar.{IsScript}
-use Rattle.session_model.specs.Histories.{accepted, state_after}
+use Rattle.session_model.specs.Histories.{accepted, change_of, state_after}
 use Rattle.session_model.specs.Replies.{reply}
 use Rattle.session_model.specs.Samples.{below}
 use Rattle.session_model.specs.Scripts.{Script, Planned, planned_of}
 use Rattle.session_model.specs.Serial.{answered}
 use Rattle.session_model.specs.State.{State, opening}
 use Rattle.session_laws.proofs.ListLemmas.{slice-some}
+use Rattle.check_laws.proofs.PlaceLists.{none-some}
 use Rattle.port_registry.proofs.PlaceLemmas.{slice_get-below, slice_get-push}
+use Rattle.call_laws.proofs.KeptLemmas.{state-answered}
 use Rattle.graph_replies.specs.Told.{HasShortDelays}
 use Rattle.report_reader.specs.Forms.{printed_reply}
 use Rattle.report_reader.specs.Reports.{reply_row}
 use Rattle.report_reader.specs.declared.rows.CallLine.{CallLine}
+use Rattle.told_laws.proofs.StuckLemmas.{take-front}
 use Rattle.session_graph.specs.Replays.{IsReplay}
 use Rattle.session_graph.specs.Told.{AreRight, IsRight, IsTooMany, IsUsed, IsWrongCall, call_told, entry_told, history_told, run_changes}
-use Rattle.session_graph.proofs.LawfulLemmas.{accepted-append, state-answered}
 use Rattle.session_graph.proofs.ShortLemmas.{plan-lawful, short-after, short-opening}
-
-none-some : {X : Type 0} (x : X) → None ≡ Some x → ⊥
-none-some x e = cc
 
 printed-row : (r : Reply) → printed_reply (reply_row r) ≡ r
 printed-row (Accepted number) = refl
 printed-row (Refused refusal) = refl
 printed-row (Latency range) = refl
+
+pub accepted-append : (xs ys : List Entry) → accepted (xs ++ ys) ≡ accepted xs ++ accepted ys
+accepted-append xs ys = filter_map-append change_of xs ys
 
 pub told-append : (script : Script) (xs ys : List CallLine) → history_told script (xs ++ ys) ≡ history_told script xs ++ history_told script ys
 told-append script xs ys = filter_map-append (entry_told script) xs ys
@@ -124,10 +127,6 @@ module _ (script : Script) (before : List CallLine) (line : CallLine) (state : S
 
 -- ---- how it ends
 
-take-front : {X : Type 0} (xs ys : List X) → take (length xs) (xs ++ ys) ≡ xs
-take-front [] ys = refl
-take-front (x ∷ xs) ys = ap (λ zs. x ∷ zs) (take-front xs ys)
-
 module _ (script : Script) (lines : List CallLine) (i number : ℕ) (state : State) (calls : List (List Planned)) (next : ℕ) (is : IsReplay script (take i lines) state calls next) where
   pub used-front : next ≡ number + 1 → IsUsed script lines number state
   used-front e =
@@ -139,7 +138,7 @@ module _ (script : Script) (lines : List CallLine) (i number : ℕ) (state : Sta
       let enough : length (accepted front) ≡ number = omega (arith, old, e) in
       record {
         state_is =
-            is.state_is ∙ ap (run_changes script) (sym (take-front (accepted front) (accepted rest)) ∙ ap (λ (n : ℕ). take n (accepted front ++ accepted rest)) enough ∙ ap (take number) (sym whole));
+            is.state_is ∙ ap (run_changes script) (sym (take-front (length (accepted front)) (accepted front) (accepted rest) refl) ∙ ap (λ (n : ℕ). take n (accepted front ++ accepted rest)) enough ∙ ap (take number) (sym whole));
         made = i;
         right = is.right;
         number_is = enough;

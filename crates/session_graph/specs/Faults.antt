@@ -35,7 +35,7 @@ cause_name (cause.TooMany many limit) = codes "TooMany"
 cause_name cause.TooLong = codes "TooLong"
 cause_name cause.Memory = codes "Memory"
 
--- want of memory and a text that could not be written have none
+-- out of memory and a text that could not be written have none
 abbrev pub fault_line : GraphFault → Option (List ℕ)
 fault_line NoMemory = None
 fault_line Words = Some (codes "fault 2 words" ++ 10 ∷ [])
@@ -64,7 +64,7 @@ IsOwnPart part.Call = ⊤
 IsOwnPart part.Cycle = ⊤
 IsOwnPart _ = ⊥
 
--- want of memory is no fault of a script, and a row has no place
+-- out of memory is no fault of a script, and a row has no place
 abbrev pub IsOwnFault : GraphFault → Type 0
 IsOwnFault NoMemory = ⊤
 IsOwnFault Words = ⊤

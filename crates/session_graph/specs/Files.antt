@@ -24,7 +24,7 @@ IfBytes (Some files) name P = (bytes : List ℕ) × (bytes_under files name ≡ 
 abbrev pub IfBoth : Option Files → Asking → (List ℕ → List ℕ → Type 0) → Type 0
 IfBoth files asking P = IfBytes files asking.script (λ script. IfBytes files asking.report (λ report. P (take 1048577 script) report))
 
--- want of memory is no fault of the bytes
+-- out of memory is no fault of the bytes
 abbrev pub fault_by : Cause → ScriptFault → GraphFault
 fault_by cause.Header fault = BadScript fault
 fault_by cause.Unknown fault = BadScript fault

@@ -2,29 +2,18 @@
 --     calls_in lines      the lines of calls among lines
 --     IsFront script bytes calls cycle      the calls and the cycle's line that the bytes tell
 --     IsBroken script bytes cycle n      line n is the first wrong one, and the cycle's line is none before it
-use Rattle.std.specs.Prelude.{◌≡◌, ℕ, ◌+◌, ◌-◌, ◌<◌, List, [], ◌∷◌, ◌++◌, All, length, map, filter_map, take, Option, Some, None, ⊤}
-use Rattle.session_model.specs.Checking.{IsWrongLine, ended_lines}
+use Rattle.std.specs.Prelude.{◌≡◌, ℕ, ◌+◌, ◌-◌, ◌<◌, List, [], ◌∷◌, ◌++◌, All, length, map, filter_map, take, Some, ⊤}
+use Rattle.check_model.specs.Checking.{IsWrongLine, ended_lines}
 use Rattle.session_model.specs.Scripts.{Script}
 use Rattle.report_reader.specs.Forms.{IsLineForm, line_text}
 use Rattle.report_reader.specs.declared.rows.CallLine.{CallLine}
 use Rattle.report_reader.specs.declared.rows.CycleLine.{CycleLine}
 use Rattle.report_reader.specs.declared.rows.Line.{Line}
-use Rattle.report_reader.specs.declared.rows.Line.TheVariants.{Report, Call, Cycle, Meter, Midi, Recorder, Overrun, Disk, Underrun, End}
+use Rattle.report_reader.specs.declared.rows.Line.TheVariants.{Cycle}
 use Rattle.report_laws.specs.Places.{IsRead, limits_of, walk}
 use Rattle.report_laws.specs.declared.places.Place.{Place}
 use Rattle.report_laws.specs.declared.places.Place.TheVariants.{Start, Calls, Cycles, Meters, Events, Recorders, Disks, Done}
-
-abbrev pub call_in : Line → Option CallLine
-call_in Report = None
-call_in (Call call) = Some call
-call_in (Cycle cycle) = None
-call_in (Meter meter) = None
-call_in (Midi event) = None
-call_in (Recorder count) = None
-call_in (Overrun loss) = None
-call_in (Disk count) = None
-call_in (Underrun loss) = None
-call_in End = None
+use Rattle.told_laws.specs.Tellings.{call_in}
 
 abbrev pub calls_in : List Line → List CallLine
 calls_in lines = filter_map call_in lines

@@ -7,7 +7,7 @@ use jack_types::{Memory, Part, Row, ScriptFault};
 use std::alloc::AllocError;
 
 /// Why no graph is put out. The codes are those of a play.
-#[derive(Clone, Copy, Debug, PartialEq, Eq)]
+#[derive(Clone, Copy, PartialEq, Eq)]
 pub enum GraphFault {
     /// No memory was found.
     NoMemory,

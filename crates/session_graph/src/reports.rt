@@ -1,20 +1,22 @@
 //! The lines of a report up to a cycle's.
 
-ghost use Rattle.std.specs.Prelude.{◌≡◌, ◌≢◌, ◌≤◌, IfErr, IfOk, IfSome, IsErrOf, IsNone, OnOk, count_by, length, sum_by};
+ghost use Rattle.std.specs.Prelude.{◌≡◌, ◌≢◌, ◌≤◌, IfErr, IfOk, IfSome, IsErrOf, IsNone, OnOk, length};
 ghost use Rattle.jack_host.specs.Causes.{Rose};
-ghost use Rattle.session_model.specs.Grammar.{IsScript, is_call};
-ghost use Rattle.session_model.specs.Scripts.{planned, turns};
-ghost use Rattle.session_graph.specs.Readings.{AreLimits, IsOfReport, IsOfStep, Steps, cycles_on};
-ghost use Rattle.session_graph.specs.Fronts.{IsFront, call_in};
+ghost use Rattle.session_model.specs.Scripts.{turns};
 ghost use Rattle.report_reader.specs.declared.rows.CycleLine.{CycleLine as CycleValue};
+ghost use Rattle.told_laws.specs.Tellings.{call_in};
+ghost use Rattle.told_reports.specs.Steps.{Steps};
+ghost use Rattle.session_graph.specs.Fronts.{IsFront};
+ghost use Rattle.session_graph.specs.Readings.{IsOfReport, IsOfStep};
 
 use crate::faults::{GraphFault, wrong};
 use jack_host::Source;
-use jack_types::{Body, Part};
+use jack_types::Part;
 use report_laws::{Limits, Place};
-use report_reader::{CallLine, CycleLine, Line, Lines, Next};
+use report_reader::{CallLine, CycleLine, Line, Lines};
 use session_script::Script;
 use std::alloc::Global;
+use told_reports::{ReportFault, limits_of, next_line};
 
 /// What a report says up to the line of a cycle.
 #[derive(Drop)]
@@ -23,81 +25,11 @@ pub struct Told {
     pub cycle: CycleLine,
 }
 
-// The cycles of a line.
-fn cycles_on(line: &Body) -> u32
-    ensures { result ≡ cycles_on line.now }
-{
-    match line {
-        Body::Run(cycles) => *cycles,
-        Body::Freewheel(cycles) => *cycles,
-        _ => 0,
-    }
-}
-
-fn cycles_behind(lines: &[Body]) -> u32
-    requires { sum_by cycles_on lines.now ≤ 1000000 }
-    ensures { result ≡ sum_by cycles_on lines.now }
-{
-    let mut count = 0;
-    for line in lines {
-        count += cycles_on(line);
-    }
-    count
-}
-
 /// How many cycles a script has.
 pub(crate) fn cycles_of(script: &Script) -> u32
-    ensures count { result ≡ length (turns script.now) }
-    ensures few { result ≤ 1000000 }
+    ensures { result ≡ length (turns script.now) }
 {
-    cycles_behind(script.lines())
-}
-
-// Whether a line has a call.
-fn is_call(line: &Body) -> bool
-    ensures { result ≡ is_call line.now }
-{
-    match line {
-        Body::Do(_) => true,
-        Body::Lane(_, _, _) => true,
-        _ => false,
-    }
-}
-
-fn calls_behind(lines: &[Body]) -> u32
-    requires { count_by is_call lines.now ≤ 4096 }
-    ensures { result ≡ count_by is_call lines.now }
-{
-    let mut count = 0;
-    for line in lines {
-        if is_call(line) {
-            count += 1;
-        }
-    }
-    count
-}
-
-// How many calls a script has.
-fn calls_of(script: &Script) -> u32
-    ensures count { result ≡ length (planned script.now) }
-    ensures few { result ≤ 4096 }
-    ensures lawful { IsScript script.now }
-{
-    calls_behind(script.lines())
-}
-
-// How many calls and cycles a report of a script has. Of the lines behind the cycles nothing is said.
-fn limits_of(script: &Script) -> Limits
-    ensures { AreLimits script.now result }
-{
-    Limits {
-        calls: calls_of(script),
-        cycles: cycles_of(script),
-        meters: 0,
-        events: 0,
-        recorders: 0,
-        disks: 0,
-    }
+    limits_of(script).cycles
 }
 
 // The next line, which is line `number` of the report, and the place behind it.
@@ -114,16 +46,12 @@ fn step<S: Source>(
     ensures kept_err { IfErr result (λ fault. fault ≢ GraphFault.ReadFault → lines.new.faults ≡ lines.old.faults) }
     ensures read { IsErrOf result GraphFault.ReadFault → Rose lines.old.faults lines.new.faults }
 {
-    let Ok(next) = lines.next() else {
-        return Err(GraphFault::ReadFault);
-    };
-    match next {
-        Next::Line(line) => match place.next(limits, &line) {
-            Some(behind) => Ok((line, behind)),
-            None => Err(wrong(Part::Report, number)),
-        },
-        Next::Other => Err(wrong(Part::Report, number)),
-        Next::End => Err(wrong(Part::Report, number)),
+    match next_line(lines, limits, place, number) {
+        Ok(Some(next)) => Ok(next),
+        Ok(None) => Err(wrong(Part::Report, number)),
+        Err(ReportFault::Read) => Err(GraphFault::ReadFault),
+        Err(ReportFault::Memory) => Err(GraphFault::NoMemory),
+        Err(ReportFault::Wrong(line)) => Err(wrong(Part::Report, line)),
     }
 }
 

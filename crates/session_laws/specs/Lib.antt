@@ -1,3 +1,2 @@
 pub mod LoopFree
 pub mod Solutions
-pub mod Spellings

@@ -2,9 +2,6 @@
 #![tactic(auto)]
 
 pub mod cycles;
-pub mod grammar;
 pub mod loops;
 pub mod machine;
-pub mod reports;
 pub mod serial;
-pub mod waves;

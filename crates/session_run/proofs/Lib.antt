@@ -1,14 +1,2 @@
-pub mod PairLemmas
-pub mod OpeningLemmas
-pub mod AttachLemmas
-pub mod ToldLemmas
-pub mod CloseLemmas
-pub mod EndLemmas
-pub mod TakeLemmas
-pub mod KindLemmas
-pub mod MeterLemmas
-pub mod ReportLemmas
-pub mod TurnLemmas
-pub mod PhaseLemmas
-pub mod RunningLemmas
+pub mod ModeLemmas
 pub mod PassedLemmas

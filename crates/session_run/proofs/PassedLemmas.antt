@@ -1,3 +1,2 @@
 -- Lemmas on outcomes and stores, passed on.
-pub use Rattle.session_threads.proofs.OutcomeLemmas.{at-err, at-ok}
-pub use Rattle.session_threads.proofs.StoreLemmas.{later-trans, rose-mono}
+pub use Rattle.session_ends.proofs.PassedLemmas.{at-err, at-ok, later-trans, rose-mono}

@@ -1,3 +1,2 @@
 -- The fault of a session, passed on.
-pub use Rattle.session_threads.specs.declared.faults.SessionFault.{SessionFault}
-pub use Rattle.session_threads.specs.declared.faults.SessionFault.TheVariants.{Read, Write}
+pub use Rattle.session_ends.specs.Seen.{Read, SessionFault, Write}

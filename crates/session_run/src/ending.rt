@@ -1,29 +1,25 @@
-//! How a session ends, and how its stores and its capture come out.
+//! How a session ends and is reported, and how its stores and its capture come out.
 
-use crate::closing::{close_playback, close_recorders, take_recorded};
 use crate::session::Session;
 use client_kinds::Guest;
 use control_desk::Desk;
-use jack_host::{Source, Store};
-use serial_laws::endings::an_end_is_whole;
-use serial_laws::faults::an_end_that_fails_leaves_fronts;
-use session_threads::{Driver, SessionFault};
+use jack_host::{Sink, Source, Store, WriteFailed};
+use session_ends::{Driver, SessionFault, end, report, take_store};
 use wave_pcm::Wave;
 
 impl<S: Source, W: Store, G: Guest> Session<S, W, G> {
     ghost use Rattle.std.specs.Prelude.{◌≡◌, ◌∷◌, [], Err, IfNone, IfSome, IsNone, IsSome, OnErr, OnOk, false, length};
+    ghost use Rattle.jack_host.specs.Bytes.{Puts};
+    ghost use Rattle.jack_host.specs.Causes.{HasCause};
     ghost use Rattle.session_model.specs.Explanations.{Given};
     ghost use Rattle.session_model.specs.Scripts.{phases};
-    ghost use Rattle.session_threads.specs.Drivers.{driver_of};
     ghost use Rattle.driver_laws.specs.Drivers.{run};
     ghost use Rattle.run_laws.specs.Runs.{AtPhase};
     ghost use Rattle.run_laws.specs.SerialRuns.{SerialKept};
     ghost use Rattle.run_laws.specs.Told.{Ends, StandsSoFar, text_in};
     ghost use Rattle.serial_laws.specs.Faults.{StandsInSerial};
-    ghost use Rattle.session_run.specs.Endings.{StopsInOrder};
-    ghost use Rattle.session_threads.specs.Parts.{AreLater, OneRose, session_of, stores_in, told_of};
-    ghost use Rattle.session_run.specs.Standings.{HasEnded, HasRun};
-    ghost use Rattle.session_threads.specs.declared.faults.SessionFault.TheVariants.{Write};
+    ghost use Rattle.session_ends.specs.Endings.{StopsInOrder};
+    ghost use Rattle.session_ends.specs.Seen.{AreLater, HasEnded, HasRun, OneRose, Write, driver_of, session_of, stores_in, told_of};
 
     /// Empties the rings and finishes the files: the recorders' in order, and then the playback's. Behind a fault, which is
     /// always `Write`, each store has a front of its file, and only `take_store` and `into_capture` may be called.
@@ -44,30 +40,31 @@ impl<S: Source, W: Store, G: Guest> Session<S, W, G> {
         ensures script { self.new.gear.script ≡ self.old.gear.script }
         ensures capture { self.new.gear.capture ≡ self.old.gear.capture }
     {
-        an_end_is_whole();
-        an_end_that_fails_leaves_fronts();
-        session_threads::laws::an_end_that_fails_leaves_fronts();
-        if close_recorders(&mut self.rig.works, self.limits.ring).is_err() {
-            return Err(SessionFault::Write);
-        }
-        if close_playback(&mut self.rig.works.driver, &mut self.playback).is_err() {
-            return Err(SessionFault::Write);
-        }
-        Ok(())
+        end(&mut self.parts, self.limits.ring)
     }
 
     /// The desk, whose history the report prints.
     pub fn desk(&self) -> &Desk
         ensures { result.now ≡ self.now.desk }
     {
-        &self.rig.works.desk
+        &self.parts.works.desk
     }
 
     /// The driver, whose numbers, moments, overruns and peaks the report prints.
     pub fn driver(&self) -> &Driver<S, W, G>
         ensures { result.now ≡ self.now.gear }
     {
-        &self.rig.works.driver
+        &self.parts.works.driver
+    }
+
+    /// Puts the report: the calls with their replies, the cycles with the number of changes that each used and the transport,
+    /// the meters with their peaks, and the recorders with their overruns.
+    pub fn report<K: Sink>(&self, out: &mut K) -> Result<(), WriteFailed>
+        requires { HasEnded G.sound self.now }
+        ensures puts { Puts (K.content out.old) (K.content out.new) result (text_in (session_of G.sound self.now)) }
+        ensures cause { HasCause (K.faults out.old) (K.faults out.new) result }
+    {
+        report(out, &self.parts)
     }
 
     /// Takes the next store out, in the order of attaching, None exactly behind the last.
@@ -78,15 +75,7 @@ impl<S: Source, W: Store, G: Guest> Session<S, W, G> {
         ensures ended { HasEnded G.sound self.old → HasEnded G.sound self.new }
         ensures capture { self.new.gear.capture ≡ self.old.gear.capture }
     {
-        let file = self.rig.works.driver.close();
-        let store = self.playback.take();
-        if let Some(file) = file {
-            return Some(file.stop());
-        }
-        if let Some(store) = store {
-            return Some(store);
-        }
-        take_recorded(&mut self.rig.works.recorders)
+        take_store(&mut self.parts)
     }
 
     /// The capture, as far as it was read. Where no cycle failed, none of its reads did.
@@ -94,8 +83,8 @@ impl<S: Source, W: Store, G: Guest> Session<S, W, G> {
         ensures reading { result ≡ self.gear.capture.reading }
         ensures sound { self.gear.failed ≡ false → result.failed ≡ false }
     {
-        let rig = self.rig;
-        let works = rig.works;
+        let parts = self.parts;
+        let works = parts.works;
         works.driver.into_capture()
     }
 }

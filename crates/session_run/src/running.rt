@@ -1,13 +1,11 @@
 //! How a session is run.
 
-use crate::phases::run_serial;
 use crate::session::Session;
 use client_kinds::Guest;
 use jack_host::{Gate, Source, Store};
-use run_laws::serial::all_phases_end;
-use serial_laws::openings::{a_serial_run_is_whole, a_session_stands_before_its_first_phase};
-use session_threads::laws::{a_new_session_is_at_rest, a_run_with_threads_is_whole};
-use session_threads::{SessionFault, run_threads};
+use serial_run::run_serial;
+use session_ends::SessionFault;
+use session_threads::run_threads;
 use std::sync::Wait;
 use std::thread::Threads;
 
@@ -20,9 +18,8 @@ impl<S: Source, W: Store + Send, G: Guest + Send> Session<S, W, G> {
     ghost use Rattle.run_laws.specs.SerialRuns.{SerialKept};
     ghost use Rattle.run_laws.specs.Told.{Runs, StandsSoFar};
     ghost use Rattle.serial_laws.specs.Faults.{StandsInSerial};
+    ghost use Rattle.session_ends.specs.Seen.{AreLater, HasRun, IsReady, OneRose, session_of, stores_in, told_of};
     ghost use Rattle.session_threads.specs.Running.{HasCome};
-    ghost use Rattle.session_threads.specs.Parts.{AreLater, OneRose, session_of, stores_in, told_of};
-    ghost use Rattle.session_run.specs.Standings.{HasRun, IsReady};
 
     /// Runs all phases of the script, in order. In serial mode these are the `do` calls of each, and then its cycles with the
     /// calls of the lanes before the first and behind each. In threads mode the lanes make their calls, and the recorders fill
@@ -50,39 +47,33 @@ impl<S: Source, W: Store + Send, G: Guest + Send> Session<S, W, G> {
         ensures read { IsErrOf result.1 SessionFault.Read → Rose self.gear.capture.reading.faults result.0.gear.capture.reading.faults }
         ensures write { IsErrOf result.1 SessionFault.Write → OneRose (stores_in self) (stores_in result.0) }
     {
-        a_session_stands_before_its_first_phase();
-        a_serial_run_is_whole();
-        all_phases_end();
-        a_new_session_is_at_rest();
-        a_run_with_threads_is_whole();
         let Session {
             segments,
             limits,
-            rig,
+            lanes,
             is_serial,
-            playback,
-            attached,
+            mut parts,
         } = self;
         if is_serial {
-            let (rig, ran) = run_serial(rig, threads, gate, &segments, limits);
+            let ran = run_serial(&mut parts, threads, gate, &segments, limits);
             let session = Session {
                 segments,
                 limits,
-                rig,
+                lanes,
                 is_serial,
-                playback,
-                attached,
+                parts,
             };
             return (session, ran);
         }
-        let (rig, ran) = run_threads(rig, threads, wait, gate, &segments, limits);
+        let ((parts, lanes), ran) = run_threads(
+            parts, lanes, threads, wait, gate, &segments, limits,
+        );
         let session = Session {
             segments,
             limits,
-            rig,
+            lanes,
             is_serial,
-            playback,
-            attached,
+            parts,
         };
         (session, ran)
     }

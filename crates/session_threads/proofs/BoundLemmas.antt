@@ -1,41 +1,48 @@
 -- A segment that is bound to the device, told of its session.
---     going-of, may-serve-all, few-recorders      what its threads may do when it begins
+--     going-of, may-serve-all      what its threads may do when it begins
+--     group-behind, lanes-behind, caller-kept      the desk that came back, and the right to call the work off
 --     seen-driven      a session whose driver alone went on
 --     bound-whole, bound-read, bound-write, bound-torn      the segment, by how its threads came out
 --     bound-stays, bound-pairs, bound-unwritten, bound-rose      what stays, and what rose
 --     on-both      what follows where both are Ok
 use Rattle.std.proofs.Common.{◌≡◌, ℕ, ◌<◌, Bool, true, false, List, length, map, slice_get, IfSome, IsOk, All, Option, Some, None, Result, Ok, Err, OnOk, refl, sym, ◌∙◌, ap, subst, arith, true≢false}
 use Rattle.std.proofs.lemmas.List.{length-map}
+use Rattle.std.proofs.lemmas.Result.{on_ok_weaker}
 use Rattle.std.proofs.lemmas.Option.{same_Some, slice_get_within}
 use Rattle.jack_host.specs.Causes.{Rose}
 use Rattle.session_model.specs.Grammar.{IsScript}
 use Rattle.session_model.specs.Kinds.{Sound}
 use Rattle.session_model.specs.Scripts.{Script}
 use Rattle.client_kinds.specs.Scores.{Score}
-use Rattle.record_ring.specs.Rings.{IsPair, Sending}
+use Rattle.driver_words.specs.Rings.{IsPair, Sending}
 use Rattle.wave_pcm.specs.Readings.{SameReading}
-use Rattle.wave_write.specs.Tapes.{Tape}
+use Rattle.driver_words.specs.Tapes.{Tape}
 use Rattle.control_desk.specs.Desks.{Desk, GoesOn, IsDesk, IsDone}
 use Rattle.control_desk.specs.Laws.{DoneGoesOn}
 use Rattle.driver_laws.specs.Cycling.{CyclesMany, FailsAtRead}
 use Rattle.driver_laws.specs.Drivers.{Driver, run}
-use Rattle.cycle_driver.specs.Gears.{Gear, driver_of}
-use Rattle.cycle_driver.specs.Runs.{BreaksAtWrite, IsGoing, RunsInto, StaysInRun, with_end}
+use Rattle.session_works.specs.Drivers.{Gear, driver_of}
+use Rattle.session_works.specs.Cycles.{BreaksAtWrite, IsGoing, RunsInto, StaysInRun, with_end}
 use Rattle.recorder_files.specs.Recorders.{Recording, held_or, stored_of}
 use Rattle.run_laws.specs.Sessions.{Session}
 use Rattle.run_laws.proofs.PlaceLemmas.{mapped_there, some_at}
 use Rattle.serial_laws.specs.Steps.{IsSound}
 use Rattle.thread_laws.specs.Faults.{AtCapture, AtPlayback, Drove, DroveAll, InRun}
 use Rattle.thread_laws.specs.Segments.{RingsEnded, Runs, WentOn}
+use Rattle.turn_word.specs.Turns.{Caller, Handle, IsCaller, Lock}
+use Rattle.desk_turn.specs.Lanes.{HaveRun}
+use Rattle.desk_turn.specs.Laws.{DoneBehind}
+use Rattle.session_threads.specs.Calling.{HasKept}
 use Rattle.session_threads.specs.Driving.{with_ends}
-use Rattle.session_threads.specs.Insides.{ArePaired, Stays, parts_with, seen_with}
-use Rattle.session_threads.specs.Parts.{HasOpenFiles, OneRose, Parts, session_of, stores_in}
-use Rattle.session_threads.specs.Phases.{SegmentFails, Segmented}
+use Rattle.session_works.specs.Insides.{ArePaired, Stays, parts_with, seen_with}
+use Rattle.session_works.specs.Parts.{HasOpenFiles, OneRose, Parts, session_of, stores_in}
+use Rattle.session_threads.specs.Phases.{HaveMade, SegmentFails, Segmented}
 use Rattle.session_threads.specs.Serving.{AreServed, HaveFailed, IsUntorn, MayServe, ServedBy}
-use Rattle.session_threads.proofs.ReelLemmas.{all-from_places, may-give, recorders_later}
+use Rattle.session_works.proofs.ReelLemmas.{all-from_places, may-give, recorders_later}
 use Rattle.session_threads.proofs.ServeLemmas.{files-served, recorders-keep, served-at, serves-all, serves-some}
-use Rattle.session_threads.proofs.StayLemmas.{ends-many}
-use Rattle.session_threads.proofs.StoreLemmas.{HeldLater, held-file, parts-later, parts-rose, playback-rose}
+use Rattle.session_works.proofs.PairedLemmas.{few-recorders}
+use Rattle.session_works.proofs.StayLemmas.{ends-many}
+use Rattle.session_works.proofs.StoreLemmas.{HeldLater, held-file, parts-later, parts-rose, playback-rose}
 
 -- ---- when it begins
 
@@ -61,16 +68,17 @@ may-serve-all sounding parts sound files = all-from_places MayServe parts.record
     let it = may-give sounding parts i ring.0 recording sound files ring.1 is in
     record { tape = it.1.0; there = it.1.1; may = it.1.2 })
 
-pub few-recorders : (sounding : Score → Sound) (parts : Parts) → IsSound (session_of sounding parts) → length parts.recorders < 256
-few-recorders sounding parts sound =
-    let many : length parts.recorders ≡ length parts.gear.script.header.recorders = sym (length-map parts.recorders (λ (r : Recording). r.getting)) ∙ sound.one.recorder_ends in
-    let few = sound.one.lawful.header.few_recorders in
-    omega (arith, many, few)
-
 -- ---- the desk that came back
 
 pub group-behind : DoneGoesOn → (session : Session) (after : Desk) → IsSound session → IsDesk after → GoesOn session.desk after → IsDone session.desk 0 → IsDone after 0
 group-behind law session after sound is goes = law session.desk after (subst IsScript (sym (goes.script ∙ sound.one.desk_script)) sound.one.lawful) is goes
+
+pub lanes-behind : {E : Type 0} → DoneBehind → (old new : List (Handle Desk)) (desk : Desk) (caller after : Caller Desk) (ran : Result (Unit {0}) E) → length old ≡ 4 → HaveRun old new → HasKept caller after ran → caller.called ≡ false
+    → (after.called ≡ false → All (λ (pass : Handle Desk). pass.told ≡ false) new) → All (λ (pass : Handle Desk). All (λ (seen : Desk). GoesOn seen desk) pass.seen) new → OnOk ran (HaveMade desk)
+lanes-behind law old new desk caller after ran four run kept quiet told seen = on_ok_weaker ran (λ (same : after ≡ caller). law old new desk four run (told (ap (λ (c : Caller Desk). c.called) same ∙ quiet)) seen) kept.quiet
+
+pub caller-kept : {E : Type 0} (turn : Lock) (opened : Option Desk) (caller after : Caller Desk) {ran : Result (Unit {0}) E} → HasKept caller after ran → IsCaller turn.table turn.passes opened caller → IsCaller turn.table turn.passes opened after
+caller-kept turn opened caller after kept is = kept.same ∙ ap (λ (c : Caller Desk). record c { called = after.called }) is
 
 -- ---- what its threads left
 

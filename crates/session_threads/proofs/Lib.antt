@@ -1,16 +1,7 @@
-pub mod StoreLemmas
-pub mod RingLemmas
-pub mod ReelLemmas
-pub mod StayLemmas
-pub mod StepLemmas
-pub mod TurningLemmas
-pub mod TellLemmas
-pub mod BesideLemmas
 pub mod RenewLemmas
 pub mod WheelLemmas
 pub mod ServeLemmas
 pub mod BoundLemmas
 pub mod OutcomeLemmas
-pub mod PairedLemmas
-pub mod SegmentLemmas
 pub mod PhaseLemmas
+pub mod RunningLemmas

@@ -18,7 +18,7 @@ use Rattle.session_model.specs.Scripts.{Phase, Script, phases, turns}
 use Rattle.client_kinds.specs.Scores.{Score}
 use Rattle.control_desk.specs.Desks.{MayBegin, cycles_before}
 use Rattle.driver_laws.specs.Drivers.{Driver, run, turn_of}
-use Rattle.cycle_driver.specs.Runs.{AreNext}
+use Rattle.session_works.specs.Cycles.{AreNext}
 use Rattle.run_laws.specs.Runs.{AtPhase, RanPhases}
 use Rattle.run_laws.specs.Sessions.{Session}
 use Rattle.run_laws.specs.Told.{StandsSoFar}
@@ -30,14 +30,16 @@ use Rattle.thread_laws.specs.Coming.{ComeBehindFault, HasCome}
 use Rattle.thread_laws.specs.Faults.{StandsUnfinished, ThreadFault}
 use Rattle.thread_laws.specs.Segments.{Rests, ThreadSegment}
 use Rattle.thread_laws.proofs.PartLemmas.{IsSound-grouped, IsSound-paced}
-use Rattle.session_threads.specs.Insides.{Stays, held, parts_of}
-use Rattle.session_threads.specs.Parts.{HasOpenFiles, OneRose, Parts, session_of, told_of}
+use Rattle.session_works.specs.Insides.{Stays, held, parts_of}
+use Rattle.session_works.specs.Parts.{HasOpenFiles, OneRose, Parts, session_of, told_of}
+use Rattle.session_threads.specs.Laws.{FailsWithFronts, PhaseAt, PhaseBehind, UnfinishedFronts}
 use Rattle.session_threads.specs.Phases.{Opens, SegmentFails, Segmented, Settles, Stops}
-use Rattle.session_threads.proofs.SegmentLemmas.{CycleIs, CycleThere, IsOfPhase}
-use Rattle.session_threads.specs.declared.works.Works.{Works}
-use Rattle.session_threads.proofs.StayLemmas.{stays-begun, stays-trans}
-use Rattle.session_threads.proofs.StoreLemmas.{rose-before, rose-behind}
-use Rattle.session_threads.proofs.TellLemmas.{told-agrees}
+use Rattle.session_works.specs.Laws.{CycleIs, CycleThere}
+use Rattle.session_works.proofs.SegmentLemmas.{IsOfPhase}
+use Rattle.session_works.specs.declared.works.SessionWorks.{SessionWorks}
+use Rattle.session_works.proofs.StayLemmas.{stays-begun, stays-trans}
+use Rattle.session_works.proofs.StoreLemmas.{rose-before, rose-behind}
+use Rattle.session_works.proofs.TellLemmas.{told-agrees}
 
 pub opens-sound : (done : ℕ) (session after : Session) → IsSound session → Opens done session after → IsSound after
 opens-sound done session after sound opens = IsSound-paced opens.met after (IsSound-met opens.grouped opens.met (IsSound-grouped done session opens.grouped sound opens.groups) opens.meets) opens.paces
@@ -118,24 +120,6 @@ phase-fails done many kept freewheel session begun gone after opens segment stop
 
 -- ---- one phase more
 
-abbrev pub PhaseBehind : Type 0
-PhaseBehind =
-    (session after : Session) (done : ℕ) (phase : Phase) → IsSound session → slice_get (phases session.script) done ≡ Some phase → RanPhases session done → ThreadSegment done phase.cycles phase.is_freewheel session after
-    → IsSound after × RanPhases after (suc done)
-
-abbrev pub PhaseAt : Type 0
-PhaseAt =
-    (given : Given) (session after : Session) (done : ℕ) (phase : Phase) → IsSome session.script.header.threads → IsSound session → slice_get (phases session.script) done ≡ Some phase → AtPhase session given done
-    → ThreadSegment done phase.cycles phase.is_freewheel session after → AtPhase after given (suc done)
-
-abbrev pub FailsWithFronts : Type 0
-FailsWithFronts =
-    (given : Given) (session after : Session) (done many kept : ℕ) (freewheel : Bool) → AtPhase session given done → IsSome session.script.header.threads → session.players ≡ []
-    → ThreadFault done many freewheel kept session after → StandsUnfinished kept (told after) given
-
-abbrev pub UnfinishedFronts : Type 0
-UnfinishedFronts = (kept : ℕ) (session : Session) (given : Given) → StandsUnfinished kept session given → StandsSoFar kept session given
-
 -- a segment is its phase's
 as-phase : (session after : Session) (done : ℕ) (segment : Segment) (of : IsOfPhase session.script done segment) → ThreadSegment done segment.cycles segment.is_freewheel session after → ThreadSegment done of.phase.cycles of.phase.is_freewheel session after
 as-phase session after done segment of ran = subst (λ (s : Segment). ThreadSegment done s.cycles s.is_freewheel session after) of.is ran
@@ -169,14 +153,14 @@ pub rose-between : (first before now last : ℕ) → first ≤ before → Rose b
 rose-between first before now last low rose high = omega (arith, low, rose, high)
 
 module _ (sounding : Score → Sound) {S W G : Type 0} where
-  pub read-between : (first before now last : Works S W G) → Stays sounding (parts_of first) (parts_of before) → Rose before.driver.capture.reading.faults now.driver.capture.reading.faults → Stays sounding (parts_of now) (parts_of last)
+  pub read-between : (first before now last : SessionWorks S W G) → Stays sounding (parts_of first) (parts_of before) → Rose before.driver.capture.reading.faults now.driver.capture.reading.faults → Stays sounding (parts_of now) (parts_of last)
       → Rose first.driver.capture.reading.faults last.driver.capture.reading.faults
   read-between first before now last earlier rose later = rose-between _ _ _ _ earlier.capture.later rose later.capture.later
 
-  pub write-between : (first before now last : Works S W G) → Stays sounding (parts_of first) (parts_of before) → OneRose (held before) (held now) → Stays sounding (parts_of now) (parts_of last) → OneRose (held first) (held last)
+  pub write-between : (first before now last : SessionWorks S W G) → Stays sounding (parts_of first) (parts_of before) → OneRose (held before) (held now) → Stays sounding (parts_of now) (parts_of last) → OneRose (held first) (held last)
   write-between first before now last earlier rose later = rose-behind (held first) (held before) (held last) earlier.later (rose-before (held before) (held now) (held last) rose later.later)
 
   -- from the front of a phase to its end
-  pub stays-over : (first begun gone last : Works S W G) (period : ℕ) → begun.driver ≡ record first.driver { reading = begun.driver.reading; set = period } → begun.recorders ≡ first.recorders → HasOpenFiles (parts_of first)
+  pub stays-over : (first begun gone last : SessionWorks S W G) (period : ℕ) → begun.driver ≡ record first.driver { reading = begun.driver.reading; set = period } → begun.recorders ≡ first.recorders → HasOpenFiles (parts_of first)
       → Stays sounding (parts_of begun) (parts_of gone) → Stays sounding (parts_of gone) (parts_of last) → Stays sounding (parts_of first) (parts_of last)
   stays-over first begun gone last period driver recorders files between later = stays-trans sounding first begun last (stays-begun sounding first begun period driver recorders files) (stays-trans sounding begun gone last between later)

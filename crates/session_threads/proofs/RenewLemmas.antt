@@ -12,17 +12,17 @@ use Rattle.std.proofs.lemmas.List.{length-map}
 use Rattle.std.proofs.lemmas.Option.{same_Some, slice_get_within}
 use Rattle.session_model.specs.Kinds.{Sound}
 use Rattle.client_kinds.specs.Scores.{Score}
-use Rattle.record_ring.specs.Rings.{Getting, IsPair, Renews, Sending}
-use Rattle.wave_write.specs.Tapes.{Tape}
+use Rattle.driver_words.specs.Rings.{Getting, IsPair, Renews, Sending}
+use Rattle.driver_words.specs.Tapes.{Tape}
 use Rattle.recorder_files.specs.Recorders.{Recording}
 use Rattle.run_laws.proofs.PlaceLemmas.{mapped_there, some_at}
 use Rattle.run_laws.specs.Sessions.{Session}
 use Rattle.thread_laws.specs.Segments.{Renewed}
-use Rattle.cycle_driver.specs.Gears.{Gear}
-use Rattle.session_threads.specs.Insides.{ArePaired}
-use Rattle.session_threads.specs.Parts.{HasOpenFiles, Parts, bytes_of, session_of}
-use Rattle.session_threads.proofs.ReelLemmas.{RecordersKeep, given_up, map-places}
-use Rattle.session_threads.proofs.RingLemmas.{AreEach, IsLeft, each-none, each-set, each-weaker}
+use Rattle.session_works.specs.Drivers.{Gear}
+use Rattle.session_works.specs.Insides.{ArePaired}
+use Rattle.session_works.specs.Parts.{HasOpenFiles, Parts, bytes_of, session_of}
+use Rattle.session_works.proofs.ReelLemmas.{RecordersKeep, given_up, map-places}
+use Rattle.session_works.proofs.RingLemmas.{AreEach, IsLeft, each-none, each-set, each-weaker}
 
 pub record RenewedOne (ring : Sending) (recording : Recording) (ring_after : Sending) (after : Recording) : Type 0 where
   pub renews : Renews ring recording.getting ring_after after.getting

@@ -10,17 +10,17 @@ use Rattle.std.proofs.lemmas.Option.{get_or_from_slice_get, none-some, same_Some
 use Rattle.jack_host.specs.Causes.{HasCause}
 use Rattle.session_model.specs.Kinds.{Sound}
 use Rattle.client_kinds.specs.Scores.{Score}
-use Rattle.record_ring.specs.Rings.{Sending}
-use Rattle.wave_write.specs.Tapes.{Tape}
+use Rattle.driver_words.specs.Rings.{Sending}
+use Rattle.driver_words.specs.Tapes.{Tape}
 use Rattle.disk_recorder.specs.Recordings.{Serves}
 use Rattle.recorder_files.specs.Recorders.{Recording, Reel, Tears}
 use Rattle.serial_laws.specs.Steps.{IsReel}
 use Rattle.thread_laws.specs.Faults.{Got, ReelEnds, ServedSome, Torn}
 use Rattle.thread_laws.specs.Segments.{Served, ServesReel}
-use Rattle.session_threads.specs.Giving.{reel_of}
-use Rattle.session_threads.specs.Parts.{HasOpenFiles, Parts, session_of}
+use Rattle.session_works.specs.Giving.{reel_of}
+use Rattle.session_works.specs.Parts.{HasOpenFiles, Parts, session_of}
 use Rattle.session_threads.specs.Serving.{AreServed, HaveFailed, IsUntorn, ServedBy}
-use Rattle.session_threads.proofs.ReelLemmas.{RecordersKeep, all-there, files-keep, picked_length, record_files-keep, recording-of, same-file, tapes-there}
+use Rattle.session_works.proofs.ReelLemmas.{RecordersKeep, all-there, files-keep, picked_length, record_files-keep, recording-of, same-file, tapes-there}
 
 -- ---- one recorder
 

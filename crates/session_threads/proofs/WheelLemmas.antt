@@ -9,14 +9,15 @@ use Rattle.session_model.specs.Kinds.{Sound}
 use Rattle.session_model.specs.Scripts.{Script, turns}
 use Rattle.client_kinds.specs.Scores.{Score}
 use Rattle.driver_laws.specs.Drivers.{run, turn_of}
-use Rattle.cycle_driver.specs.Gears.{Gear, driver_of}
-use Rattle.cycle_driver.specs.Runs.{AreNext}
+use Rattle.session_works.specs.Drivers.{Gear, driver_of}
+use Rattle.session_works.specs.Cycles.{AreNext}
 use Rattle.run_laws.specs.Sessions.{Session}
 use Rattle.serial_laws.specs.Steps.{IsSound}
 use Rattle.thread_laws.specs.Faults.{AtDraining as FailsAtDraining, AtEmptying as FailsAtEmptying, AtWheelCapture, AtWheelPlayback, WheelFailed}
 use Rattle.thread_laws.specs.Segments.{WheeledOnce}
-use Rattle.session_threads.specs.Turnings.{AtDraining, AtEmptying, AtRead, AtWrite, Fails, Goes}
-use Rattle.session_threads.proofs.TurningLemmas.{EmptyBehindBlocks, IsNext, SoundBehindBlocks, SoundBehindCycle}
+use Rattle.session_works.specs.Turnings.{AtDraining, AtEmptying, AtRead, AtWrite, Fails, Goes}
+use Rattle.session_works.specs.Laws.{EmptyBehindBlocks, SoundBehindBlocks, SoundBehindCycle}
+use Rattle.session_works.proofs.TurningLemmas.{IsNext}
 
 pub next-wheel : (sounding : Score → Sound) (first gear : Gear) (cycles t : ℕ) (freewheel : Bool) → AreNext cycles freewheel (driver_of sounding first) → t < cycles → run (driver_of sounding gear) ≡ run (driver_of sounding first) + t → gear.script ≡ first.script → gear.set ≡ first.set → IsNext sounding gear freewheel
 next-wheel sounding first gear cycles t freewheel next low count script set =

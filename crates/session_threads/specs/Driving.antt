@@ -6,11 +6,9 @@ use Rattle.jack_host.specs.Causes.{Rose}
 use Rattle.session_model.specs.Kinds.{Sound}
 use Rattle.client_kinds.specs.Scores.{Score}
 use Rattle.wave_pcm.specs.Readings.{SameReading}
-use Rattle.wave_write.specs.Tapes.{Tape}
-use Rattle.cycle_driver.specs.declared.faults.CycleFault.{CycleFault}
-use Rattle.cycle_driver.specs.declared.faults.CycleFault.TheVariants.{Read, Write}
-use Rattle.cycle_driver.specs.Gears.{Gear, driver_of}
-use Rattle.cycle_driver.specs.Runs.{BreaksAtWrite, IsGoing, RunsInto, StaysInRun, with_end}
+use Rattle.driver_words.specs.Tapes.{Tape}
+use Rattle.session_works.specs.Cycles.{CycleFault, Read, Write, BreaksAtWrite, IsGoing, RunsInto, StaysInRun, with_end}
+use Rattle.session_works.specs.Drivers.{Gear, driver_of}
 use Rattle.driver_laws.specs.Cycling.{CyclesMany, FailsAtRead}
 
 abbrev pub with_ends : Gear → Gear

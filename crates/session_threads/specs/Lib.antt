@@ -1,10 +1,7 @@
-pub mod Parts
-pub mod Insides
-pub mod Giving
-pub mod Turnings
+pub mod Calling
+pub mod Running
 pub mod Phases
 pub mod Serving
 pub mod Driving
 pub mod Wheels
-pub mod Running
-pub mod Drivers
+pub mod Laws

@@ -2,8 +2,10 @@
 --     Opens done session after      the front of a phase
 --     Segmented many freewheel session after      its segment
 --     SegmentFails many freewheel kept session after      or one that failed
+--     HaveMade desk      no lane has a call left
 --     Settles session after, Stops session after      what comes behind the one and behind the other
-use Rattle.std.specs.Prelude.{ℕ, Bool}
+use Rattle.std.specs.Prelude.{ℕ, ◌≤◌, Bool}
+use Rattle.control_desk.specs.Desks.{Desk, IsDone}
 use Rattle.run_laws.specs.Sessions.{Session}
 use Rattle.serial_laws.specs.Steps.{Met, Rounded}
 use Rattle.thread_laws.specs.Segments.{Grouped, Joined, Paced, Renewed, WentOn}
@@ -27,6 +29,10 @@ pub record SegmentFails (many : ℕ) (freewheel : Bool) (kept : ℕ) (session af
   pub served : Session
   pub joins : JoinFailed many freewheel kept session served
   pub goes : WentOn served after
+
+-- no lane has a call left in the phases begun
+abbrev pub HaveMade : Desk → Type 0
+HaveMade desk = (lane : ℕ) → 1 ≤ lane → lane ≤ 4 → IsDone desk lane
 
 -- a meeting, the lanes' last round, the rings' ends, and a meeting
 pub record Settles (session after : Session) : Type 0 where

@@ -5,10 +5,10 @@
 --     IsUntorn recording, HaveFailed recordings      no write of its file failed, or that of one failed
 use Rattle.std.specs.Prelude.{◌≡◌, ◌+◌, ℕ, ◌<◌, true, false, IfSome, List, length, get_or, slice_get, Some}
 use Rattle.jack_host.specs.Causes.{Rose}
-use Rattle.wave_write.specs.Tapes.{Tape}
+use Rattle.driver_words.specs.Tapes.{Tape}
 use Rattle.disk_recorder.specs.Recordings.{Fails, MayWrite, Serves}
 use Rattle.recorder_files.specs.Recorders.{Recording}
-use Rattle.session_threads.specs.Giving.{KeepsFile}
+use Rattle.session_works.specs.Giving.{KeepsFile}
 
 pub record MayServe (recording : Recording) : Type 0 where
   pub tape : Tape

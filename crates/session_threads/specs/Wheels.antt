@@ -5,16 +5,16 @@ use Rattle.jack_host.specs.Causes.{Rose}
 use Rattle.session_model.specs.Kinds.{Sound}
 use Rattle.client_kinds.specs.Scores.{Score}
 use Rattle.control_desk.specs.Desks.{Desk}
-use Rattle.cycle_driver.specs.Gears.{Gear}
+use Rattle.session_works.specs.Drivers.{Gear}
 use Rattle.recorder_files.specs.Recorders.{Recording}
 use Rattle.run_laws.specs.Sessions.{Session}
 use Rattle.serial_laws.specs.Steps.{IsSound}
 use Rattle.thread_laws.specs.Faults.{WheelFailed}
 use Rattle.thread_laws.specs.Segments.{WheeledMany}
-use Rattle.session_threads.specs.Insides.{ArePaired, Stays, parts_with, seen_with}
-use Rattle.session_threads.specs.Parts.{OneRose, stores_in}
-use Rattle.session_threads.specs.declared.faults.SessionFault.{SessionFault}
-use Rattle.session_threads.specs.declared.faults.SessionFault.TheVariants.{Read, Write}
+use Rattle.session_works.specs.Insides.{ArePaired, Stays, parts_with, seen_with}
+use Rattle.session_works.specs.Parts.{OneRose, stores_in}
+use Rattle.session_works.specs.declared.faults.SessionFault.{SessionFault}
+use Rattle.session_works.specs.declared.faults.SessionFault.TheVariants.{Read, Write}
 
 -- some were whole, and the next one failed
 pub record WheelBroke (cycles : ℕ) (session after : Session) : Type 0 where

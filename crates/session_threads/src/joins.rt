@@ -1,35 +1,33 @@
 //! The threads of a segment.
 
 ghost use Rattle.std.specs.Prelude.{◌≡◌, ◌<◌, All, IsErrOf, OnErr, OnOk, false, length, true};
-ghost use Rattle.cycle_driver.specs.Gears.{Gear, driver_of};
-ghost use Rattle.cycle_driver.specs.Runs.{AreNext, IsGoing};
-ghost use Rattle.desk_turn.specs.Lanes.{IsOpen};
+ghost use Rattle.session_works.specs.Drivers.{Gear, driver_of};
+ghost use Rattle.session_works.specs.Cycles.{AreNext, IsGoing};
+ghost use Rattle.desk_turn.specs.Lanes.{HaveRun, IsOpen};
+ghost use Rattle.session_threads.specs.Calling.{HasKept, IsOfTurn};
 ghost use Rattle.session_threads.specs.Driving.{HasDriven, with_ends};
 ghost use Rattle.control_desk.specs.Desks.{Desk as DeskValue};
 ghost use Rattle.jack_host.specs.Causes.{Rose};
 ghost use Rattle.serial_laws.specs.Steps.{IsSound};
-ghost use Rattle.session_threads.specs.Insides.{AreAble, ArePaired, Stays, parts_with, seen_with};
-ghost use Rattle.session_threads.specs.Parts.{OneRose, stores_in};
-ghost use Rattle.session_threads.specs.declared.faults.SessionFault.{SessionFault as Fault};
+ghost use Rattle.session_works.specs.Insides.{AreAble, ArePaired, Stays, parts_with, seen_with};
+ghost use Rattle.session_works.specs.Parts.{OneRose, stores_in};
+ghost use Rattle.session_works.specs.declared.faults.SessionFault.{SessionFault as Fault};
 ghost use Rattle.thread_laws.specs.Segments.{WheeledMany};
 ghost use Rattle.session_threads.specs.Serving.{AreServed, MayServe};
 ghost use Rattle.session_threads.specs.Wheels.{HaveWheeled, WheelBroke};
 
-use crate::cycles::{Limits, cycle};
-use crate::faults::SessionFault;
+use crate::rig::Deck;
 use crate::serving::serve_all;
-use crate::works::Deck;
 use client_kinds::Guest;
-use cycle_driver::{CycleFault, Driver, end_rings, run_cycles};
 use desk_turn::{TurnDesk, run_lanes};
 use jack_host::{Gate, Source, Store};
 use recorder_files::Recorder;
-use serial_laws::parts::{a_cycle_leaves_the_parts, blocks_leave_the_parts};
+use session_works::laws::cycles_and_blocks;
+use session_works::{CycleFault, Driver, RingLimits, SessionFault, cycle, end_rings, run_cycles};
 use std::sync::Wait;
-use std::sync::atomic::{AtomicBool, Ordering};
 use std::thread;
 use std::thread::Threads;
-use turn_word::{Pass, Turn};
+use turn_word::{Caller, Pass, Turn};
 
 /// The cycles of a `run` segment in this thread, and lanes and recorders beside them. Each side gives back what it had.
 ///
@@ -51,10 +49,10 @@ pub(crate) fn run_beside<
     recorders: Vec<Recorder<W>>,
     driver: Driver<S, W, G>,
     cycles: u32,
-    over: &AtomicBool,
+    caller: Caller<TurnDesk>,
 ) -> (
     (Vec<Pass<TurnDesk>>, Vec<Recorder<W>>),
-    (Driver<S, W, G>, Result<(), CycleFault>),
+    (Driver<S, W, G>, Result<(), CycleFault>, Caller<TurnDesk>),
 )
     requires four { length passes.items ≡ 4 }
     requires open { All (IsOpen turn.now.table) passes.items }
@@ -63,22 +61,24 @@ pub(crate) fn run_beside<
     requires many { length driver.rings.rings ≡ length recorders.items }
     requires next { AreNext cycles false (driver_of G.sound driver) }
     requires going { IsGoing (driver_of G.sound driver) }
-    ensures passes { result.0.0.items ≡ passes.items }
+    requires caller { IsOfTurn turn.now caller }
+    ensures passes { HaveRun passes.items result.0.0.items }
     ensures many { length result.0.1.items ≡ length recorders.items }
     ensures served { AreServed recorders.items result.0.1.items }
     ensures driven { (driven : Gear) × HasDriven G.sound cycles driver driven result.1.1 × (result.1.0 ≡ with_ends driven) }
+    ensures caller { HasKept caller result.1.2 result.1.1 }
 {
     let many = recorders.len() as u8;
     thread::join(
         threads,
         move || -> (Vec<Pass<TurnDesk>>, Vec<Recorder<W>>)
             requires { (length passes.items ≡ 4) × All (IsOpen turn.now.table) passes.items × (length recorders.items < 256) × All MayServe recorders.items }
-            ensures { (result.0.items ≡ passes.items) × (length result.1.items ≡ length recorders.items) × AreServed recorders.items result.1.items }
-        { wait_beside(threads, wait, gate, turn, passes, made, recorders, over) },
-        move || -> (Driver<S, W, G>, Result<(), CycleFault>)
-            requires { AreNext cycles false (driver_of G.sound driver) × IsGoing (driver_of G.sound driver) × (length driver.rings.rings ≡ many) }
-            ensures { (driven : Gear) × HasDriven G.sound cycles driver driven result.1 × (result.0 ≡ with_ends driven) }
-        { drive(threads, gate, driver, cycles, many, over) },
+            ensures { HaveRun passes.items result.0.items × (length result.1.items ≡ length recorders.items) × AreServed recorders.items result.1.items }
+        { wait_beside(threads, wait, gate, turn, passes, made, recorders) },
+        move || -> (Driver<S, W, G>, Result<(), CycleFault>, Caller<TurnDesk>)
+            requires { AreNext cycles false (driver_of G.sound driver) × IsGoing (driver_of G.sound driver) × (length driver.rings.rings ≡ many) × IsOfTurn turn.now caller }
+            ensures { ((driven : Gear) × HasDriven G.sound cycles driver driven result.1 × (result.0 ≡ with_ends driven)) × HasKept caller result.2 result.1 }
+        { drive(threads, gate, driver, cycles, many, turn, caller) },
     )
 }
 
@@ -91,13 +91,12 @@ fn wait_beside<W: Store + Send, T: Threads + Sync, R: Wait + Sync, K: Gate>(
     passes: Vec<Pass<TurnDesk>>,
     made: [usize; 4],
     recorders: Vec<Recorder<W>>,
-    over: &AtomicBool,
 ) -> (Vec<Pass<TurnDesk>>, Vec<Recorder<W>>)
     requires four { length passes.items ≡ 4 }
     requires open { All (IsOpen turn.now.table) passes.items }
     requires few { length recorders.items < 256 }
     requires may { All MayServe recorders.items }
-    ensures passes { result.0.items ≡ passes.items }
+    ensures passes { HaveRun passes.items result.0.items }
     ensures many { length result.1.items ≡ length recorders.items }
     ensures served { AreServed recorders.items result.1.items }
 {
@@ -105,8 +104,8 @@ fn wait_beside<W: Store + Send, T: Threads + Sync, R: Wait + Sync, K: Gate>(
         threads,
         move || -> Vec<Pass<TurnDesk>>
             requires { (length passes.items ≡ 4) × All (IsOpen turn.now.table) passes.items }
-            ensures { result.items ≡ passes.items }
-        { wait_alone(threads, wait, gate, turn, passes, made, over) },
+            ensures { HaveRun passes.items result.items }
+        { wait_alone(threads, wait, gate, turn, passes, made) },
         move || -> Vec<Recorder<W>>
             requires { (length recorders.items < 256) × All MayServe recorders.items }
             ensures { (length result.items ≡ length recorders.items) × AreServed recorders.items result.items }
@@ -131,26 +130,38 @@ fn serve_alone<W: Store + Send, T: Threads + Sync, R: Wait + Sync, K: Gate>(
 }
 
 /// The driver's cycles. Behind them, however they came out, the rings end, so that the recorders come to an end; where one
-/// failed, the lanes are told that the work is over.
+/// failed, the work is called off.
 fn drive<S: Source, W: Store, G: Guest + Send, T: Threads + Sync, K: Gate>(
     threads: &T,
     gate: &K,
     mut driver: Driver<S, W, G>,
     cycles: u32,
     recorders: u8,
-    over: &AtomicBool,
-) -> (Driver<S, W, G>, Result<(), CycleFault>)
+    turn: &Turn<TurnDesk>,
+    mut caller: Caller<TurnDesk>,
+) -> (Driver<S, W, G>, Result<(), CycleFault>, Caller<TurnDesk>)
     requires many { length driver.rings.rings ≡ recorders }
     requires next { AreNext cycles false (driver_of G.sound driver) }
     requires going { IsGoing (driver_of G.sound driver) }
-    ensures { (driven : Gear) × HasDriven G.sound cycles driver driven result.1 × (result.0 ≡ with_ends driven) }
+    requires caller { IsOfTurn turn.now caller }
+    ensures driven { (driven : Gear) × HasDriven G.sound cycles driver driven result.1 × (result.0 ≡ with_ends driven) }
+    ensures caller { HasKept caller result.2 result.1 }
 {
     let ran = run_cycles(&mut driver, threads, gate, recorders, cycles, false);
     end_rings(&mut driver, recorders);
-    if ran.is_err() {
-        over.store(true, Ordering::SeqCst);
+    tell_lanes(turn, &mut caller, ran.is_err());
+    (driver, ran, caller)
+}
+
+/// Calls the work off where it failed.
+fn tell_lanes(turn: &Turn<TurnDesk>, caller: &mut Caller<TurnDesk>, has_failed: bool)
+    requires { IsOfTurn turn.now caller.old }
+    ensures same { caller.new ≡ record caller.old { called = caller.new.called } }
+    ensures quiet { has_failed ≡ false → caller.new ≡ caller.old }
+{
+    if has_failed {
+        turn.call_off(caller);
     }
-    (driver, ran)
 }
 
 /// The cycles of a freewheel segment in this thread, with the rings emptied around each, and the lanes beside them.
@@ -170,11 +181,11 @@ pub(crate) fn wheel_beside<
     made: [usize; 4],
     deck: Deck<S, W, G>,
     cycles: u32,
-    limits: Limits,
-    over: &AtomicBool,
+    limits: RingLimits,
+    caller: Caller<TurnDesk>,
 ) -> (
     Vec<Pass<TurnDesk>>,
-    (Deck<S, W, G>, Result<(), SessionFault>),
+    (Deck<S, W, G>, Result<(), SessionFault>, Caller<TurnDesk>),
 )
     requires four { length passes.items ≡ 4 }
     requires open { All (IsOpen turn.now.table) passes.items }
@@ -182,19 +193,21 @@ pub(crate) fn wheel_beside<
     requires next { AreNext cycles true (driver_of G.sound deck.driver) }
     requires ring { limits.ring ≡ deck.driver.script.header.ring }
     requires drain { limits.drain ≡ deck.driver.script.header.drain }
-    ensures passes { result.0.items ≡ passes.items }
+    requires caller { IsOfTurn turn.now caller }
+    ensures passes { HaveRun passes.items result.0.items }
     ensures wheeled { HaveWheeled G.sound cycles deck.driver deck.recorders.items result.1.0.driver result.1.0.recorders.items result.1.1 }
+    ensures caller { HasKept caller result.1.2 result.1.1 }
 {
     thread::join(
         threads,
         move || -> Vec<Pass<TurnDesk>>
             requires { (length passes.items ≡ 4) × All (IsOpen turn.now.table) passes.items }
-            ensures { result.items ≡ passes.items }
-        { wait_alone(threads, wait, gate, turn, passes, made, over) },
-        move || -> (Deck<S, W, G>, Result<(), SessionFault>)
-            requires { AreAble G.sound deck.driver deck.recorders.items × AreNext cycles true (driver_of G.sound deck.driver) × (limits.ring ≡ deck.driver.script.header.ring) × (limits.drain ≡ deck.driver.script.header.drain) }
-            ensures { HaveWheeled G.sound cycles deck.driver deck.recorders.items result.0.driver result.0.recorders.items result.1 }
-        { wheel(threads, gate, deck, cycles, limits, over) },
+            ensures { HaveRun passes.items result.items }
+        { wait_alone(threads, wait, gate, turn, passes, made) },
+        move || -> (Deck<S, W, G>, Result<(), SessionFault>, Caller<TurnDesk>)
+            requires { AreAble G.sound deck.driver deck.recorders.items × AreNext cycles true (driver_of G.sound deck.driver) × (limits.ring ≡ deck.driver.script.header.ring) × (limits.drain ≡ deck.driver.script.header.drain) × IsOfTurn turn.now caller }
+            ensures { HaveWheeled G.sound cycles deck.driver deck.recorders.items result.0.driver result.0.recorders.items result.1 × HasKept caller result.2 result.1 }
+        { wheel(threads, gate, deck, cycles, limits, turn, caller) },
     )
 }
 
@@ -206,30 +219,32 @@ fn wait_alone<T: Threads + Sync, R: Wait + Sync, K: Gate>(
     turn: &Turn<TurnDesk>,
     mut passes: Vec<Pass<TurnDesk>>,
     made: [usize; 4],
-    over: &AtomicBool,
 ) -> Vec<Pass<TurnDesk>>
     requires four { length passes.items ≡ 4 }
     requires open { All (IsOpen turn.now.table) passes.items }
-    ensures { result.items ≡ passes.items }
+    ensures { HaveRun passes.items result.items }
 {
-    run_lanes(threads, wait, gate, turn, &mut passes, made, over);
+    run_lanes(threads, wait, gate, turn, &mut passes, made);
     passes
 }
 
-/// The cycles of a freewheel segment; where one failed, the lanes are told that the work is over.
+/// The cycles of a freewheel segment; where one failed, the work is called off.
 fn wheel<S: Source, W: Store, G: Guest + Send, T: Threads + Sync, K: Gate>(
     threads: &T,
     gate: &K,
     mut deck: Deck<S, W, G>,
     cycles: u32,
-    limits: Limits,
-    over: &AtomicBool,
-) -> (Deck<S, W, G>, Result<(), SessionFault>)
+    limits: RingLimits,
+    turn: &Turn<TurnDesk>,
+    mut caller: Caller<TurnDesk>,
+) -> (Deck<S, W, G>, Result<(), SessionFault>, Caller<TurnDesk>)
     requires able { AreAble G.sound deck.driver deck.recorders.items }
     requires next { AreNext cycles true (driver_of G.sound deck.driver) }
     requires ring { limits.ring ≡ deck.driver.script.header.ring }
     requires drain { limits.drain ≡ deck.driver.script.header.drain }
-    ensures { HaveWheeled G.sound cycles deck.driver deck.recorders.items result.0.driver result.0.recorders.items result.1 }
+    requires caller { IsOfTurn turn.now caller }
+    ensures wheeled { HaveWheeled G.sound cycles deck.driver deck.recorders.items result.0.driver result.0.recorders.items result.1 }
+    ensures caller { HasKept caller result.2 result.1 }
 {
     let ran = wheel_cycles(
         &mut deck.driver,
@@ -239,10 +254,8 @@ fn wheel<S: Source, W: Store, G: Guest + Send, T: Threads + Sync, K: Gate>(
         cycles,
         limits,
     );
-    if ran.is_err() {
-        over.store(true, Ordering::SeqCst);
-    }
-    (deck, ran)
+    tell_lanes(turn, &mut caller, ran.is_err());
+    (deck, ran, caller)
 }
 
 /// Freewheel cycles, one after another, until one fails.
@@ -252,7 +265,7 @@ fn wheel_cycles<S: Source, W: Store, G: Guest + Send, T: Threads + Sync, K: Gate
     threads: &T,
     gate: &K,
     cycles: u32,
-    limits: Limits,
+    limits: RingLimits,
 ) -> Result<(), SessionFault>
     requires able { AreAble G.sound driver.old recorders.old.items }
     requires next { AreNext cycles true (driver_of G.sound driver.old) }
@@ -266,8 +279,7 @@ fn wheel_cycles<S: Source, W: Store, G: Guest + Send, T: Threads + Sync, K: Gate
     ensures read { IsErrOf result SessionFault.Read → Rose driver.old.capture.reading.faults driver.new.capture.reading.faults }
     ensures write { (desk : DeskValue) → IsErrOf result SessionFault.Write → OneRose (stores_in (parts_with desk driver.old recorders.old.items)) (stores_in (parts_with desk driver.new recorders.new.items)) }
 {
-    blocks_leave_the_parts();
-    a_cycle_leaves_the_parts();
+    cycles_and_blocks();
     for _ in 0..cycles {
         cycle(driver, recorders, threads, gate, true, limits)?;
     }

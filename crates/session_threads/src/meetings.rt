@@ -1,34 +1,22 @@
-//! How desk and driver learn how far the other has come, and how a phase begins.
+//! How a phase begins, and how the lanes finish it.
 
 ghost use Rattle.std.specs.Prelude.{◌≡◌, ◌≤◌, suc};
-ghost use Rattle.control_desk.specs.Desks.{IsDesk, IsDone, MayBegin};
+ghost use Rattle.control_desk.specs.Desks.{IsDone, MayBegin};
 ghost use Rattle.serial_laws.specs.Steps.{Met, Rounded};
-ghost use Rattle.session_threads.specs.Insides.{seen};
+ghost use Rattle.session_works.specs.Insides.{seen};
 ghost use Rattle.session_threads.specs.Phases.{Opens};
 ghost use Rattle.run_laws.specs.Sessions.{Session as SessionValue};
 
-use crate::works::Works;
 use client_kinds::Guest;
-use control_desk::Desk;
 use jack_host::{Source, Store};
 use serial_lanes::laws::desk_that_meets;
 use serial_lanes::{begin_group, round};
-
-/// Tells desk and driver how far the other has come.
-pub fn meet<S: Source, W: Store, G: Guest>(works: &mut Works<S, W, G>)
-    requires { works.old.desk.publishing.table ≡ works.old.driver.reading.table }
-    ensures met { Met (seen G.sound works.old) (seen G.sound works.new) }
-    ensures desk { works.new.desk ≡ record works.old.desk { publishing = works.new.desk.publishing } }
-    ensures driver { works.new.driver ≡ record works.old.driver { reading = works.new.driver.reading } }
-    ensures recorders { works.new.recorders ≡ works.old.recorders }
-{
-    works.desk.meet(works.driver.reader());
-}
+use session_works::{SessionWorks, kept_by_type, meet};
 
 /// Begins a phase behind so many others: its `do` calls are made, desk and driver meet, and the period of its cycles is set,
 /// in frames.
 pub(crate) fn begin<S: Source, W: Store, G: Guest>(
-    works: &mut Works<S, W, G>,
+    works: &mut SessionWorks<S, W, G>,
     phase: u32,
     period: u32,
 )
@@ -42,13 +30,13 @@ pub(crate) fn begin<S: Source, W: Store, G: Guest>(
 {
     desk_that_meets();
     begin_group(&mut works.desk, phase);
-    note_desk(&works.desk);
+    kept_by_type(&works.desk);
     meet(works);
     works.driver.period(period);
 }
 
 /// Lets desk and driver meet, and the lanes go until each waits or has no call left.
-pub(crate) fn finish_lanes<S: Source, W: Store, G: Guest>(works: &mut Works<S, W, G>)
+pub(crate) fn finish_lanes<S: Source, W: Store, G: Guest>(works: &mut SessionWorks<S, W, G>)
     requires table { works.old.desk.publishing.table ≡ works.old.driver.reading.table }
     requires begun { 1 ≤ works.old.desk.phase }
     requires group { IsDone works.old.desk 0 }
@@ -60,12 +48,5 @@ pub(crate) fn finish_lanes<S: Source, W: Store, G: Guest>(works: &mut Works<S, W
     desk_that_meets();
     meet(works);
     round(&mut works.desk);
-    note_desk(&works.desk);
-}
-
-// What a desk's type keeps.
-fn note_desk(desk: &Desk)
-    ensures { IsDesk desk.now }
-{
-    let _ = desk.history();
+    kept_by_type(&works.desk);
 }

@@ -12,29 +12,23 @@ ghost use Rattle.serial_laws.specs.Steps.{IsSound};
 ghost use Rattle.thread_laws.specs.Coming.{HasCome};
 ghost use Rattle.thread_laws.specs.Faults.{ThreadFault};
 ghost use Rattle.thread_laws.specs.Segments.{ThreadSegment};
-ghost use Rattle.session_threads.specs.Insides.{ArePaired, Stays, held, parts_of, seen};
-ghost use Rattle.session_threads.specs.Parts.{HasOpenFiles, OneRose, told_of};
+ghost use Rattle.session_works.specs.Insides.{ArePaired, Stays, held, parts_of, seen};
+ghost use Rattle.session_works.specs.Parts.{HasOpenFiles, OneRose, told_of};
 ghost use Rattle.session_threads.specs.Phases.{Settles, Stops};
-ghost use Rattle.session_threads.specs.Running.{HasRunThreads, MayRunThreads};
-ghost use Rattle.session_threads.specs.declared.faults.SessionFault.{SessionFault as Fault};
+ghost use Rattle.session_works.specs.declared.faults.SessionFault.{SessionFault as Fault};
 
-use crate::cycles::Limits;
-use crate::faults::SessionFault;
-use crate::meetings::{begin, finish_lanes, meet};
+use crate::laws::phases_with_threads;
+use crate::meetings::{begin, finish_lanes};
+use crate::rig::Rig;
 use crate::rings::renew_rings;
 use crate::segments::run_segment;
-use crate::works::{Rig, Works};
 use client_kinds::Guest;
 use jack_host::{Gate, Source, Store};
 use script_segments::Segment;
-use script_segments::laws::segments_are_the_phases;
-use serial_laws::numbers::cycles_of_a_phase;
+use session_works::laws::phases_and_cycles;
+use session_works::{RingLimits, SessionFault, SessionWorks, meet};
 use std::sync::Wait;
 use std::thread::Threads;
-use thread_laws::faults::{
-    a_phase_that_fails_leaves_fronts, a_session_comes_up_to_its_fault, unfinished_files_have_fronts,
-};
-use thread_laws::rests::a_phase_is_behind;
 
 /// Runs a phase: its `do` calls, and its segment. Behind the segment the rings' ends meet, and desk and driver do; where
 /// nothing failed the lanes go on before until none has a call left.
@@ -52,7 +46,7 @@ fn run_phase<
     gate: &K,
     phase: u32,
     segment: Segment,
-    limits: Limits,
+    limits: RingLimits,
 ) -> (Rig<S, W, G>, Result<(), SessionFault>)
     requires there { slice_get (the_segments rig.works.driver.script) phase ≡ Some segment }
     requires sound { IsSound (seen G.sound rig.works) }
@@ -66,8 +60,7 @@ fn run_phase<
     ensures read { IsErrOf result.1 SessionFault.Read → Rose rig.works.driver.capture.reading.faults result.0.works.driver.capture.reading.faults }
     ensures write { IsErrOf result.1 SessionFault.Write → OneRose (held rig.works) (held result.0.works) }
 {
-    segments_are_the_phases();
-    cycles_of_a_phase();
+    phases_and_cycles();
     begin(&mut rig.works, phase, segment.period);
     let (mut rig, ran) = run_segment(rig, threads, wait, gate, segment, limits);
     match ran {
@@ -83,7 +76,7 @@ fn run_phase<
 }
 
 /// Lets all meet behind a segment, and the lanes go on until none has a call left.
-fn settle<S: Source, W: Store, G: Guest>(works: &mut Works<S, W, G>)
+fn settle<S: Source, W: Store, G: Guest>(works: &mut SessionWorks<S, W, G>)
     requires table { works.old.desk.publishing.table ≡ works.old.driver.reading.table }
     requires begun { 1 ≤ works.old.desk.phase }
     requires group { IsDone works.old.desk 0 }
@@ -98,7 +91,7 @@ fn settle<S: Source, W: Store, G: Guest>(works: &mut Works<S, W, G>)
 }
 
 /// Lets all meet behind a segment that failed.
-fn stop<S: Source, W: Store, G: Guest>(works: &mut Works<S, W, G>)
+fn stop<S: Source, W: Store, G: Guest>(works: &mut SessionWorks<S, W, G>)
     requires table { works.old.desk.publishing.table ≡ works.old.driver.reading.table }
     requires pairs { ArePaired works.old.driver works.old.recorders.items }
     requires files { HasOpenFiles (parts_of works.old) }
@@ -110,7 +103,7 @@ fn stop<S: Source, W: Store, G: Guest>(works: &mut Works<S, W, G>)
 }
 
 /// Runs all phases, one after another, until one fails.
-fn run_phases<
+pub(crate) fn run_phases<
     S: Source,
     W: Store + Send,
     G: Guest + Send,
@@ -123,7 +116,7 @@ fn run_phases<
     wait: &R,
     gate: &K,
     segments: &[Segment],
-    limits: Limits,
+    limits: RingLimits,
 ) -> (Rig<S, W, G>, Result<(), SessionFault>)
     requires segments { segments.now ≡ the_segments rig.works.driver.script }
     requires threads { IsSome rig.works.driver.script.header.threads }
@@ -141,11 +134,7 @@ fn run_phases<
     ensures read { IsErrOf result.1 SessionFault.Read → Rose rig.works.driver.capture.reading.faults result.0.works.driver.capture.reading.faults }
     ensures write { IsErrOf result.1 SessionFault.Write → OneRose (held rig.works) (held result.0.works) }
 {
-    segments_are_the_phases();
-    a_phase_is_behind();
-    a_phase_that_fails_leaves_fronts();
-    a_session_comes_up_to_its_fault();
-    unfinished_files_have_fronts();
+    phases_with_threads();
     for phase in 0..segments.len() {
         let segment = segments[phase];
         let (next, ran) = run_phase(rig, threads, wait, gate, phase as u32, segment, limits);
@@ -156,29 +145,4 @@ fn run_phases<
         }
     }
     (rig, Ok(()))
-}
-
-/// Runs all phases of a session in threads mode: the lanes make their calls beside the cycles, and in a segment that is bound
-/// to the device each recorder's file is filled beside them.
-///
-/// It may wait for ever. It takes no memory.
-pub fn run_threads<
-    S: Source,
-    W: Store + Send,
-    G: Guest + Send,
-    T: Threads + Sync,
-    R: Wait + Sync,
-    K: Gate,
->(
-    rig: Rig<S, W, G>,
-    threads: &T,
-    wait: &R,
-    gate: &K,
-    segments: &[Segment],
-    limits: Limits,
-) -> (Rig<S, W, G>, Result<(), SessionFault>)
-    requires { MayRunThreads G.sound (parts_of rig.works) segments.now limits.ring limits.drain }
-    ensures { HasRunThreads G.sound (parts_of rig.works) (parts_of result.0.works) result.1 }
-{
-    run_phases(rig, threads, wait, gate, segments, limits)
 }

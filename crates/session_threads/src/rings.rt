@@ -2,16 +2,16 @@
 
 ghost use Rattle.std.specs.Prelude.{◌≡◌, ◌<◌, length, slice_set};
 ghost use Rattle.control_desk.specs.Desks.{Desk as DeskValue};
-ghost use Rattle.record_ring.specs.Rings.{IsPair, Renews};
+ghost use Rattle.driver_words.specs.Rings.{IsPair, Renews};
 ghost use Rattle.recorder_rings.specs.Sending.{ring_at};
-ghost use Rattle.session_threads.specs.Insides.{ArePaired, Stays, parts_with, seen_with};
-ghost use Rattle.session_threads.specs.Parts.{HasOpenFiles};
+ghost use Rattle.session_works.specs.Insides.{ArePaired, Stays, parts_with, seen_with};
+ghost use Rattle.session_works.specs.Parts.{HasOpenFiles};
 ghost use Rattle.thread_laws.specs.Segments.{Renewed};
 
 use client_kinds::Guest;
-use cycle_driver::Driver;
 use jack_host::{Source, Store};
 use recorder_files::Recorder;
+use session_works::Driver;
 
 /// Takes the end mark of each recorder's ring away, and tells both ends how far the other has come. It may be called behind a
 /// failure too.

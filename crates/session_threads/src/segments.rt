@@ -3,35 +3,32 @@
 ghost use Rattle.std.specs.Prelude.{◌≡◌, ◌<◌, ◌≤◌, ◌⊎◌, ℕ, All, IsErrOf, IsOk, OnErr, OnOk, false, true};
 ghost use Rattle.jack_host.specs.Causes.{Rose};
 ghost use Rattle.control_desk.specs.Desks.{IsDone};
-ghost use Rattle.cycle_driver.specs.declared.faults.CycleFault.{CycleFault as DriverFault};
-ghost use Rattle.cycle_driver.specs.Gears.{driver_of};
-ghost use Rattle.cycle_driver.specs.Runs.{AreNext};
+ghost use Rattle.session_works.specs.Cycles.{CycleFault as DriverFault, AreNext};
+ghost use Rattle.session_works.specs.Drivers.{driver_of};
 ghost use Rattle.serial_laws.specs.Steps.{IsSound};
-ghost use Rattle.session_threads.specs.Insides.{ArePaired, Stays, held, parts_of, seen};
-ghost use Rattle.session_threads.specs.Parts.{HasOpenFiles, OneRose};
-ghost use Rattle.session_threads.specs.Phases.{SegmentFails, Segmented};
+ghost use Rattle.session_works.specs.Insides.{ArePaired, Stays, held, parts_of, seen};
+ghost use Rattle.session_works.specs.Parts.{HasOpenFiles, OneRose};
+ghost use Rattle.session_threads.specs.Phases.{HaveMade, SegmentFails, Segmented};
 ghost use Rattle.session_threads.specs.Serving.{HaveFailed, IsUntorn};
-ghost use Rattle.session_threads.specs.declared.faults.SessionFault.{SessionFault as Fault};
+ghost use Rattle.session_works.specs.declared.faults.SessionFault.{SessionFault as Fault};
 
-use crate::cycles::Limits;
-use crate::faults::SessionFault;
 use crate::joins::{run_beside, wheel_beside};
 use crate::lanes::Lanes;
+use crate::rig::{Deck, Rig};
 use crate::serving::has_failed;
-use crate::works::{Deck, Rig, Works};
 use client_kinds::Guest;
 use control_desk::laws::goes_on;
-use cycle_driver::CycleFault;
 use desk_turn::calls_made;
+use desk_turn::laws::behind_the_lanes;
 use jack_host::{Gate, Source, Store};
 use recorder_files::Recorder;
 use script_segments::Segment;
+use session_works::{CycleFault, RingLimits, SessionFault, SessionWorks};
 use std::sync::Wait;
-use std::sync::atomic::AtomicBool;
 use std::thread::Threads;
 
-/// Runs the cycles of a segment with the lanes beside them, and with the recorders where it is bound to the device. Where there
-/// are no cycles, nothing is begun.
+/// Runs the cycles of a segment with the lanes beside them, and with the recorders where it is bound to the device. Behind cycles
+/// that went well the lanes made all their calls. Where there are no cycles, nothing is begun.
 pub(crate) fn run_segment<
     S: Source,
     W: Store + Send,
@@ -45,7 +42,7 @@ pub(crate) fn run_segment<
     wait: &R,
     gate: &K,
     segment: Segment,
-    limits: Limits,
+    limits: RingLimits,
 ) -> (Rig<S, W, G>, Result<(), SessionFault>)
     requires sound { IsSound (seen G.sound rig.works) }
     requires files { HasOpenFiles (parts_of rig.works) }
@@ -59,6 +56,7 @@ pub(crate) fn run_segment<
     ensures table { result.0.works.desk.publishing.table ≡ result.0.works.driver.reading.table }
     ensures phase { result.0.works.desk.phase ≡ rig.works.desk.phase }
     ensures group { OnOk result.1 (IsDone result.0.works.desk 0) }
+    ensures lanes { 0 < segment.cycles → OnOk result.1 (HaveMade result.0.works.desk) }
     ensures pairs { ArePaired result.0.works.driver result.0.works.recorders.items }
     ensures read { IsErrOf result.1 SessionFault.Read → Rose rig.works.driver.capture.reading.faults result.0.works.driver.capture.reading.faults }
     ensures write { IsErrOf result.1 SessionFault.Write → OneRose (held rig.works) (held result.0.works) }
@@ -99,26 +97,27 @@ fn run_bound<
     ensures table { result.0.works.desk.publishing.table ≡ result.0.works.driver.reading.table }
     ensures phase { result.0.works.desk.phase ≡ rig.works.desk.phase }
     ensures group { OnOk result.1 (IsDone result.0.works.desk 0) }
+    ensures lanes { OnOk result.1 (HaveMade result.0.works.desk) }
     ensures pairs { ArePaired result.0.works.driver result.0.works.recorders.items }
     ensures read { IsErrOf result.1 SessionFault.Read → Rose rig.works.driver.capture.reading.faults result.0.works.driver.capture.reading.faults }
     ensures write { IsErrOf result.1 SessionFault.Write → OneRose (held rig.works) (held result.0.works) }
 {
     let Rig { works, lanes } = rig;
-    let Works {
+    let SessionWorks {
         desk,
         driver,
         recorders,
     } = works;
     goes_on();
+    behind_the_lanes();
     let made = calls_made(desk.history());
-    let (turn, passes) = lanes.open(desk);
-    let over = AtomicBool::new(false);
-    let ((passes, recorders), (driver, ran)) = run_beside(
-        threads, wait, gate, &turn, passes, made, recorders, driver, cycles, &over,
+    let (turn, passes, caller) = lanes.open(desk);
+    let ((passes, recorders), (driver, ran, caller)) = run_beside(
+        threads, wait, gate, &turn, passes, made, recorders, driver, cycles, caller,
     );
-    let (lanes, desk) = Lanes::shut(turn, passes);
+    let (lanes, desk) = Lanes::shut(turn, passes, caller);
     let outcome = outcome_of(ran, &recorders);
-    let works = Works {
+    let works = SessionWorks {
         desk,
         driver,
         recorders,
@@ -163,7 +162,7 @@ fn run_free<
     wait: &R,
     gate: &K,
     cycles: u32,
-    limits: Limits,
+    limits: RingLimits,
 ) -> (Rig<S, W, G>, Result<(), SessionFault>)
     requires sound { IsSound (seen G.sound rig.works) }
     requires files { HasOpenFiles (parts_of rig.works) }
@@ -177,27 +176,28 @@ fn run_free<
     ensures table { result.0.works.desk.publishing.table ≡ result.0.works.driver.reading.table }
     ensures phase { result.0.works.desk.phase ≡ rig.works.desk.phase }
     ensures group { OnOk result.1 (IsDone result.0.works.desk 0) }
+    ensures lanes { OnOk result.1 (HaveMade result.0.works.desk) }
     ensures pairs { ArePaired result.0.works.driver result.0.works.recorders.items }
     ensures read { IsErrOf result.1 SessionFault.Read → Rose rig.works.driver.capture.reading.faults result.0.works.driver.capture.reading.faults }
     ensures write { IsErrOf result.1 SessionFault.Write → OneRose (held rig.works) (held result.0.works) }
 {
     let Rig { works, lanes } = rig;
-    let Works {
+    let SessionWorks {
         desk,
         driver,
         recorders,
     } = works;
     goes_on();
+    behind_the_lanes();
     let made = calls_made(desk.history());
-    let (turn, passes) = lanes.open(desk);
-    let over = AtomicBool::new(false);
+    let (turn, passes, caller) = lanes.open(desk);
     let deck = Deck { driver, recorders };
-    let (passes, (deck, ran)) = wheel_beside(
-        threads, wait, gate, &turn, passes, made, deck, cycles, limits, &over,
+    let (passes, (deck, ran, caller)) = wheel_beside(
+        threads, wait, gate, &turn, passes, made, deck, cycles, limits, caller,
     );
-    let (lanes, desk) = Lanes::shut(turn, passes);
+    let (lanes, desk) = Lanes::shut(turn, passes, caller);
     let Deck { driver, recorders } = deck;
-    let works = Works {
+    let works = SessionWorks {
         desk,
         driver,
         recorders,

@@ -1,11 +1,11 @@
 //! WAVE files, hosts and guests.
 
 ghost use Rattle.std.specs.Prelude.{◌≡◌, IfOk};
-ghost use Rattle.jack_host.specs.MemoryHost.{host_lent};
+ghost use Rattle.host_memory.specs.MemoryHost.{host_lent};
 ghost use Rattle.guests.specs.Guests.{IsPlayable};
 
 use guests::AnyGuest;
-use jack_host::MemoryHost;
+use host_memory::MemoryHost;
 use jack_types::{Format, Score};
 use std::alloc::Global;
 use std::test::Fail;
@@ -84,11 +84,12 @@ pub fn text(alloc: Global, pieces: &[&str]) -> Result<String, Fail> {
     Ok(text)
 }
 
-fn add_file(host: &mut MemoryHost, name: &str, bytes: &[u8]) -> Result<(), Fail>
+/// Adds a file, where there is none of this name.
+pub fn add_file(host: &mut MemoryHost, name: &str, bytes: &[u8]) -> Result<(), Fail>
     ensures { host_lent host.new ≡ host_lent host.old }
 {
     if host.file(name).is_none() {
-        host.add(name, bytes)?;
+        host.add(name, bytes).map_err(|_| "out of memory")?;
     }
     Ok(())
 }
@@ -106,7 +107,7 @@ pub fn host_with(alloc: Global, script: &[u8], capture: &[u8]) -> Result<MemoryH
 fn add_guest(alloc: Global, guests: &mut Vec<AnyGuest>, score: Score) -> Result<(), Fail>
     requires { IsPlayable score }
 {
-    let guest = AnyGuest::new(alloc, score)?;
+    let guest = AnyGuest::new(alloc, score).map_err(|_| "out of memory")?;
     guests.push(guest)?;
     Ok(())
 }

@@ -1,10 +1,15 @@
 //! A host whose inputs give one byte per read.
 
 use crate::building::{MONO, host_with, wave};
+use crate::checking::{CHECK, played_host};
+use crate::overruns::SAMPLES;
 use crate::running::{PLAY, run};
+use host_memory::{MemoryHost, MemorySink, MemorySource, MemoryStore};
 use jack_control::Status;
-use jack_host::{Failed, Host, MemoryHost, MemorySink, MemorySource, MemoryStore, Source};
+use jack_host::{Failed, Host, Source};
+use std::sync::Wait;
 use std::test::Fail;
+use std::thread::Threads;
 
 /// An input that gives one byte per read.
 #[derive(Drop)]
@@ -14,7 +19,7 @@ struct SlowSource {
 
 impl Source for SlowSource {
     ghost use Rattle.std.specs.Prelude.{Some};
-    ghost use Rattle.jack_host.specs.Memory.{source_left, source_faults};
+    ghost use Rattle.host_memory.specs.Memory.{source_left, source_faults};
 
     ghost left = { λ s. Some (source_left s.inner) };
 
@@ -34,7 +39,7 @@ struct SlowHost {
 
 impl Host for SlowHost {
     ghost use Rattle.std.specs.Prelude.{Some};
-    ghost use Rattle.jack_host.specs.MemoryHost.{host_files, host_read_faults, host_write_faults, host_lent};
+    ghost use Rattle.host_memory.specs.MemoryHost.{host_files, host_read_faults, host_write_faults, host_lent};
 
     type In = SlowSource;
 
@@ -64,6 +69,10 @@ impl Host for SlowHost {
     fn done(&mut self, output: MemoryStore) -> Result<(), Failed> {
         self.inner.done(output)
     }
+
+    fn give_up(&mut self, output: MemoryStore) {
+        self.inner.give_up(output);
+    }
 }
 
 const SCRIPT: &str = "\
@@ -86,7 +95,32 @@ fn one_byte_per_read_is_enough(rt: HostRuntime) -> Result<(), Fail> {
     };
     let mut out = MemorySink::new(rt.alloc());
     let status = run(&rt, &PLAY, &mut host, &mut out, Vec::new(rt.alloc()))?;
-    assert_eq!(rt; status, Status::Ok);
+    assert!(rt; status == Status::Ok);
     assert_eq!(rt; host.inner.file("p"), Some(playback.as_slice()));
+    Ok(())
+}
+
+// What a check of a session with these samples as its record puts out.
+fn checked<R: Threads + Wait + Sync + AllocGlobal>(
+    rt: &R,
+    samples: &[i32],
+) -> Result<MemorySink, Fail> {
+    let mut host = SlowHost {
+        inner: played_host(rt.alloc(), samples)?,
+    };
+    let mut out = MemorySink::new(rt.alloc());
+    run(rt, &CHECK, &mut host, &mut out, Vec::new(rt.alloc()))?;
+    Ok(out)
+}
+
+// Sample 8 stands at byte 44 + 16.
+#[test]
+fn one_byte_per_read_is_enough_for_a_check(rt: HostRuntime) -> Result<(), Fail> {
+    let right = checked(&rt, &SAMPLES)?;
+    assert_eq!(rt; right.as_bytes(), b"check ok\n".as_slice());
+    let mut other = SAMPLES;
+    other[8] = 0;
+    let wrong = checked(&rt, &other)?;
+    assert_eq!(rt; wrong.as_bytes(), b"check wrong record 0 60\n".as_slice());
     Ok(())
 }

@@ -6,6 +6,8 @@ mod building;
 #[cfg(test)]
 mod bytewise;
 #[cfg(test)]
+mod checking;
+#[cfg(test)]
 mod faults;
 #[cfg(test)]
 mod gates;

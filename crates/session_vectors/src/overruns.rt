@@ -1,11 +1,12 @@
 //! A recorder with a ring of two blocks: its script in pieces, its capture, and runs in which each block is drained.
 
 ghost use Rattle.std.specs.Prelude.{◌≡◌, IfOk};
-ghost use Rattle.jack_host.specs.MemoryHost.{host_lent};
+ghost use Rattle.host_memory.specs.MemoryHost.{host_lent};
 
 use crate::building::{host_with, text, wave};
 use crate::running::{Played, RECORD, run_under};
-use jack_host::{FreeGate, Gate, MemoryHost, MemorySink};
+use host_memory::{MemoryHost, MemorySink};
+use jack_host::{FreeGate, Gate};
 use jack_types::Format;
 use std::alloc::Global;
 use std::sync::Wait;

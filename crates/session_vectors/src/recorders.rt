@@ -4,16 +4,16 @@ use crate::building::unfinished_wave;
 use crate::gates::{Held, HoldingGate};
 use crate::overruns::{FORMAT, ONE_WORKER, SAMPLES, SERIAL, drained_host, play_over, play_under};
 use crate::running::{has_file, has_length, has_out};
+use host_memory::MemorySink;
 use jack_control::Status;
-use jack_host::MemorySink;
 use std::test::Fail;
 
 #[test]
 fn a_failing_write_ends_the_run(rt: HostRuntime) -> Result<(), Fail> {
     let mut host = drained_host(rt.alloc(), SERIAL, "run 5\n")?;
-    host.refuse("r", 4)?;
+    assert!(rt; host.refuse("r", 4).is_ok());
     let played = play_over(&rt, host, MemorySink::new(rt.alloc()))?;
-    assert_eq!(rt; played.status, Status::WriteFault);
+    assert!(rt; played.status == Status::WriteFault);
     let record = unfinished_wave(rt.alloc(), FORMAT, &SAMPLES[..8])?;
     has_file(&rt, &played, "r", &record);
     has_length(&rt, &played, "p", 68);
@@ -26,9 +26,9 @@ fn a_failing_write_ends_the_run(rt: HostRuntime) -> Result<(), Fail> {
 fn a_failing_write_ends_the_run_behind_its_segment(rt: HostRuntime) -> Result<(), Fail> {
     let gate = HoldingGate::new(Held::EachCycle);
     let mut host = drained_host(rt.alloc(), ONE_WORKER, "run 5\nrun 5\n")?;
-    host.refuse("r", 4)?;
+    assert!(rt; host.refuse("r", 4).is_ok());
     let played = play_under(&rt, host, MemorySink::new(rt.alloc()), &gate)?;
-    assert_eq!(rt; played.status, Status::WriteFault);
+    assert!(rt; played.status == Status::WriteFault);
     let record = unfinished_wave(rt.alloc(), FORMAT, &SAMPLES[..8])?;
     has_file(&rt, &played, "r", &record);
     has_length(&rt, &played, "p", 84);

@@ -4,8 +4,9 @@ ghost use Rattle.std.specs.Prelude.{◌<◌};
 
 use crate::building::{host_with, text};
 use guests::AnyGuest;
+use host_memory::{MemoryHost, MemorySink};
 use jack_control::{Status, jackd};
-use jack_host::{FreeGate, Gate, Host, MemoryHost, MemorySink};
+use jack_host::{FreeGate, Gate, Host};
 use std::alloc::Global;
 use std::process::Abort;
 use std::sync::Wait;

@@ -48,7 +48,7 @@ fn a_guest_that_failed_is_silent_until_it_is_opened_again(rt: HostRuntime) -> Re
         let guests = failing_guest(rt.alloc())?;
         let script = [DEVICE, mode, FAILING];
         let played = play_with(&rt, &PLAY, &script, &capture, guests, &FreeGate)?;
-        assert_eq!(rt; played.status, Status::Ok, "{mode}");
+        assert!(rt; played.status == Status::Ok, "{mode}");
         has_file(&rt, &played, "p", &wave(rt.alloc(), MONO, &heard)?);
     }
     Ok(())
@@ -71,7 +71,7 @@ fn a_guest_that_failed_on_four_workers_is_silent_too(rt: HostRuntime) -> Result<
     let gate = HoldingGate::new(Held::Clients);
     let played = play_with(&rt, &PLAY, &script, &capture, guests, &gate)?;
     assert_eq!(rt; gate.given_up(), 0, "the clients were not played at once");
-    assert_eq!(rt; played.status, Status::Ok);
+    assert!(rt; played.status == Status::Ok);
     has_file(&rt, &played, "p", &wave(rt.alloc(), MONO, &heard)?);
     Ok(())
 }

@@ -1,8 +1,9 @@
 //! Which cycles a gate is told of.
 
 use crate::overruns::{SERIAL, TWO_WORKERS, drained_host, play_under};
+use host_memory::MemorySink;
 use jack_control::Status;
-use jack_host::{Gate, MemorySink};
+use jack_host::Gate;
 use std::sync::atomic::{AtomicU64, Ordering};
 use std::test::Fail;
 
@@ -57,7 +58,7 @@ fn each_cycle_is_told_to_the_gate(rt: HostRuntime) -> Result<(), Fail> {
         let gate = CountingGate::new();
         let host = drained_host(rt.alloc(), mode, "run 3\nfreewheel 4\nrun 2\n")?;
         let played = play_under(&rt, host, MemorySink::new(rt.alloc()), &gate)?;
-        assert_eq!(rt; played.status, Status::Ok, "{mode}");
+        assert!(rt; played.status == Status::Ok, "{mode}");
         assert_eq!(rt; gate.cycles(), 9, "{mode}");
         assert_eq!(rt; gate.astray(), 0, "{mode}");
     }
@@ -77,7 +78,7 @@ fn a_cycle_is_told_before_its_capture_is_read(rt: HostRuntime) -> Result<(), Fai
     for call in 0..64_u32 {
         let gate = CountingGate::new();
         let mut host = drained_host(rt.alloc(), SERIAL, "run 5\n")?;
-        host.refuse("c", call)?;
+        assert!(rt; host.refuse("c", call).is_ok());
         let played = play_under(&rt, host, MemorySink::new(rt.alloc()), &gate)?;
         if played.status == Status::Ok {
             assert!(rt; call > 5, "each cycle reads the capture");

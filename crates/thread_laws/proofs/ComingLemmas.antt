@@ -1,22 +1,20 @@
 -- How far a session came behind a phase in threads mode that failed.
 --     come_behind_fault      its history is legal so far, its numbers do not fall, and each is within its phase's bounds
-use Rattle.std.proofs.Common.{◌≡◌, ℕ, suc, ◌+◌, ◌-◌, ◌*◌, ◌<◌, ◌≤◌, min, Bool, true, false, nat_lt, List, ◌++◌, length, All, get_or, take, drop, slice_get, Some, refl, sym, ◌∙◌, ap, subst, arith}
-use Rattle.std.proofs.Math.Nat.{min-le_right}
+use Rattle.std.proofs.Common.{◌≡◌, ℕ, suc, ◌+◌, ◌-◌, ◌*◌, ◌<◌, ◌≤◌, Bool, true, false, nat_lt, List, ◌++◌, length, All, get_or, take, drop, slice_get, Some, refl, sym, ◌∙◌, ap, subst, arith}
 use Rattle.std.proofs.lemmas.Bool.Decides.{nat_tests}
-use Rattle.std.proofs.lemmas.List.{length-take}
 use Rattle.std.proofs.lemmas.List.Elements.{All-weaker}
 use Rattle.std.proofs.lemmas.Option.{slice_get_within}
 use Rattle.std.specs.List.Sorted.{IsNonDecreasing}
-use Rattle.jack_types.specs.declared.commands.Change.{Change}
 use Rattle.jack_types.specs.declared.replies.Entry.{Entry}
 use Rattle.session_model.specs.Grammar.{IsScript}
 use Rattle.session_model.specs.Histories.{IsWithinPhase, LegalSoFar, accepted_below, stage_of}
 use Rattle.session_model.specs.Scripts.{Script, ScriptCycle, turns}
-use Rattle.graph_word.specs.Publications.{IsFront, Reading}
+use Rattle.graph_word.specs.Publications.{Reading}
 use Rattle.control_desk.specs.Desks.{GoesOn, IsOfPhases}
 use Rattle.control_desk.specs.Laws.{AcceptedLater, AcceptedUpTo}
 use Rattle.driver_laws.specs.Drivers.{run, turn_of}
 use Rattle.driver_laws.specs.Segments.{cycles_before}
+use Rattle.run_laws.proofs.LossLemmas.{front-short}
 use Rattle.run_laws.specs.Runs.{RanPhases}
 use Rattle.run_laws.specs.Sessions.{Session}
 use Rattle.serial_laws.proofs.RowLemmas.{accepted-front}
@@ -31,12 +29,6 @@ use Rattle.thread_laws.proofs.WithinLemmas.{CycleIs, NumbersArePublished}
 use Rattle.thread_laws.specs.Faults.{ThreadFault}
 use Rattle.thread_laws.specs.Coming.{ComeBehindFault}
 use Rattle.thread_laws.proofs.BegunLemmas.{Begun, BegunSome, JoinStays, begun-join, join-stays}
-
--- a front is no longer than the whole
-front-short : (front whole : List Change) → IsFront front whole → length front ≤ length whole
-front-short front whole is =
-    let short : length front ≡ min (length front) (length whole) = ap length is ∙ length-take (length front) whole in
-    subst (λ n. n ≤ length whole) (sym short) (min-le_right (length front) (length whole))
 
 module _ (done many kept : ℕ) (freewheel : Bool) (session after : Session) (fault : ThreadFault done many freewheel kept session after) where
   stays : JoinStays fault.paced fault.served

@@ -13,13 +13,12 @@ use Rattle.session_model.specs.Courses.{Course}
 use Rattle.session_model.specs.Explanations.{Given, course_of}
 use Rattle.session_model.specs.Playback.{playback_format}
 use Rattle.session_model.specs.Recorders.{recorder_format}
-use Rattle.session_model.specs.Rings.{RingBlock}
+use Rattle.session_model.specs.Rings.{RingBlock, samples_of_blocks}
 use Rattle.session_model.specs.Samples.{below}
 use Rattle.session_model.specs.Scripts.{Script, phases}
-use Rattle.record_ring.specs.Rings.{Getting, Sending}
-use Rattle.wave_write.specs.Tapes.{HasFront, HasSamples, Tape}
+use Rattle.driver_words.specs.Rings.{Getting, Sending}
+use Rattle.driver_words.specs.Tapes.{HasFront, HasSamples, Tape}
 use Rattle.wave_write.proofs.TapeLemmas.{unfinished-front}
-use Rattle.disk_recorder.specs.Recordings.{samples_of_blocks}
 use Rattle.driver_laws.specs.Drivers.{overruns_on, run, underruns_on}
 use Rattle.driver_laws.specs.Keeping.{HasTape, Keeps, kept_blocks, played_so_far}
 use Rattle.recorder_files.specs.Recorders.{GivesUp, Reel}

@@ -8,8 +8,8 @@ use Rattle.std.specs.Prelude.{IfSome, Option}
 use Rattle.std.proofs.lemmas.List.{length_push}
 use Rattle.jack_types.specs.declared.files.Format.{Format}
 use Rattle.session_model.specs.Courses.{Course}
-use Rattle.record_ring.specs.Rings.{Sending}
-use Rattle.wave_write.specs.Tapes.{SameFile, Tape}
+use Rattle.driver_words.specs.Rings.{Sending}
+use Rattle.driver_words.specs.Tapes.{SameFile, Tape}
 use Rattle.wave_write.proofs.TapeLemmas.{samples-unfinished}
 use Rattle.driver_laws.specs.Cycling.{CyclesMany, CyclesOnce, FailsAtRead, KeepsBut}
 use Rattle.driver_laws.specs.Drivers.{Driver, overruns_on, run}

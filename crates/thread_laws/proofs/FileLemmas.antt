@@ -8,10 +8,9 @@ use Rattle.jack_types.specs.declared.files.Format.{Format}
 use Rattle.session_model.specs.Explanations.{Given}
 use Rattle.session_model.specs.Playback.{playback_format}
 use Rattle.session_model.specs.Recorders.{recorder_format}
-use Rattle.session_model.specs.Rings.{RingBlock}
-use Rattle.wave_write.specs.Tapes.{HasUnfinished, Tape}
+use Rattle.session_model.specs.Rings.{RingBlock, samples_of_blocks}
+use Rattle.driver_words.specs.Tapes.{HasUnfinished, Tape}
 use Rattle.wave_write.proofs.TapeLemmas.{unfinished-front, unfinished-longer}
-use Rattle.disk_recorder.specs.Recordings.{samples_of_blocks}
 use Rattle.driver_laws.specs.Drivers.{overruns_on}
 use Rattle.driver_laws.specs.Keeping.{HasTapeFront, kept_blocks, played_so_far}
 use Rattle.run_laws.specs.Sessions.{Session, course_in}

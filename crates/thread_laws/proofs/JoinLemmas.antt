@@ -7,7 +7,7 @@ use Rattle.std.proofs.lemmas.Option.{same_Some, slice_get_within}
 use Rattle.jack_types.specs.declared.replies.Overrun.{Overrun}
 use Rattle.session_model.specs.Explanations.{Given}
 use Rattle.session_model.specs.Scripts.{Script}
-use Rattle.record_ring.specs.Rings.{Getting, Sending}
+use Rattle.driver_words.specs.Rings.{Getting, Sending}
 use Rattle.driver_laws.proofs.FitLemmas.{Fits-earlier}
 use Rattle.driver_laws.proofs.MeetingLemmas.{Fits-met, Keeps-met}
 use Rattle.recorder_files.specs.Recorders.{GivesUp, Reel}

@@ -8,7 +8,7 @@ use Rattle.std.proofs.lemmas.List.Elements.{All-append, All-push}
 use Rattle.std.proofs.lemmas.Option.{same_Some}
 use Rattle.jack_types.specs.declared.replies.Overrun.{Overrun}
 use Rattle.session_model.specs.Courses.{Course}
-use Rattle.record_ring.specs.Rings.{Sending}
+use Rattle.driver_words.specs.Rings.{Sending}
 use Rattle.driver_laws.specs.Cycling.{CyclesMany, Idle, Lacked, PutsOne, Went}
 use Rattle.driver_laws.specs.Drivers.{Driver, block_in, graph_now, has_tape, overruns_on, run}
 use Rattle.driver_laws.specs.Keeping.{Fits}

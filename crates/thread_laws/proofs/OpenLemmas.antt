@@ -5,7 +5,7 @@ use Rattle.std.proofs.Common.{◌≡◌, ℕ, ◌<◌, List, [], length, All, Is
 use Rattle.std.proofs.lemmas.List.Sorted.{IsNonDecreasingBy-short}
 use Rattle.std.proofs.lemmas.Option.{none-some}
 use Rattle.jack_types.specs.declared.replies.Overrun.{Overrun}
-use Rattle.record_ring.specs.Rings.{Getting, Sending}
+use Rattle.driver_words.specs.Rings.{Getting, Sending}
 use Rattle.session_model.specs.Explanations.{Given}
 use Rattle.session_model.specs.Recorders.{IsAfterSegment, Lost}
 use Rattle.session_model.specs.Scripts.{Script, phases}

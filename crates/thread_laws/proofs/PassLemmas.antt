@@ -5,7 +5,7 @@
 --     IsGot session      of each ring all is got, or a get answered its end
 use Rattle.std.proofs.Common.{◌≡◌, ◌⊎◌, ℕ, suc, true, length, slice_get, Some, sym, ◌∙◌, ap}
 use Rattle.graph_word.specs.Publications.{Reading}
-use Rattle.record_ring.specs.Rings.{Getting, Sending}
+use Rattle.driver_words.specs.Rings.{Getting, Sending}
 use Rattle.control_desk.specs.Desks.{Desk}
 use Rattle.run_laws.specs.Sessions.{Session}
 use Rattle.serial_laws.specs.Steps.{IsSound, Met, Rounded}

@@ -10,7 +10,7 @@ use Rattle.session_model.specs.Courses.{Course}
 use Rattle.session_model.specs.Explanations.{Given}
 use Rattle.session_model.specs.Recorders.{IsAfterSegment}
 use Rattle.session_model.specs.Scripts.{Script}
-use Rattle.record_ring.specs.Rings.{Getting, Renews, Sending}
+use Rattle.driver_words.specs.Rings.{Getting, Renews, Sending}
 use Rattle.driver_laws.specs.Drivers.{Driver, overruns_on, run}
 use Rattle.driver_laws.specs.Keeping.{Fits, Keeps, KeepsRing, kept_blocks}
 use Rattle.driver_laws.specs.Segments.{cycles_before}

@@ -6,9 +6,10 @@ use Rattle.std.proofs.Common.{◌≡◌, ℕ, ◌+◌, ◌*◌, ◌<◌, ◌≤�
 use Rattle.std.proofs.lemmas.List.{length-map}
 use Rattle.std.proofs.lemmas.Option.{same_Some, slice_get_within}
 use Rattle.session_model.specs.Scripts.{Script}
-use Rattle.record_ring.specs.Rings.{Getting, IsPair, Sending, items_of}
-use Rattle.wave_write.specs.Tapes.{HasSamples, Tape}
-use Rattle.disk_recorder.specs.Recordings.{MayWrite, samples_of_blocks}
+use Rattle.driver_words.specs.Rings.{Getting, IsPair, Sending, items_of}
+use Rattle.driver_words.specs.Tapes.{HasSamples, Tape}
+use Rattle.disk_recorder.specs.Recordings.{MayWrite}
+use Rattle.session_model.specs.Rings.{samples_of_blocks}
 use Rattle.driver_laws.specs.Drivers.{HasOwnRings, IsOwnRing, channels_on, frames_run}
 use Rattle.driver_laws.proofs.PlaceLemmas.{there_too}
 use Rattle.recorder_files.specs.Recorders.{Reel}

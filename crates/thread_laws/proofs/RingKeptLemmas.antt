@@ -8,7 +8,7 @@ use Rattle.session_model.specs.Explanations.{Given}
 use Rattle.session_model.specs.Scripts.{Script}
 use Rattle.session_laws.proofs.ListLemmas.{slice_get-map}
 use Rattle.graph_word.specs.Publications.{Reading}
-use Rattle.record_ring.specs.Rings.{Sending}
+use Rattle.driver_words.specs.Rings.{Sending}
 use Rattle.driver_laws.specs.Cycling.{CyclesMany, HasMetOthers, RingStays}
 use Rattle.driver_laws.specs.Drivers.{Driver}
 use Rattle.driver_laws.specs.Keeping.{Keeps}

@@ -6,7 +6,7 @@
 use Rattle.std.proofs.Common.{◌≡◌, inr, ℕ, ◌+◌, ◌<◌, ◌≤◌, Bool, [], length, slice_get, Some, IsSome, sym, ◌∙◌, ap, subst, arith}
 use Rattle.std.proofs.lemmas.List.{length-map}
 use Rattle.std.proofs.lemmas.Option.{slice_get_within}
-use Rattle.record_ring.specs.Rings.{Sending}
+use Rattle.driver_words.specs.Rings.{Sending}
 use Rattle.session_model.specs.Explanations.{Given}
 use Rattle.session_model.specs.Scripts.{Script}
 use Rattle.driver_laws.specs.Drivers.{run}

@@ -9,14 +9,13 @@ use Rattle.std.proofs.lemmas.List.{length-map}
 use Rattle.std.proofs.lemmas.Option.{slice_get_within}
 use Rattle.jack_types.specs.declared.files.Format.{Format}
 use Rattle.session_model.specs.Courses.{Course}
-use Rattle.session_model.specs.Rings.{RingBlock}
+use Rattle.session_model.specs.Rings.{RingBlock, samples_of_blocks}
 use Rattle.session_model.specs.Scripts.{Script}
 use Rattle.session_laws.proofs.ListLemmas.{slice_get-map}
 use Rattle.graph_word.specs.Publications.{Reading}
-use Rattle.record_ring.specs.Rings.{Getting, Sending}
-use Rattle.wave_write.specs.Tapes.{HasSamples, HasUnfinished, Tape}
+use Rattle.driver_words.specs.Rings.{Getting, Sending}
+use Rattle.driver_words.specs.Tapes.{HasSamples, HasUnfinished, Tape}
 use Rattle.wave_write.proofs.TapeLemmas.{samples-unfinished}
-use Rattle.disk_recorder.specs.Recordings.{samples_of_blocks}
 use Rattle.control_desk.specs.Desks.{Desk}
 use Rattle.driver_laws.specs.Drivers.{overruns_on}
 use Rattle.driver_laws.specs.Keeping.{kept_blocks, played_so_far}

@@ -9,10 +9,9 @@ use Rattle.std.proofs.lemmas.List.{length_push}
 use Rattle.std.proofs.lemmas.Option.{same_Some, slice_get_within}
 use Rattle.jack_types.specs.declared.files.Format.{Format}
 use Rattle.session_model.specs.Courses.{Course}
-use Rattle.session_model.specs.Rings.{RingBlock}
+use Rattle.session_model.specs.Rings.{RingBlock, samples_of_blocks}
 use Rattle.session_model.specs.Scripts.{Script}
-use Rattle.wave_write.specs.Tapes.{HasUnfinished, Tape}
-use Rattle.disk_recorder.specs.Recordings.{samples_of_blocks}
+use Rattle.driver_words.specs.Tapes.{HasUnfinished, Tape}
 use Rattle.driver_laws.specs.Drivers.{Driver, overruns_on, run}
 use Rattle.driver_laws.specs.Keeping.{Fits, Keeps, kept_blocks, played_so_far}
 use Rattle.driver_laws.proofs.FitLemmas.{Fits-earlier, Fits-failed}

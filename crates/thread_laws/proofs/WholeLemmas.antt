@@ -8,7 +8,7 @@ use Rattle.std.proofs.lemmas.List.Elements.{All-head}
 use Rattle.std.proofs.lemmas.List.Sums.{sum_by-cons}
 use Rattle.std.proofs.lemmas.Option.{none-some, same_Some, slice_get_within}
 use Rattle.jack_types.specs.declared.replies.Underrun.{Underrun}
-use Rattle.record_ring.specs.Rings.{Getting}
+use Rattle.driver_words.specs.Rings.{Getting}
 use Rattle.session_model.specs.Disks.{IsBehindRing}
 use Rattle.session_model.specs.Explanations.{Given}
 use Rattle.session_model.specs.Scripts.{Phase, Script, ScriptCycle, phases}

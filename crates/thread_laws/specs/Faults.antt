@@ -8,8 +8,9 @@ use Rattle.std.specs.Prelude.{◌≡◌, ℕ, ◌+◌, ◌≤◌, ◌<◌, Bool,
 use Rattle.session_model.specs.Explanations.{Given}
 use Rattle.session_model.specs.Playback.{playback_format}
 use Rattle.session_model.specs.Recorders.{recorder_format}
-use Rattle.wave_write.specs.Tapes.{HasUnfinished, SameFile, Tape}
-use Rattle.disk_recorder.specs.Recordings.{Fails, samples_of_blocks}
+use Rattle.driver_words.specs.Tapes.{HasUnfinished, SameFile, Tape}
+use Rattle.disk_recorder.specs.Recordings.{Fails}
+use Rattle.session_model.specs.Rings.{samples_of_blocks}
 use Rattle.driver_laws.specs.Cycling.{FailsAtRead, FailsAtWrite}
 use Rattle.driver_laws.specs.Drivers.{Driver, overruns_on, run}
 use Rattle.driver_laws.specs.Keeping.{kept_blocks, played_so_far}

@@ -5,7 +5,7 @@ ghost use Rattle.jack_types.specs.declared.replies.Overrun.{Overrun as OverrunVa
 ghost use Rattle.session_model.specs.Courses.{Course};
 ghost use Rattle.session_model.specs.Explanations.{Given};
 ghost use Rattle.session_model.specs.Recorders.{IsAfterSegment};
-ghost use Rattle.record_ring.specs.Rings.{Sending};
+ghost use Rattle.driver_words.specs.Rings.{Sending};
 ghost use Rattle.driver_laws.specs.Cycling.{CyclesMany};
 ghost use Rattle.driver_laws.specs.Drivers.{Driver, overruns_on, run};
 ghost use Rattle.driver_laws.specs.Keeping.{kept_blocks};

@@ -3,7 +3,9 @@
 ghost use Rattle.std.specs.Prelude.{IfOk};
 ghost use Rattle.reason_text.specs.Reasons.{IsReason};
 
+use crate::filling::{fill, line_of};
 use crate::formats::{HEADER, Made, made_in};
+use crate::times::Time;
 use check_sights::Sight;
 use jack_types::Format;
 use reason_text::Piece::{Counted, Number, Shown, Signed, Text};
@@ -39,49 +41,16 @@ pub fn of_checked_file(
 ) -> Result<Reason, AllocError>
     ensures { IfOk result IsReason }
 {
+    let made = made_in(front);
     let mut reason = Reason::new(alloc)?;
-    reason.tell(&[Shown(name.as_bytes()), Text(": ")])?;
-    say_sight(&mut reason, made_in(front), wanted, place, sight)?;
-    reason.end_line()?;
-    Ok(reason)
-}
-
-/// Another file has what was expected of this one.
-pub fn of_exchange<'a>(alloc: Global, name: &'a str, other: &'a str) -> Result<Reason, AllocError>
-    ensures { IfOk result IsReason }
-{
-    Reason::line(
-        alloc,
-        &[
-            Shown(other.as_bytes()),
-            Text(" has the header that "),
-            Shown(name.as_bytes()),
-            Text(" should have; are the two exchanged?"),
-        ],
-    )
-}
-
-// Where a wrong sample stands.
-#[derive(Clone, Copy, Drop)]
-struct Place {
-    byte: u64,
-    cycle: u32,
-    frame: u32,
-    channel: u16,
-}
-
-// What is seen at a place of a file with this header, where the script asks for another one or not.
-fn say_sight(
-    reason: &mut Reason,
-    made: Option<Made>,
-    asked: Option<Made>,
-    place: u64,
-    sight: Sight,
-) -> Result<(), AllocError> {
+    fill(&mut reason, "{0}: ", &[Shown(name.as_bytes())])?;
     match sight {
-        Sight::Byte { wanted, found } => {
-            say_byte(reason, place, wanted, found)?;
-            say_header(reason, made, asked)
+        Sight::Byte {
+            wanted: byte,
+            found,
+        } => {
+            say_byte(&mut reason, place, byte, found)?;
+            say_header(&mut reason, made, wanted)?;
         }
         Sight::Sample {
             cycle,
@@ -90,43 +59,42 @@ fn say_sight(
             wanted,
             found,
         } => {
-            let at = Place {
-                byte: place,
-                cycle,
-                frame,
-                channel,
-            };
-            say_place(reason, at, made)?;
-            say_values(reason, i64::from(wanted), i64::from(found))
+            say_place(&mut reason, place, cycle, frame)?;
+            say_channel(&mut reason, place, channel, made)?;
+            fill(
+                &mut reason,
+                ": {0} is expected, {1} stands there",
+                &[Signed(i64::from(wanted)), Signed(i64::from(found))],
+            )?;
         }
-        Sight::Short => say_short(reason, place, made),
-        Sight::Long => say_long(reason, place, made),
-        _ => reason.tell(&[
-            Text("byte "),
-            Number(place),
-            Text(": another one is expected"),
-        ]),
+        _ => say_length(&mut reason, place, sight, made)?,
     }
+    reason.end_line()?;
+    Ok(reason)
 }
 
-fn say_values(reason: &mut Reason, wanted: i64, found: i64) -> Result<(), AllocError> {
-    reason.tell(&[
-        Text(": "),
-        Signed(wanted),
-        Text(" is expected, "),
-        Signed(found),
-        Text(" stands there"),
-    ])
+/// Another file has what was expected of this one.
+pub fn of_exchange<'a>(alloc: Global, name: &'a str, other: &'a str) -> Result<Reason, AllocError>
+    ensures { IfOk result IsReason }
+{
+    line_of(
+        alloc,
+        "{0} has the header that {1} should have; are the two exchanged?",
+        &[Shown(other.as_bytes()), Shown(name.as_bytes())],
+    )
 }
 
 fn say_byte(reason: &mut Reason, place: u64, wanted: u8, found: u8) -> Result<(), AllocError> {
-    reason.tell(&[
-        Text("byte "),
-        Number(place),
-        Text(", "),
-        Text(name_of_field(place)),
-    ])?;
-    say_values(reason, i64::from(wanted), i64::from(found))
+    fill(
+        reason,
+        "byte {0}, {1}: {2} is expected, {3} stands there",
+        &[
+            Number(place),
+            Text(name_of_field(place)),
+            Number(u64::from(wanted)),
+            Number(u64::from(found)),
+        ],
+    )
 }
 
 fn name_of_field(place: u64) -> &'static str {
@@ -147,89 +115,94 @@ fn say_header(
     let (Some(found), Some(wanted)) = (found, wanted) else {
         return Ok(());
     };
-    if found.format.channels != wanted.format.channels {
-        let given = u64::from(found.format.channels);
-        reason.tell(&[Text("; it has "), Counted(given, "channel", "channels")])?;
-        return say_wanted(reason, u64::from(wanted.format.channels));
+    let (sentence, given, asked) = difference(found, wanted);
+    fill(
+        reason,
+        sentence,
+        &[
+            Number(given),
+            Number(asked),
+            Counted(given, "channel", "channels"),
+            Counted(given, "frame", "frames"),
+        ],
+    )
+}
+
+// What two files differ in first, and the number of each.
+fn difference(found: Made, wanted: Made) -> (&'static str, u64, u64) {
+    let (given, asked) = (found.format, wanted.format);
+    if given.channels != asked.channels {
+        return (
+            "; it has {2}, where the script has {1}",
+            u64::from(given.channels),
+            u64::from(asked.channels),
+        );
     }
-    if found.format.rate != wanted.format.rate {
-        reason.tell(&[Text("; it has rate "), Number(u64::from(found.format.rate))])?;
-        return say_wanted(reason, u64::from(wanted.format.rate));
+    if given.rate != asked.rate {
+        return (
+            "; it has rate {0}, where the script has {1}",
+            u64::from(given.rate),
+            u64::from(asked.rate),
+        );
     }
-    if found.format.bits != wanted.format.bits {
-        let given = u64::from(found.format.bits);
-        reason.tell(&[Text("; it has "), Number(given), Text(" bits a sample")])?;
-        return say_wanted(reason, u64::from(wanted.format.bits));
+    if given.bits != asked.bits {
+        return (
+            "; it has {0} bits a sample, where the script has {1}",
+            u64::from(given.bits),
+            u64::from(asked.bits),
+        );
     }
     match (found.frames, wanted.frames) {
-        (Some(given), Some(frames)) if given != frames => {
-            reason.tell(&[Text("; it has "), Counted(given, "frame", "frames")])?;
-            say_wanted(reason, frames)
+        (Some(given), Some(asked)) if given != asked => {
+            ("; it has {3}, where the script has {1}", given, asked)
         }
-        _ => Ok(()),
+        _ => ("", 0, 0),
     }
 }
 
-fn say_wanted(reason: &mut Reason, wanted: u64) -> Result<(), AllocError> {
-    reason.tell(&[Text(", where the script has "), Number(wanted)])
-}
-
-fn say_place(reason: &mut Reason, at: Place, made: Option<Made>) -> Result<(), AllocError> {
-    reason.tell(&[
-        Text("byte "),
-        Number(at.byte),
-        Text(": cycle "),
-        Number(u64::from(at.cycle)),
-        Text(", frame "),
-        Number(u64::from(at.frame)),
-    ])?;
-    let Some(made) = made else {
-        return say_channel(reason, at.channel, 0);
-    };
-    say_time(
+fn say_place(reason: &mut Reason, byte: u64, cycle: u32, frame: u32) -> Result<(), AllocError> {
+    fill(
         reason,
-        frames_before(at.byte, made.format),
-        u64::from(made.format.rate),
-    )?;
-    say_channel(reason, at.channel, made.format.channels)
+        "byte {0}: cycle {1}, frame {2}",
+        &[
+            Number(byte),
+            Number(u64::from(cycle)),
+            Number(u64::from(frame)),
+        ],
+    )
 }
 
-// Which frame of the file it is, and at which second it stands.
-fn say_time(reason: &mut Reason, frame: u64, rate: u64) -> Result<(), AllocError> {
-    if rate == 0 {
-        return Ok(());
-    }
-    let thousandths = (frame % rate).saturating_mul(1000) / rate;
-    reason.tell(&[
-        Text(" (frame "),
-        Number(frame),
-        Text(" of the file, second "),
-        Number(frame / rate),
-        Text(zeros_before(thousandths)),
-        Number(thousandths),
-        Text(")"),
-    ])
-}
-
-// The point, and the zeros of a number of thousandths.
-fn zeros_before(thousandths: u64) -> &'static str {
-    match thousandths {
-        0..10 => ".00",
-        10..100 => ".0",
-        _ => ".",
-    }
-}
-
-fn say_channel(reason: &mut Reason, channel: u16, channels: u16) -> Result<(), AllocError> {
-    match (channels, channel) {
-        (1, _) => Ok(()),
-        (2, 0) => reason.say(", left channel"),
-        (2, 1) => reason.say(", right channel"),
-        _ => reason.tell(&[
-            Text(", channel "),
-            Number(u64::from(channel).saturating_add(1)),
-        ]),
-    }
+// Which frame and which channel of the file a byte is of, and at which second the frame stands.
+fn say_channel(
+    reason: &mut Reason,
+    byte: u64,
+    channel: u16,
+    made: Option<Made>,
+) -> Result<(), AllocError> {
+    let number = Number(u64::from(channel).saturating_add(1));
+    let made = match made {
+        Some(made) if made.format.rate > 0 => made,
+        _ => return fill(reason, ", channel {0}", &[number]),
+    };
+    let frame = frames_before(byte, made.format);
+    let time = Time::of(frame, u64::from(made.format.rate));
+    let sentence = match (made.format.channels, channel) {
+        (1, _) => " (frame {1} of the file, second {2}{3}{4})",
+        (2, 0) => " (frame {1} of the file, second {2}{3}{4}), left channel",
+        (2, 1) => " (frame {1} of the file, second {2}{3}{4}), right channel",
+        _ => " (frame {1} of the file, second {2}{3}{4}), channel {0}",
+    };
+    fill(
+        reason,
+        sentence,
+        &[
+            number,
+            Number(frame),
+            Number(time.seconds()),
+            Text(time.point()),
+            Number(time.thousandths()),
+        ],
+    )
 }
 
 // How many frames stand before a byte of a file.
@@ -241,53 +214,36 @@ fn frames_before(byte: u64, format: Format) -> u64 {
     byte.saturating_sub(HEADER as u64) / width
 }
 
-fn say_short(reason: &mut Reason, place: u64, made: Option<Made>) -> Result<(), AllocError> {
-    if place == 0 {
-        return reason.say("the file is empty");
-    }
-    if place < HEADER as u64 {
-        return reason.tell(&[
-            Text("the file ends after "),
+// A file that ends early, or goes on.
+fn say_length(
+    reason: &mut Reason,
+    place: u64,
+    sight: Sight,
+    made: Option<Made>,
+) -> Result<(), AllocError> {
+    let (frames, before) = match made {
+        Some(made) => (made.frames, frames_before(place, made.format)),
+        None => (None, 0),
+    };
+    let sentence = match (sight, frames) {
+        (Sight::Short, _) if place == 0 => "the file is empty",
+        (Sight::Short, _) if place < HEADER as u64 => {
+            "the file ends after {1}, within its header"
+        }
+        (Sight::Short, Some(_)) => "it ends behind {2} of {3}",
+        (Sight::Short, None) => "it ends behind {1}, and more are expected",
+        (Sight::Long, Some(_)) => "it goes on behind the {3} that are expected",
+        (Sight::Long, None) => "it goes on behind the {1} that are expected",
+        _ => "byte {0}: another one is expected",
+    };
+    fill(
+        reason,
+        sentence,
+        &[
+            Number(place),
             Counted(place, "byte", "bytes"),
-            Text(", within its header"),
-        ]);
-    }
-    match made {
-        Some(
-            Made {
-                format,
-                frames: Some(frames),
-            },
-        ) => reason.tell(&[
-            Text("it ends behind "),
-            Number(frames_before(place, format)),
-            Text(" of "),
-            Counted(frames, "frame", "frames"),
-        ]),
-        _ => reason.tell(&[
-            Text("it ends behind "),
-            Counted(place, "byte", "bytes"),
-            Text(", and more are expected"),
-        ]),
-    }
-}
-
-fn say_long(reason: &mut Reason, place: u64, made: Option<Made>) -> Result<(), AllocError> {
-    match made {
-        Some(
-            Made {
-                frames: Some(frames),
-                ..
-            },
-        ) => reason.tell(&[
-            Text("it goes on behind the "),
-            Counted(frames, "frame", "frames"),
-            Text(" that are expected"),
-        ]),
-        _ => reason.tell(&[
-            Text("it goes on behind the "),
-            Counted(place, "byte", "bytes"),
-            Text(" that are expected"),
-        ]),
-    }
+            Number(before),
+            Counted(frames.unwrap_or(0), "frame", "frames"),
+        ],
+    )
 }

@@ -3,7 +3,9 @@
 ghost use Rattle.std.specs.Prelude.{IfOk};
 ghost use Rattle.reason_text.specs.Reasons.{IsReason};
 
-use crate::lines::{has_line, is_whole, line_at, nth_line, readable};
+use crate::filling::fill;
+use crate::graphs::show_line;
+use crate::lines::{has_line, is_whole, nth_line, readable};
 use check_sights::{Number as What, Sight, name_of_part};
 use jack_types::{Part, Reply, Row};
 use reason_text::Piece::{Number, Shown, Text};
@@ -24,51 +26,46 @@ pub fn of_check(
     let text = readable(text);
     let line = line_of(text, row);
     let mut reason = Reason::new(alloc)?;
-    reason.tell(&[Shown(report.as_bytes())])?;
-    if let Some(number) = line {
-        reason.tell(&[Text(":"), Number(u64::from(number))])?;
-    }
-    reason.say(": ")?;
-    say_row(&mut reason, text, row, sight)?;
+    fill(
+        &mut reason,
+        place(row.what, line),
+        &[
+            Shown(report.as_bytes()),
+            Number(u64::from(line)),
+            Text(name_of_part(row.what)),
+            Number(u64::from(row.number)),
+        ],
+    )?;
+    say_sight(&mut reason, text, row, sight)?;
     show_line(&mut reason, text, line)?;
     reason.end_line()?;
     Ok(reason)
 }
 
-// The number of the line that a row is of, where the report has it.
-fn line_of(text: &[u8], row: Row) -> Option<u32> {
+// Where a part stands: in the report `{0}`, in its line `{1}`, the part `{2}` of the number `{3}`.
+fn place(part: Part, line: u32) -> &'static str {
+    match (part, line) {
+        (Part::Report, 0) => "{0}: ",
+        (Part::Report, _) => "{0}:{1}: ",
+        (_, 0) => "{0}: {2} {3}: ",
+        _ => "{0}:{1}: {2} {3}: ",
+    }
+}
+
+// The number of the line that a row is of, or 0 where the report has none.
+fn line_of(text: &[u8], row: Row) -> u32 {
     match row.what {
-        Part::Report if is_wave(text) => None,
-        Part::Report => Some(row.number),
+        Part::Report if is_wave(text) => 0,
+        Part::Report => row.number,
         // Calls stand behind the report's first line.
-        Part::Call => Some(row.number.saturating_add(1)),
-        _ => nth_line(text, name_of_part(row.what).as_bytes(), row.number),
+        Part::Call => row.number.saturating_add(1),
+        _ => nth_line(text, name_of_part(row.what).as_bytes(), row.number).unwrap_or(0),
     }
 }
 
-// The text of a line below, where it has one.
-fn show_line(reason: &mut Reason, text: &[u8], line: Option<u32>) -> Result<(), AllocError> {
-    let Some(number) = line else {
-        return Ok(());
-    };
-    let shown = line_at(text, number);
-    if shown.is_empty() {
-        return Ok(());
-    }
-    reason.show_below(shown)
-}
-
-fn say_row(reason: &mut Reason, text: &[u8], row: Row, sight: Sight) -> Result<(), AllocError> {
-    if row.what == Part::Report {
-        return reason.say(wrong_line(text, row.number));
-    }
-    reason.tell(&[
-        Text(name_of_part(row.what)),
-        Text(" "),
-        Number(u64::from(row.number)),
-        Text(": "),
-    ])?;
+fn say_sight(reason: &mut Reason, text: &[u8], row: Row, sight: Sight) -> Result<(), AllocError> {
     match sight {
+        _ if row.what == Part::Report => reason.say(wrong_line(text, row.number)),
         Sight::Reply { wanted } => say_reply(reason, wanted),
         Sight::Number {
             what,
@@ -118,65 +115,43 @@ fn wrong_otherwise(part: Part) -> &'static str {
 
 fn say_reply(reason: &mut Reason, wanted: Reply) -> Result<(), AllocError> {
     match wanted {
-        Reply::Accepted(number) => {
-            reason.tell(&[
-                Text("\"ok "),
-                Number(u64::from(number)),
-                Text("\" is expected"),
-            ])
-        }
-        Reply::Refused(refusal) => reason.tell(&[
-            Text("\"refused "),
-            Number(u64::from(refusal.number())),
-            Text(" "),
-            Text(refusal.name()),
-            Text("\" is expected"),
-        ]),
-        Reply::Latency(range) => reason.tell(&[
-            Text("\"latency "),
-            Number(u64::from(range.min)),
-            Text(" "),
-            Number(u64::from(range.max)),
-            Text("\" is expected"),
-        ]),
+        Reply::Accepted(number) => fill(
+            reason,
+            "\"ok {0}\" is expected",
+            &[Number(u64::from(number))],
+        ),
+        Reply::Refused(refusal) => fill(
+            reason,
+            "\"refused {0} {1}\" is expected",
+            &[Number(u64::from(refusal.number())), Text(refusal.name())],
+        ),
+        Reply::Latency(range) => fill(
+            reason,
+            "\"latency {0} {1}\" is expected",
+            &[Number(u64::from(range.min)), Number(u64::from(range.max))],
+        ),
     }
 }
 
 fn say_number(reason: &mut Reason, what: What, wanted: u64, found: u64) -> Result<(), AllocError> {
-    match what {
-        What::Graph => say_changes(reason, wanted, found),
-        What::State => reason.tell(&[
-            Text("the state is "),
-            Text(name_of_state(wanted)),
-            Text(", and "),
-            Text(name_of_state(found)),
-            Text(" stands there"),
-        ]),
-        _ => reason.tell(&[
-            Text(name_of_number(what)),
-            Text(" is "),
-            Number(wanted),
-            Text(", and "),
-            Number(found),
-            Text(" stands there"),
-        ]),
-    }
-}
-
-// A number of changes that is below the least, or above the most.
-fn say_changes(reason: &mut Reason, bound: u64, found: u64) -> Result<(), AllocError> {
-    let side = if found < bound {
-        "its graph has at least change "
-    } else {
-        "its graph has at most change "
+    let sentence = match what {
+        // The number of changes is below the least, or above the most.
+        What::Graph if found < wanted => "its graph has at least change {1}, and {2} stands there",
+        What::Graph => "its graph has at most change {1}, and {2} stands there",
+        What::State => "the state is {3}, and {4} stands there",
+        _ => "{0} is {1}, and {2} stands there",
     };
-    reason.tell(&[
-        Text(side),
-        Number(bound),
-        Text(", and "),
-        Number(found),
-        Text(" stands there"),
-    ])
+    fill(
+        reason,
+        sentence,
+        &[
+            Text(name_of_number(what)),
+            Number(wanted),
+            Number(found),
+            Text(name_of_state(wanted)),
+            Text(name_of_state(found)),
+        ],
+    )
 }
 
 fn name_of_state(state: u64) -> &'static str {

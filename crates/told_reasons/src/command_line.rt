@@ -3,19 +3,19 @@
 ghost use Rattle.std.specs.Prelude.{IfOk};
 ghost use Rattle.reason_text.specs.Reasons.{IsReason};
 
-use crate::forms::{GRAPH_OPTIONS, OPTIONS, PROGRAM};
+use crate::filling::fill;
+use crate::forms::{CHECK_OPTIONS, GRAPH_OPTIONS, PLAY_OPTIONS, PROGRAM};
 use crate::nearest::nearest;
 use reason_text::Piece::{Number, Quoted, Shown, Text};
 use reason_text::Reason;
 use script_words::Words;
 use std::alloc::{AllocError, Global};
 
-// The words of a play before its options, and those of a check.
+// The words of a play before its options, those of a check, and those of a graph.
 const PLAYED: [&str; 3] = ["SCRIPT", "CAPTURE", "PLAYBACK"];
 
 const CHECKED: [&str; 4] = ["SCRIPT", "CAPTURE", "REPORT", "PLAYBACK"];
 
-// The words of a graph before its option.
 const SHOWN: [&str; 3] = ["SCRIPT", "REPORT", "CYCLE"];
 
 // The greatest number of a cycle.
@@ -27,12 +27,25 @@ const MOST_DIGITS: usize = 10;
 // How many files of recorders, or of disks, are named at most.
 const MOST_FILES: usize = 4;
 
-/// Why the words are no command of the program. They are without the program's name; the first has the number 1.
+/// Why the words are no command of the program. They are without the program's name.
 pub fn of_words(alloc: Global, words: &[String]) -> Result<Reason, AllocError>
     ensures { IfOk result IsReason }
 {
+    let wrong = wrong_words(words);
     let mut reason = Reason::new(alloc)?;
-    say_words(alloc, &mut reason, words)?;
+    fill(
+        &mut reason,
+        wrong.sentence,
+        &[
+            Quoted(wrong.word),
+            Shown(wrong.word),
+            Shown(wrong.other),
+            Text(wrong.role),
+        ],
+    )?;
+    if let Some(name) = nearest(alloc, wrong.word, wrong.forms)? {
+        fill(&mut reason, "; is {0} meant?", &[Quoted(name)])?;
+    }
     end_by_help(&mut reason)?;
     Ok(reason)
 }
@@ -42,19 +55,13 @@ pub fn of_foreign_word(alloc: Global, number: u64, word: &[u8]) -> Result<Reason
     ensures { IfOk result IsReason }
 {
     let mut reason = Reason::new(alloc)?;
-    reason.tell(&[
-        Text("word "),
-        Number(number),
-        Text(" is no UTF-8: "),
-        Shown(word),
-    ])?;
+    fill(
+        &mut reason,
+        "word {0} is no UTF-8: {1}",
+        &[Number(number), Shown(word)],
+    )?;
     end_by_help(&mut reason)?;
     Ok(reason)
-}
-
-// The number of a word, by its place behind the command.
-fn number_of(place: usize) -> u64 {
-    (place as u64).saturating_add(2)
 }
 
 // Ends the line, and tells where the help is.
@@ -64,110 +71,127 @@ fn end_by_help(reason: &mut Reason) -> Result<(), AllocError> {
     reason.end_line()
 }
 
-// Names what may be meant by a word.
-fn say_meant(
-    alloc: Global,
-    reason: &mut Reason,
-    word: &[u8],
-    forms: &[&str],
-) -> Result<(), AllocError> {
-    if let Some(name) = nearest(alloc, word, forms)? {
-        reason.tell(&[Text("; is "), Quoted(name), Text(" meant?")])?;
-    }
-    Ok(())
+// What is wrong of words.
+#[derive(Clone, Copy, Drop)]
+struct Wrong<'a> {
+    // `{0}` is the word between quotes, `{1}` the word, `{2}` another one, and `{3}` what the word stands for.
+    sentence: &'static str,
+    word: &'a [u8],
+    other: &'a [u8],
+    role: &'static str,
+    // What may be meant by the word.
+    forms: &'static [&'static str],
 }
 
-fn say_words(alloc: Global, reason: &mut Reason, words: &[String]) -> Result<(), AllocError> {
+fn wrong_word<'a>(sentence: &'static str, word: &'a [u8]) -> Wrong<'a> {
+    Wrong {
+        sentence,
+        word,
+        other: word,
+        role: "",
+        forms: &PROGRAM[..0],
+    }
+}
+
+fn wrong_role<'a>(sentence: &'static str, word: &'a [u8], role: &'static str) -> Wrong<'a> {
+    let mut found = wrong_word(sentence, word);
+    found.role = role;
+    found
+}
+
+// A word that stands where one of these may stand.
+fn unknown<'a>(word: &'a [u8], forms: &'static [&'static str], no: &'static str) -> Wrong<'a> {
+    let mut found = match word {
+        [b'-', ..] => wrong_word("no option {0}", word),
+        _ => wrong_word(no, word),
+    };
+    found.forms = forms;
+    found
+}
+
+const TOO_MANY: &str = "{0} is one word too many";
+
+fn wrong_words(words: &[String]) -> Wrong<'_> {
     let [command, rest @ ..] = words else {
-        return reason.say("no command is given");
+        return wrong_word("no command is given", b"".as_slice());
     };
     match command.as_str() {
-        "play" => say_named(alloc, reason, rest, play()),
-        "check" => say_named(alloc, reason, rest, check()),
-        "rehearse" => say_rehearsal(reason, rest),
-        "graph" => say_graph(alloc, reason, rest),
-        _ => say_no_command(alloc, reason, command),
+        "play" => wrong_names(rest, play()),
+        "check" => wrong_names(rest, check()),
+        "rehearse" => wrong_rehearsal(rest),
+        "graph" => wrong_graph(rest),
+        _ => unknown(command.as_bytes(), PROGRAM.as_slice(), "no command {0}"),
     }
-}
-
-// Why a first word is none.
-fn say_no_command(alloc: Global, reason: &mut Reason, word: &String) -> Result<(), AllocError> {
-    let kind = if word.as_bytes().first() == Some(&b'-') {
-        "no option "
-    } else {
-        "no command "
-    };
-    reason.tell(&[Text(kind), Quoted(word.as_bytes())])?;
-    say_meant(alloc, reason, word.as_bytes(), &PROGRAM)
 }
 
 // Why the words behind `rehearse` are no rehearsal.
-fn say_rehearsal(reason: &mut Reason, words: &[String]) -> Result<(), AllocError> {
+fn wrong_rehearsal(words: &[String]) -> Wrong<'_> {
     match words {
-        [] => reason.say("rehearse needs a NUMBER from 0 to 4294967295"),
-        [number] => reason.tell(&[
-            Quoted(number.as_bytes()),
-            Text(" is no number of one to ten digits, 4294967295 at most"),
-        ]),
-        [_, more, ..] => say_one_too_many(reason, more, 1),
+        [] => wrong_word(
+            "rehearse needs a NUMBER from 0 to 4294967295",
+            b"".as_slice(),
+        ),
+        [number] => wrong_word(
+            "{0} is no number of one to ten digits, 4294967295 at most",
+            number.as_bytes(),
+        ),
+        [_, more, ..] => wrong_word(TOO_MANY, more.as_bytes()),
     }
 }
 
 // Why the words behind `graph` ask for no graph. Where they do, the script has no such cycle.
-fn say_graph(alloc: Global, reason: &mut Reason, words: &[String]) -> Result<(), AllocError> {
-    if say_shown(reason, words)? {
-        return Ok(());
+fn wrong_graph(words: &[String]) -> Wrong<'_> {
+    if let Some(found) = wrong_shown(words) {
+        return found;
     }
     match words {
-        [script, report, ..] if script == report => reason.tell(&[
-            Text("words 2 and 3 name one file: "),
-            Shown(script.as_bytes()),
-        ]),
-        [_, _, cycle, ..] if !is_cycle(cycle.as_bytes()) => reason.tell(&[
-            Quoted(cycle.as_bytes()),
-            Text(" is no cycle: a number from 1 to 4294967295 of one to ten digits"),
-        ]),
-        [_, _, _, option, ..] if option.as_str() != "--dot" => {
-            say_no_graph_option(alloc, reason, option)
+        [script, report, ..] if script == report => {
+            wrong_word("SCRIPT and REPORT name one file: {1}", script.as_bytes())
         }
-        [_, _, _, _, more, ..] => say_one_too_many(reason, more, 4),
-        [script, _, cycle, ..] => reason.tell(&[
-            Shown(script.as_bytes()),
-            Text(": has no cycle "),
-            Shown(cycle.as_bytes()),
-        ]),
-        _ => Ok(()),
+        [_, _, cycle, ..] if !is_cycle(cycle.as_bytes()) => wrong_word(
+            "{0} is no cycle: a number from 1 to 4294967295 of one to ten digits",
+            cycle.as_bytes(),
+        ),
+        [_, _, _, option, ..] if option.as_str() != "--dot" => {
+            unknown(option.as_bytes(), GRAPH_OPTIONS.as_slice(), TOO_MANY)
+        }
+        [_, _, _, _, more, ..] => wrong_word(TOO_MANY, more.as_bytes()),
+        [script, _, cycle, ..] => {
+            let mut found = wrong_word("{1}: has no cycle {2}", script.as_bytes());
+            found.other = cycle.as_bytes();
+            found
+        }
+        _ => wrong_word("these words are no command", b"".as_slice()),
     }
 }
 
-// Tells what is wrong of the words of a graph before its option, each by itself, if something is.
-fn say_shown(reason: &mut Reason, words: &[String]) -> Result<bool, AllocError> {
+// What is wrong of the words of a graph before its option, each by itself, if something is.
+fn wrong_shown(words: &[String]) -> Option<Wrong<'_>> {
     for place in 0..SHOWN.len() {
         if place >= words.len() {
-            reason.tell(&[
-                Text("graph needs SCRIPT, REPORT and CYCLE; "),
-                Text(SHOWN[place]),
-                Text(" is missing"),
-            ])?;
-            return Ok(true);
+            return Some(wrong_role(
+                "graph needs SCRIPT, REPORT and CYCLE; {3} is missing",
+                b"".as_slice(),
+                SHOWN[place],
+            ));
         }
-        if say_shown_word(reason, &words[place], place)? {
-            return Ok(true);
+        let found = wrong_shown_word(&words[place], place);
+        if found.is_some() {
+            return found;
         }
     }
-    Ok(false)
+    None
 }
 
-// Tells what is wrong of such a word, if something is. The last of them names no file.
-fn say_shown_word(reason: &mut Reason, word: &String, place: usize) -> Result<bool, AllocError> {
+// What is wrong of such a word, if something is. The last of them names no file.
+fn wrong_shown_word(word: &String, place: usize) -> Option<Wrong<'_>> {
     if word.as_str() == "--dot" {
-        reason.say("\"--dot\" comes behind SCRIPT, REPORT and CYCLE")?;
-        return Ok(true);
+        return Some(wrong_word("{0} comes behind SCRIPT, REPORT and CYCLE", word.as_bytes()));
     }
     if place >= SHOWN.len() - 1 {
-        return Ok(false);
+        return None;
     }
-    say_name(reason, word, place, play())
+    wrong_name(word, SHOWN[place], play().early)
 }
 
 fn is_cycle(word: &[u8]) -> bool {
@@ -176,27 +200,14 @@ fn is_cycle(word: &[u8]) -> bool {
         && Words::of(word).number(1, MOST_CYCLE).is_ok()
 }
 
-// Tells of a word that is no option of a graph.
-fn say_no_graph_option(
-    alloc: Global,
-    reason: &mut Reason,
-    word: &String,
-) -> Result<(), AllocError> {
-    if word.as_bytes().first() == Some(&b'-') {
-        reason.tell(&[Text("no option "), Quoted(word.as_bytes())])?;
-    } else {
-        say_one_too_many(reason, word, 3)?;
-    }
-    say_meant(alloc, reason, word.as_bytes(), &GRAPH_OPTIONS)
-}
-
 // A command that names files, and others behind options.
 #[derive(Clone, Copy, Drop)]
 struct Naming {
     names: &'static [&'static str],
-    // What it needs, and where an option stands.
+    // What is said where a name is missing, and of an option before the last name.
     needs: &'static str,
-    behind: &'static str,
+    early: &'static str,
+    options: &'static [&'static str],
 }
 
 impl Naming {
@@ -205,87 +216,63 @@ impl Naming {
         let names = self.names.len();
         place < names || (place - names) % 2 == 1
     }
+
+    // What the name at a place behind the command stands for.
+    fn role(&self, place: usize) -> &'static str {
+        if place < self.names.len() {
+            self.names[place]
+        } else {
+            "PATH"
+        }
+    }
 }
 
 fn play() -> Naming {
     Naming {
         names: PLAYED.as_slice(),
-        needs: "play needs SCRIPT, CAPTURE and PLAYBACK; ",
-        behind: " comes behind SCRIPT, CAPTURE and PLAYBACK",
+        needs: "play needs SCRIPT, CAPTURE and PLAYBACK; {3} is missing",
+        early: "{0} comes behind SCRIPT, CAPTURE and PLAYBACK",
+        options: PLAY_OPTIONS.as_slice(),
     }
 }
 
 fn check() -> Naming {
     Naming {
         names: CHECKED.as_slice(),
-        needs: "check needs SCRIPT, CAPTURE, REPORT and PLAYBACK; ",
-        behind: " comes behind SCRIPT, CAPTURE, REPORT and PLAYBACK",
+        needs: "check needs SCRIPT, CAPTURE, REPORT and PLAYBACK; {3} is missing",
+        early: "{0} comes behind SCRIPT, CAPTURE, REPORT and PLAYBACK",
+        options: CHECK_OPTIONS.as_slice(),
     }
 }
 
 // Why the words behind a command do not name its files.
-fn say_named(
-    alloc: Global,
-    reason: &mut Reason,
-    words: &[String],
-    naming: Naming,
-) -> Result<(), AllocError> {
+fn wrong_names(words: &[String], naming: Naming) -> Wrong<'_> {
     for place in 0..naming.names.len() {
         if place >= words.len() {
-            return reason.tell(&[
-                Text(naming.needs),
-                Text(naming.names[place]),
-                Text(" is missing"),
-            ]);
+            return wrong_role(naming.needs, b"".as_slice(), naming.names[place]);
         }
-        if say_name(reason, &words[place], place, naming)? {
-            return Ok(());
+        if let Some(found) = wrong_name(&words[place], naming.names[place], naming.early) {
+            return found;
         }
     }
-    if say_pairs(alloc, reason, words, naming)? {
-        return Ok(());
+    if let Some(found) = wrong_pairs(words, naming) {
+        return found;
     }
-    say_same(reason, words, naming)
+    wrong_same(words, naming)
 }
 
-// Tells why a word is no name of a file, if it is none.
-fn say_name(
-    reason: &mut Reason,
-    word: &String,
-    place: usize,
-    naming: Naming,
-) -> Result<bool, AllocError> {
+// Why a word is no name of a file, if it is none; `early` is said of an option.
+fn wrong_name<'a>(word: &'a String, role: &'static str, early: &'static str) -> Option<Wrong<'a>> {
     match word.as_bytes() {
-        [] => reason.tell(&[
-            Text("word "),
-            Number(number_of(place)),
-            Text(" is empty, and names no file"),
-        ])?,
-        [b'-', ..] if is_option(word) => say_early_option(reason, word, place, naming)?,
-        [b'-', ..] => reason.tell(&[
-            Text("word "),
-            Number(number_of(place)),
-            Text(" begins with \"-\"; a file is named ./"),
-            Shown(word.as_bytes()),
-        ])?,
-        _ => return Ok(false),
+        [] => Some(wrong_role("{3} is empty, and names no file", word.as_bytes(), role)),
+        [b'-', ..] if is_option(word) => Some(wrong_word(early, word.as_bytes())),
+        [b'-', ..] => Some(wrong_role(
+            "{3} begins with \"-\"; a file is named ./{1}",
+            word.as_bytes(),
+            role,
+        )),
+        _ => None,
     }
-    Ok(true)
-}
-
-// Tells of an option where a name is expected.
-fn say_early_option(
-    reason: &mut Reason,
-    word: &String,
-    place: usize,
-    naming: Naming,
-) -> Result<(), AllocError> {
-    let wrong = if place < naming.names.len() {
-        naming.behind
-    } else {
-        " stands where a path is needed"
-    };
-    reason.tell(&[Quoted(word.as_bytes()), Text(wrong)])
 }
 
 fn is_option(word: &String) -> bool {
@@ -311,96 +298,65 @@ impl Met {
     }
 }
 
-// Tells what is wrong of the options and their paths, if something is.
-fn say_pairs(
-    alloc: Global,
-    reason: &mut Reason,
-    words: &[String],
-    naming: Naming,
-) -> Result<bool, AllocError> {
+// What is wrong of the options and their paths, if something is.
+fn wrong_pairs(words: &[String], naming: Naming) -> Option<Wrong<'_>> {
     let mut met = Met {
         records: 0,
         disks: 0,
     };
     for place in naming.names.len()..words.len() {
         let word = &words[place];
-        let is_wrong = if naming.is_name(place) {
-            say_name(reason, word, place, naming)?
+        let found = if naming.is_name(place) {
+            wrong_name(word, "PATH", "{0} stands where a path is needed")
         } else {
             let is_last = place + 1 == words.len();
-            say_pair(alloc, reason, word, place, is_last, &mut met)?
+            wrong_option(word, naming, is_last, &mut met)
         };
-        if is_wrong {
-            return Ok(true);
+        if found.is_some() {
+            return found;
         }
     }
-    Ok(false)
+    None
 }
 
-// Tells what is wrong of an option, if something is.
-fn say_pair(
-    alloc: Global,
-    reason: &mut Reason,
-    option: &String,
-    place: usize,
+// What is wrong of an option, if something is.
+fn wrong_option<'a>(
+    option: &'a String,
+    naming: Naming,
     is_last: bool,
     met: &mut Met,
-) -> Result<bool, AllocError> {
+) -> Option<Wrong<'a>> {
+    let word = option.as_bytes();
     let is_disk = option.as_str() == "--disk";
     if !is_option(option) {
-        say_no_option(alloc, reason, option, place)?;
-    } else if is_last {
-        reason.tell(&[Quoted(option.as_bytes()), Text(" needs a path")])?;
-    } else if met.disks > 0 && !is_disk {
-        reason.say("\"--record\" stands before \"--disk\"")?;
-    } else if !met.takes(is_disk) {
-        reason.tell(&[Quoted(option.as_bytes()), Text(" stands more than 4 times")])?;
-    } else {
-        return Ok(false);
+        return Some(unknown(word, naming.options, TOO_MANY));
     }
-    Ok(true)
-}
-
-// Tells of a word that is no option.
-fn say_no_option(
-    alloc: Global,
-    reason: &mut Reason,
-    word: &String,
-    place: usize,
-) -> Result<(), AllocError> {
-    if word.as_bytes().first() == Some(&b'-') {
-        reason.tell(&[Text("no option "), Quoted(word.as_bytes())])?;
-    } else {
-        say_one_too_many(reason, word, place)?;
+    if is_last {
+        return Some(wrong_word("{0} needs a path", word));
     }
-    say_meant(alloc, reason, word.as_bytes(), &OPTIONS)
+    if met.disks > 0 && !is_disk {
+        return Some(wrong_word("\"--record\" stands before \"--disk\"", word));
+    }
+    if !met.takes(is_disk) {
+        return Some(wrong_word("{0} stands more than 4 times", word));
+    }
+    None
 }
 
-// Tells of a word behind the last one.
-fn say_one_too_many(reason: &mut Reason, word: &String, place: usize) -> Result<(), AllocError> {
-    reason.tell(&[
-        Text("word "),
-        Number(number_of(place)),
-        Text(" is one too many: "),
-        Quoted(word.as_bytes()),
-    ])
-}
-
-// Tells which two words name one file.
-fn say_same(reason: &mut Reason, words: &[String], naming: Naming) -> Result<(), AllocError> {
+// Which two words name one file.
+fn wrong_same(words: &[String], naming: Naming) -> Wrong<'_> {
     for second in 0..words.len() {
         if let Some(first) = same_before(words, second, naming) {
-            return reason.tell(&[
-                Text("words "),
-                Number(number_of(first)),
-                Text(" and "),
-                Number(number_of(second)),
-                Text(" name one file: "),
-                Shown(words[second].as_bytes()),
-            ]);
+            let mut found = wrong_role(
+                "{2} and {3} name one file: {1}",
+                words[second].as_bytes(),
+                naming.role(second),
+            );
+            found.other = naming.role(first).as_bytes();
+            return found;
         }
     }
-    reason.say("these words are no command")
+    wrong_word("these words are no command", b"".as_slice())
 }
 
 // The place of the first word that names the file of a later one.

@@ -3,6 +3,7 @@
 ghost use Rattle.std.specs.Prelude.{IfOk};
 ghost use Rattle.reason_text.specs.Reasons.{IsReason};
 
+use crate::filling::{fill, line_of};
 use crate::lines::guest_line;
 use reason_text::Piece::{Counted, Number, Path, Shown, Text};
 use reason_text::Reason;
@@ -18,16 +19,24 @@ pub fn of_guests(
 ) -> Result<Reason, AllocError>
     ensures { IfOk result IsReason }
 {
-    let mut reason = Reason::new(alloc)?;
-    reason.tell(&[Shown(script.as_bytes())])?;
-    let guest = match guest_line(text, u64::from(given)) {
-        Some((line, guest)) => {
-            reason.tell(&[Text(":"), Number(u64::from(line))])?;
-            guest
-        }
-        None => u64::from(needed.saturating_sub(1)),
+    let (sentence, line, guest) = match guest_line(text, u64::from(given)) {
+        Some((line, guest)) => ("{0}:{1}: guest {2}: only ", line, guest),
+        None => (
+            "{0}: guest {2}: only ",
+            0,
+            u64::from(needed.saturating_sub(1)),
+        ),
     };
-    reason.tell(&[Text(": guest "), Number(guest), Text(": only ")])?;
+    let mut reason = Reason::new(alloc)?;
+    fill(
+        &mut reason,
+        sentence,
+        &[
+            Shown(script.as_bytes()),
+            Number(u64::from(line)),
+            Number(guest),
+        ],
+    )?;
     say_below(&mut reason, given)?;
     reason.say(" are handed in")?;
     reason.end_line()?;
@@ -49,60 +58,46 @@ fn say_below(reason: &mut Reason, end: u32) -> Result<(), AllocError> {
     Ok(())
 }
 
-// How many of a thing the script has, and how often an option was given.
-fn of_option<'a>(
-    alloc: Global,
-    script: u32,
-    one: &'a str,
-    more: &'a str,
-    option: &'a str,
-    given: u32,
-) -> Result<Reason, AllocError> {
-    Reason::line(
-        alloc,
-        &[
-            Text("the script has "),
-            Counted(u64::from(script), one, more),
-            Text(", "),
-            Text(option),
-            Text(" was given "),
-            Counted(u64::from(given), "time", "times"),
-        ],
-    )
-}
-
 /// The script has another number of recorders than files are named for.
 pub fn of_records(alloc: Global, script: u32, given: u32) -> Result<Reason, AllocError>
     ensures { IfOk result IsReason }
 {
-    of_option(alloc, script, "recorder", "recorders", "--record", given)
+    line_of(
+        alloc,
+        "the script has {0}, --record was given {1}",
+        &[
+            Counted(u64::from(script), "recorder", "recorders"),
+            Counted(u64::from(given), "time", "times"),
+        ],
+    )
 }
 
 /// The script has another number of disk files than are named.
 pub fn of_disks(alloc: Global, script: u32, given: u32) -> Result<Reason, AllocError>
     ensures { IfOk result IsReason }
 {
-    of_option(alloc, script, "disk file", "disk files", "--disk", given)
+    line_of(
+        alloc,
+        "the script has {0}, --disk was given {1}",
+        &[
+            Counted(u64::from(script), "disk file", "disk files"),
+            Counted(u64::from(given), "time", "times"),
+        ],
+    )
 }
 
 /// The script has another rate than a file that it is played with, in frames a second.
 pub fn of_rate(alloc: Global, name: &str, script: u32, given: u32) -> Result<Reason, AllocError>
     ensures { IfOk result IsReason }
 {
-    Reason::line(
+    line_of(
         alloc,
+        "the script has rate {0}, {1} has {2}: sox {3} -r {0} new.wav",
         &[
-            Text("the script has rate "),
             Number(u64::from(script)),
-            Text(", "),
             Shown(name.as_bytes()),
-            Text(" has "),
             Number(u64::from(given)),
-            Text(": sox "),
             Path(name),
-            Text(" -r "),
-            Number(u64::from(script)),
-            Text(" new.wav"),
         ],
     )
 }
@@ -111,20 +106,14 @@ pub fn of_rate(alloc: Global, name: &str, script: u32, given: u32) -> Result<Rea
 pub fn of_channels(alloc: Global, name: &str, script: u32, given: u32) -> Result<Reason, AllocError>
     ensures { IfOk result IsReason }
 {
-    Reason::line(
+    line_of(
         alloc,
+        "the script has capture {0}, {1} has {2}: sox {3} -c {0} new.wav",
         &[
-            Text("the script has capture "),
             Number(u64::from(script)),
-            Text(", "),
             Shown(name.as_bytes()),
-            Text(" has "),
             Counted(u64::from(given), "channel", "channels"),
-            Text(": sox "),
             Path(name),
-            Text(" -c "),
-            Number(u64::from(script)),
-            Text(" new.wav"),
         ],
     )
 }

@@ -4,8 +4,9 @@ ghost use Rattle.std.specs.Prelude.{◌≡◌, IfOk};
 ghost use Rattle.reason_text.specs.Reasons.{IsReason};
 ghost use Rattle.told_reasons.specs.Standings.{frames_in, is_unfinished};
 
+use crate::filling::line_of;
 use crate::formats::{HEADER, u16_at, u32_at};
-use reason_text::Piece::{Counted, Shown, Text};
+use reason_text::Piece::{Counted, Shown};
 use reason_text::Reason;
 use std::alloc::{AllocError, Global};
 use std::io;
@@ -13,26 +14,12 @@ use std::io;
 // A size that is not set.
 const UNSET: u32 = 0xffff_ffff;
 
-// A name as it is.
-fn show_name(reason: &mut Reason, name: &str) -> Result<(), AllocError> {
-    reason.tell(&[Shown(name.as_bytes())])
-}
-
-// The file's name. An empty one stands for a name that is too long to be kept.
-fn say_file(reason: &mut Reason, name: &str) -> Result<(), AllocError> {
-    if name.is_empty() {
-        return reason.say("a name of more than 4096 bytes");
-    }
-    show_name(reason, name)
-}
-
-// The system's reason, without its number.
-fn say_system(alloc: Global, reason: &mut Reason, error: io::Error) -> Result<(), AllocError> {
-    let text = format!(in alloc; "{error}")?;
+// What the system says, without the number of its error.
+fn without_number(text: &str) -> &[u8] {
     let bytes = text.as_bytes();
-    match text.as_str().find(" (os error ") {
-        Some(end) if end <= bytes.len() => reason.tell(&[Shown(&bytes[..end])]),
-        _ => reason.tell(&[Shown(bytes)]),
+    match text.find(" (os error ") {
+        Some(end) if end <= bytes.len() => &bytes[..end],
+        _ => bytes,
     }
 }
 
@@ -58,22 +45,55 @@ pub fn standing_in(front: &[u8], bytes: u64) -> Option<u64>
     Some(bytes.saturating_sub(44) / u64::from(u16_at(front, 32)))
 }
 
-// A file's name and the system's reason, in a line that goes on.
-fn of_file(alloc: Global, name: &str, error: io::Error) -> Result<Reason, AllocError> {
-    let mut reason = Reason::new(alloc)?;
-    say_file(&mut reason, name)?;
-    reason.say(": ")?;
-    say_system(alloc, &mut reason, error)?;
-    Ok(reason)
+// A sentence on a file, which is `{0}`, and the system's reason, which is `{1}`. An empty name stands for one that is too long to be
+// kept.
+fn of_file(
+    alloc: Global,
+    sentence: &str,
+    name: &str,
+    error: io::Error,
+    frames: u64,
+) -> Result<Reason, AllocError>
+    ensures { IfOk result IsReason }
+{
+    let system = format!(in alloc; "{error}")?;
+    of_named(alloc, sentence, name, system.as_str(), frames)
+}
+
+fn of_named<'a>(
+    alloc: Global,
+    sentence: &str,
+    name: &'a str,
+    system: &'a str,
+    frames: u64,
+) -> Result<Reason, AllocError>
+    ensures { IfOk result IsReason }
+{
+    line_of(
+        alloc,
+        sentence,
+        &[
+            Shown(name_or_length(name)),
+            Shown(without_number(system)),
+            Counted(frames, "frame stands", "frames stand"),
+        ],
+    )
+}
+
+// A name, or in place of an empty one what is said of a name that is too long to be kept.
+fn name_or_length(name: &str) -> &[u8] {
+    if name.is_empty() {
+        b"a name of more than 4096 bytes".as_slice()
+    } else {
+        name.as_bytes()
+    }
 }
 
 /// Why a file could not be read.
 pub fn of_input(alloc: Global, name: &str, error: io::Error) -> Result<Reason, AllocError>
     ensures { IfOk result IsReason }
 {
-    let mut reason = of_file(alloc, name, error)?;
-    reason.end_line()?;
-    Ok(reason)
+    of_file(alloc, "{0}: {1}", name, error, 0)
 }
 
 /// Why a file could not be written to its end, and how much of it stands.
@@ -85,84 +105,93 @@ pub fn of_writing(
 ) -> Result<Reason, AllocError>
     ensures { IfOk result IsReason }
 {
-    let mut reason = of_file(alloc, name, error)?;
-    if let Some(frames) = standing {
-        reason.tell(&[
-            Text("; "),
-            Counted(frames, "frame stands", "frames stand"),
-            Text(", sizes unset (sox --ignore-length reads it)"),
-        ])?;
+    match standing {
+        Some(frames) => of_file(
+            alloc,
+            "{0}: {1}; {2}, sizes unset (sox --ignore-length reads it)",
+            name,
+            error,
+            frames,
+        ),
+        None => of_file(alloc, "{0}: {1}", name, error, 0),
     }
-    reason.end_line()?;
-    Ok(reason)
 }
 
 /// Why a file could not be made, or opened for writing: then none was written.
 pub fn of_making(alloc: Global, name: &str, error: io::Error) -> Result<Reason, AllocError>
     ensures { IfOk result IsReason }
 {
-    let mut reason = of_file(alloc, name, error)?;
-    reason.say("; nothing was written")?;
-    reason.end_line()?;
-    Ok(reason)
+    of_file(alloc, "{0}: {1}; nothing was written", name, error, 0)
+}
+
+/// Why a file may not have reached its medium, though all of it was written.
+pub fn of_closing(alloc: Global, name: &str, error: io::Error) -> Result<Reason, AllocError>
+    ensures { IfOk result IsReason }
+{
+    of_file(
+        alloc,
+        "{0}: {1}; what was written may be lost",
+        name,
+        error,
+        0,
+    )
 }
 
 /// Why a file is not made in place of one that is open: `what` it is, and the name by which it was opened.
-pub fn of_open_output(
+pub fn of_open_output<'a>(
     alloc: Global,
-    name: &str,
-    what: &str,
-    other: &str,
+    name: &'a str,
+    what: &'a str,
+    other: &'a str,
 ) -> Result<Reason, AllocError>
     ensures { IfOk result IsReason }
 {
-    let mut reason = Reason::new(alloc)?;
-    show_name(&mut reason, name)?;
-    reason.say(": is the ")?;
-    reason.say(what)?;
-    reason.say(" ")?;
-    show_name(&mut reason, other)?;
-    reason.say("; nothing was written")?;
-    reason.end_line()?;
-    Ok(reason)
+    line_of(
+        alloc,
+        "{0}: is the {1} {2}; nothing was written",
+        &[
+            Shown(name.as_bytes()),
+            Shown(what.as_bytes()),
+            Shown(other.as_bytes()),
+        ],
+    )
 }
 
 /// Why the report could not be put out, where all files were written.
 pub fn of_report(alloc: Global, error: io::Error) -> Result<Reason, AllocError>
     ensures { IfOk result IsReason }
 {
-    of_sink(alloc, error, "the report is cut, the files are whole")
+    of_sink(
+        alloc,
+        "{0}: {1}; the report is cut, the files are whole",
+        error,
+    )
 }
 
 /// Why the lines of a rehearsal could not be put out.
 pub fn of_summary(alloc: Global, error: io::Error) -> Result<Reason, AllocError>
     ensures { IfOk result IsReason }
 {
-    of_sink(alloc, error, "the lines are cut")
+    of_sink(alloc, "{0}: {1}; the lines are cut", error)
 }
 
 /// Why the verdict of a check could not be put out.
 pub fn of_verdict(alloc: Global, error: io::Error) -> Result<Reason, AllocError>
     ensures { IfOk result IsReason }
 {
-    of_sink(alloc, error, "the verdict is cut")
+    of_sink(alloc, "{0}: {1}; the verdict is cut", error)
 }
 
 /// Why a graph could not be put out.
 pub fn of_graph(alloc: Global, error: io::Error) -> Result<Reason, AllocError>
     ensures { IfOk result IsReason }
 {
-    of_sink(alloc, error, "the graph is cut")
+    of_sink(alloc, "{0}: {1}; the graph is cut", error)
 }
 
 // Why standard output could not be written, and what came of that.
-fn of_sink(alloc: Global, error: io::Error, end: &str) -> Result<Reason, AllocError>
+fn of_sink(alloc: Global, sentence: &str, error: io::Error) -> Result<Reason, AllocError>
     ensures { IfOk result IsReason }
 {
-    let mut reason = Reason::new(alloc)?;
-    reason.say("standard output: ")?;
-    say_system(alloc, &mut reason, error)?;
-    reason.tell(&[Text("; "), Text(end)])?;
-    reason.end_line()?;
-    Ok(reason)
+    of_file(alloc, sentence, "standard output", error, 0)
 }

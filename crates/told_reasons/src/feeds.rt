@@ -3,15 +3,16 @@
 ghost use Rattle.std.specs.Prelude.{IfOk, IfSome};
 ghost use Rattle.reason_text.specs.Reasons.{IsReason};
 
+use crate::filling::fill;
 use crate::lines::{first_line, word_at};
 use jack_types::{Part, Row};
-use reason_text::Piece::{Number, Path, Shown, Text};
+use reason_text::Piece::{Number, Path, Shown};
 use reason_text::Reason;
 use script_words::Words;
 use std::alloc::{AllocError, Global};
 
 /// A channel of the playback or of a record, in a cycle.
-#[derive(Clone, Copy, PartialEq, Eq, Debug)]
+#[derive(Clone, Copy, PartialEq, Eq)]
 pub struct Channel {
     pub row: Row,
     /// Counted from 1.
@@ -34,41 +35,21 @@ pub fn of_feeds<'a>(
     let Some(port) = port_of(graph, channel) else {
         return Ok(None);
     };
-    let cycle = u64::from(channel.cycle);
+    let cycle = Number(u64::from(channel.cycle));
     let mut reason = Reason::new(alloc)?;
-    say_port(&mut reason, port, cycle)?;
+    fill(
+        &mut reason,
+        "in cycle {0} {1} is fed by",
+        &[cycle, Shown(port)],
+    )?;
     say_sources(&mut reason, graph, port)?;
-    say_command(&mut reason, script, report, cycle)?;
+    fill(
+        &mut reason,
+        "; jackd graph {0} {1} {2} shows all",
+        &[Path(script), Path(report), cycle],
+    )?;
     reason.end_line()?;
     Ok(Some(reason))
-}
-
-fn say_port(reason: &mut Reason, port: &[u8], cycle: u64) -> Result<(), AllocError> {
-    reason.tell(&[
-        Text("in cycle "),
-        Number(cycle),
-        Text(" "),
-        Shown(port),
-        Text(" is fed by"),
-    ])
-}
-
-// The command that shows the graph.
-fn say_command<'a>(
-    reason: &mut Reason,
-    script: &'a str,
-    report: &'a str,
-    cycle: u64,
-) -> Result<(), AllocError> {
-    reason.tell(&[
-        Text("; jackd graph "),
-        Path(script),
-        Text(" "),
-        Path(report),
-        Text(" "),
-        Number(cycle),
-        Text(" shows all"),
-    ])
 }
 
 // The outputs that are connected to a port.
@@ -81,7 +62,7 @@ fn say_sources(reason: &mut Reason, graph: &[u8], port: &[u8]) -> Result<(), All
         }
         let (line, behind) = first_line(rest);
         if word_at(line, 0) == b"connected".as_slice() && word_at(line, 2) == port {
-            reason.tell(&[Text(" "), Shown(word_at(line, 1))])?;
+            fill(reason, " {0}", &[Shown(word_at(line, 1))])?;
             found = true;
         }
         rest = behind;

@@ -14,7 +14,7 @@ pub const HEADER: usize = 44;
 const MOST_BYTES: usize = 1_048_576;
 
 /// A file of a session: how its samples are stored, and how many frames it has, where the script alone tells that.
-#[derive(Clone, Copy, PartialEq, Eq, Debug)]
+#[derive(Clone, Copy, PartialEq, Eq)]
 pub struct Made {
     pub format: Format,
     pub frames: Option<u64>,
@@ -155,7 +155,8 @@ impl Reading {
     }
 }
 
-fn number_in(words: &mut Words) -> u64 {
+/// The number that stands next, or 0 where none does.
+pub fn number_in(words: &mut Words) -> u64 {
     match words.any_number() {
         Ok(number) => number,
         Err(_) => 0,

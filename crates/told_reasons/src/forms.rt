@@ -94,8 +94,11 @@ pub const PROGRAM: [&str; 9] = [
     "-V",
 ];
 
-/// The options of a play and of a check.
-pub const OPTIONS: [&str; 2] = ["--record PATH", "--disk PATH"];
+/// The options of a play.
+pub const PLAY_OPTIONS: [&str; 4] = ["--record PATH", "--disk PATH", "--strict", "--no-sync"];
+
+/// The options of a check.
+pub const CHECK_OPTIONS: [&str; 2] = ["--record PATH", "--disk PATH"];
 
 /// The option of a graph.
 pub const GRAPH_OPTIONS: [&str; 1] = ["--dot"];

@@ -3,6 +3,7 @@
 ghost use Rattle.std.specs.Prelude.{IfOk};
 ghost use Rattle.reason_text.specs.Reasons.{IsReason};
 
+use crate::filling::fill;
 use crate::lines::{behind, call_at, line_at, readable, word_at};
 use jack_types::Refusal;
 use reason_text::Piece::{Counted, Number, Shown, Text};
@@ -26,68 +27,128 @@ pub fn of_refusals(
         reason.end_line()?;
         reason.begin_line()?;
     }
-    let rest = if notes.refused() == 1 {
-        " was refused"
-    } else {
-        " were refused"
-    };
-    reason.tell(&[
-        Number(notes.refused()),
-        Text(" of "),
-        Counted(notes.calls(), "call", "calls"),
-        Text(rest),
-    ])?;
+    say_sum(&mut reason, notes)?;
     reason.end_line()?;
     Ok(reason)
 }
 
-fn say_call(
-    reason: &mut Reason,
-    script: &str,
-    text: &[u8],
-    call: &Refused,
-) -> Result<(), AllocError> {
-    let command = say_command(reason, script, text, call)?;
-    reason.tell(&[
-        Text(": refused "),
-        Number(u64::from(call.refusal.number())),
-        Text(" "),
-        Text(call.refusal.name()),
-    ])?;
-    if command.is_empty() {
-        return Ok(());
-    }
-    reason.say(" (")?;
-    say_why(reason, command, call.refusal)?;
-    reason.say(")")
+// How many calls were refused.
+fn say_sum(reason: &mut Reason, notes: &Notes) -> Result<(), AllocError> {
+    let untold = notes.refused().saturating_sub(notes.first().len() as u64);
+    let sentence = if untold > 0 {
+        "and {0} more; {1} of {2} were refused"
+    } else if notes.refused() == 1 {
+        "{1} of {2} was refused"
+    } else {
+        "{1} of {2} were refused"
+    };
+    fill(
+        reason,
+        sentence,
+        &[
+            Number(untold),
+            Number(notes.refused()),
+            Counted(notes.calls(), "call", "calls"),
+        ],
+    )
 }
 
-// Which call it is. The answer is its command; it is empty where the script has no such line.
-fn say_command<'a>(
+// A call, with its line where the script has it.
+fn say_call<'a>(
     reason: &mut Reason,
     script: &'a str,
     text: &'a [u8],
     call: &Refused,
-) -> Result<&'a [u8], AllocError> {
-    let Some((number, words)) = call_at(text, call.lane, call.index) else {
-        reason.tell(&[
-            Shown(script.as_bytes()),
-            Text(": call "),
-            Number(call.index),
-            Text(" of lane "),
-            Number(call.lane),
-        ])?;
-        return Ok(&text[..0]);
+) -> Result<(), AllocError> {
+    let refusal = call.refusal;
+    let Some((line, words)) = call_at(text, call.lane, call.index) else {
+        return fill(
+            reason,
+            "{0}: call {1} of lane {2}: refused {3} {4}",
+            &[
+                Shown(script.as_bytes()),
+                Number(call.index),
+                Number(call.lane),
+                Number(u64::from(refusal.number())),
+                Text(refusal.name()),
+            ],
+        );
     };
-    let command = behind(line_at(text, number), words);
-    reason.tell(&[
-        Shown(script.as_bytes()),
-        Text(":"),
-        Number(u64::from(number)),
-        Text(": "),
-        Shown(command),
-    ])?;
-    Ok(command)
+    let command = behind(line_at(text, line), words);
+    fill(
+        reason,
+        "{0}:{1}: {2}: refused {3} {4} (",
+        &[
+            Shown(script.as_bytes()),
+            Number(u64::from(line)),
+            Shown(command),
+            Number(u64::from(refusal.number())),
+            Text(refusal.name()),
+        ],
+    )?;
+    say_why(reason, command, refusal)?;
+    reason.say(")")
+}
+
+// What the refusal means for the names of a command.
+fn say_why(reason: &mut Reason, command: &[u8], refusal: Refusal) -> Result<(), AllocError> {
+    let first = word_at(command, 1);
+    let second = word_at(command, 2);
+    fill(
+        reason,
+        why(refusal, client_of(first), client_of(second)),
+        &[
+            Shown(first),
+            Shown(second),
+            Shown(word_at(command, 3)),
+            Shown(client_of(first)),
+            Shown(client_of(second)),
+            Shown(port_of(command)),
+        ],
+    )
+}
+
+// The sentence of a refusal. `{0}` to `{2}` are the words behind the command's name, `{3}` and `{4}` the clients of the first two,
+// and `{5}` is the port that it names.
+fn why(refusal: Refusal, first: &[u8], second: &[u8]) -> &'static str {
+    match refusal {
+        Refusal::NoClient => "no client {3} is open",
+        Refusal::NoPort => "there is no port {5}",
+        Refusal::IsOpen => "{3} is open already",
+        Refusal::IsSystem => "system is not a client that a call changes",
+        Refusal::NameTaken => "there is a port {0} already",
+        Refusal::AlreadyActive => "{3} is active already",
+        Refusal::NotActive => "{3} is not active",
+        Refusal::ClientsFull => "64 clients are open",
+        Refusal::PortsFull => "{3} has 16 ports of this direction",
+        Refusal::NoSource => "there is no port {0}",
+        Refusal::NoDestination => "there is no port {1}",
+        Refusal::NotOutput => "{0} is an input",
+        Refusal::NotInput => "{1} is an output",
+        Refusal::TypeDiffers => "one is audio, the other midi",
+        Refusal::Inactive => inactive(first, second),
+        Refusal::Exists => "they are connected already",
+        Refusal::Full => "there are 512 connections",
+        Refusal::NotConnected => "they are not connected",
+        Refusal::Busy => "another client is the master",
+        Refusal::NotMaster => "{3} is not the master",
+        Refusal::InUse => "{1} {2} belongs to another open client",
+    }
+}
+
+// Which client is not active, as far as the names tell: the system is always.
+fn inactive(source: &[u8], destination: &[u8]) -> &'static str {
+    if is_system(source) || source == destination {
+        "{4} is not active"
+    } else if is_system(destination) {
+        "{3} is not active"
+    } else {
+        "{3} or {4} is not active"
+    }
+}
+
+fn is_system(client: &[u8]) -> bool {
+    client == b"system".as_slice()
 }
 
 // The client of a name, or of a port's name.
@@ -100,49 +161,6 @@ fn client_of(name: &[u8]) -> &[u8] {
     name
 }
 
-fn is_system(client: &[u8]) -> bool {
-    client == b"system".as_slice()
-}
-
-// What the refusal means for the names of a command.
-fn say_why(reason: &mut Reason, command: &[u8], refusal: Refusal) -> Result<(), AllocError> {
-    let first = word_at(command, 1);
-    let second = word_at(command, 2);
-    let client = client_of(first);
-    match refusal {
-        Refusal::NoClient => reason.tell(&[Text("no client "), Shown(client), Text(" is open")]),
-        Refusal::NoPort => reason.tell(&[Text("there is no port "), Shown(port_of(command))]),
-        Refusal::IsOpen => reason.tell(&[Shown(client), Text(" is open already")]),
-        Refusal::IsSystem => reason.say("system is not a client that a call changes"),
-        Refusal::NameTaken => {
-            reason.tell(&[Text("there is a port "), Shown(first), Text(" already")])
-        }
-        Refusal::AlreadyActive => reason.tell(&[Shown(client), Text(" is active already")]),
-        Refusal::NotActive => reason.tell(&[Shown(client), Text(" is not active")]),
-        Refusal::ClientsFull => reason.say("64 clients are open"),
-        Refusal::PortsFull => {
-            reason.tell(&[Shown(client), Text(" has 16 ports of this direction")])
-        }
-        Refusal::NoSource => reason.tell(&[Text("there is no port "), Shown(first)]),
-        Refusal::NoDestination => reason.tell(&[Text("there is no port "), Shown(second)]),
-        Refusal::NotOutput => reason.tell(&[Shown(first), Text(" is an input")]),
-        Refusal::NotInput => reason.tell(&[Shown(second), Text(" is an output")]),
-        Refusal::TypeDiffers => reason.say("one is audio, the other midi"),
-        Refusal::Inactive => say_inactive(reason, client, client_of(second)),
-        Refusal::Exists => reason.say("they are connected already"),
-        Refusal::Full => reason.say("there are 512 connections"),
-        Refusal::NotConnected => reason.say("they are not connected"),
-        Refusal::Busy => reason.say("another client is the master"),
-        Refusal::NotMaster => reason.tell(&[Shown(client), Text(" is not the master")]),
-        Refusal::InUse => reason.tell(&[
-            Shown(second),
-            Text(" "),
-            Shown(word_at(command, 3)),
-            Text(" belongs to another open client"),
-        ]),
-    }
-}
-
 // The port that a command names, where it names one.
 fn port_of(command: &[u8]) -> &[u8] {
     if word_at(command, 0) == b"latency".as_slice() {
@@ -150,24 +168,4 @@ fn port_of(command: &[u8]) -> &[u8] {
     } else {
         word_at(command, 1)
     }
-}
-
-// Which client is not active, as far as the names tell: the system is always.
-fn say_inactive<'a>(
-    reason: &mut Reason,
-    source: &'a [u8],
-    destination: &'a [u8],
-) -> Result<(), AllocError> {
-    if is_system(source) || source == destination {
-        return reason.tell(&[Shown(destination), Text(" is not active")]);
-    }
-    if is_system(destination) {
-        return reason.tell(&[Shown(source), Text(" is not active")]);
-    }
-    reason.tell(&[
-        Shown(source),
-        Text(" or "),
-        Shown(destination),
-        Text(" is not active"),
-    ])
 }

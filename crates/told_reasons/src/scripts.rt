@@ -3,6 +3,7 @@
 ghost use Rattle.std.specs.Prelude.{IfOk};
 ghost use Rattle.reason_text.specs.Reasons.{IsReason};
 
+use crate::filling::fill;
 use crate::forms::{HEADER, KINDS, LINES, MODES};
 use crate::lines::{line_at, readable, said_before, word_at};
 use crate::nearest::{name_of, nearest};
@@ -24,6 +25,7 @@ const PORT: &str =
 #[derive(Drop)]
 struct Faulty<'a> {
     line: &'a [u8],
+    number: u32,
     // How many lines that say something stand before it.
     place: usize,
     is_marked: bool,
@@ -42,16 +44,18 @@ pub fn of_script(
     let text = readable(text);
     let faulty = Faulty {
         line: line_at(text, fault.line),
+        number: fault.line,
         place: said_before(text, fault.line),
         is_marked: is_marked(text),
     };
+    let before = if fault.line > 0 { "{0}:{1}: " } else { "{0}: " };
     let mut reason = Reason::new(alloc)?;
-    reason.tell(&[Shown(name.as_bytes())])?;
-    if fault.line > 0 {
-        reason.tell(&[Text(":"), Number(u64::from(fault.line))])?;
-    }
-    reason.say(": ")?;
-    say_cause(alloc, &mut reason, fault, &faulty)?;
+    fill(
+        &mut reason,
+        before,
+        &[Shown(name.as_bytes()), Number(u64::from(fault.line))],
+    )?;
+    say_cause(alloc, &mut reason, fault.cause, &faulty)?;
     if !faulty.line.is_empty() {
         reason.show_below(faulty.line)?;
     }
@@ -66,46 +70,52 @@ fn is_marked(text: &[u8]) -> bool {
 fn say_cause(
     alloc: Global,
     reason: &mut Reason,
-    fault: ScriptFault,
+    cause: Cause,
     faulty: &Faulty<'_>,
 ) -> Result<(), AllocError> {
-    match fault.cause {
-        Cause::Header => say_header(reason, faulty, fault.line),
+    match cause {
+        Cause::Header => say_header(reason, faulty),
         Cause::Unknown => say_unknown(alloc, reason, faulty),
         Cause::Words => say_count(reason, faulty),
         Cause::Number => say_no_number(reason, faulty),
         Cause::Range { given, least, most } => say_range(reason, given, least, most),
-        Cause::Name(fault) => say_name(reason, faulty, fault),
-        Cause::Choice(given) => say_choice(reason, faulty, given),
+        Cause::Name(fault) => reason.say(wrong_name(faulty, fault)),
+        Cause::Choice(given) => fill(reason, wrong_choice(faulty, given), &[Number(given)]),
         Cause::Lane { before, given } => say_lane(reason, faulty, before, given),
-        Cause::TooMany { what, limit } => say_many(reason, what, limit),
-        Cause::TooLong => say_long(reason, fault.line),
+        Cause::TooMany { what, limit } => {
+            fill(reason, too_many(what), &[Number(u64::from(limit))])
+        }
+        Cause::TooLong if faulty.number == 0 => {
+            reason.say("more than 1048576 bytes are no script")
+        }
+        Cause::TooLong => reason.say("more than 2000000000 bytes of samples would be played"),
         Cause::Memory => reason.say("no memory is left"),
     }
 }
 
 // A line of the header is missing, or another one stands in its place.
-fn say_header(reason: &mut Reason, faulty: &Faulty<'_>, line: u32) -> Result<(), AllocError> {
-    if faulty.is_marked && line == 1 {
+fn say_header(reason: &mut Reason, faulty: &Faulty<'_>) -> Result<(), AllocError> {
+    if faulty.is_marked && faulty.number == 1 {
         return reason.say("begins with a byte order mark");
     }
     if faulty.place >= HEADER.len() {
         return reason.say("a line of the header is expected here");
     }
-    reason.tell(&[
-        Quoted(name_of(HEADER[faulty.place])),
-        Text(" is expected here"),
-    ])
+    fill(
+        reason,
+        "{0} is expected here",
+        &[Quoted(name_of(HEADER[faulty.place]))],
+    )
 }
 
-// What a word of this choice is called where it is unknown.
+// What is said of an unknown word, by what it is chosen from.
 fn unknown(choice: Choice) -> &'static str {
     match choice {
-        Choice::Line => "no line ",
-        Choice::Command => "no command ",
-        Choice::Kind => "no kind ",
-        Choice::Mode => "no mode ",
-        Choice::Word => "no word ",
+        Choice::Line => "no line {0}",
+        Choice::Command => "no command {0}",
+        Choice::Kind => "no kind {0}",
+        Choice::Mode => "no mode {0}",
+        Choice::Word => "no word {0}",
     }
 }
 
@@ -113,15 +123,15 @@ fn unknown(choice: Choice) -> &'static str {
 fn say_names(reason: &mut Reason, forms: &[&str]) -> Result<(), AllocError> {
     for place in 0..forms.len() {
         let before = if place == 0 {
-            ""
+            "; {0}"
         } else if place + 1 == forms.len() {
-            " or "
+            " or {0}"
         } else {
-            ", "
+            ", {0}"
         };
-        reason.tell(&[Text(before), Shown(name_of(forms[place]))])?;
+        fill(reason, before, &[Shown(name_of(forms[place]))])?;
     }
-    Ok(())
+    reason.say(" is expected")
 }
 
 // A word is none of those that may stand there.
@@ -129,31 +139,32 @@ fn say_unknown(alloc: Global, reason: &mut Reason, faulty: &Faulty<'_>) -> Resul
     let Departure::Unknown(choice, word, known) = departure_of(faulty.line, faulty.place) else {
         return say_elsewhere(reason, faulty);
     };
-    reason.tell(&[Text(unknown(choice)), Quoted(word)])?;
-    if let Some(name) = nearest(alloc, word, known)? {
-        return reason.tell(&[Text("; is "), Quoted(name), Text(" meant?")]);
+    fill(reason, unknown(choice), &[Quoted(word)])?;
+    match nearest(alloc, word, known)? {
+        Some(name) => fill(reason, "; is {0} meant?", &[Quoted(name)]),
+        None => say_names(reason, known),
     }
-    reason.say("; ")?;
-    say_names(reason, known)?;
-    reason.say(" is expected")
 }
 
 // A word is one that stands elsewhere, or in another version.
 fn say_elsewhere(reason: &mut Reason, faulty: &Faulty<'_>) -> Result<(), AllocError> {
-    if faulty.place < HEADER.len() {
-        return say_new_mode(reason, word_at(faulty.line, 1));
-    }
     let name = word_at(faulty.line, 0);
-    if is_optional(name) {
-        return reason.tell(&[
-            Quoted(name),
-            Text(" is a line of the header, and not in this place or version"),
-        ]);
-    }
-    if name == b"period".as_slice() {
-        return reason.say("\"period\" stands in the body from version 2 on, without disks");
-    }
-    say_new_kind(reason, faulty.line)
+    let (sentence, word) = if faulty.place < HEADER.len() {
+        new_mode(word_at(faulty.line, 1))
+    } else if is_optional(name) {
+        (
+            "{0} is a line of the header, and not in this place or version",
+            name,
+        )
+    } else if name == b"period".as_slice() {
+        (
+            "\"period\" stands in the body from version 2 on, without disks",
+            name,
+        )
+    } else {
+        new_kind(faulty.line)
+    };
+    fill(reason, sentence, &[Quoted(word)])
 }
 
 fn is_optional(name: &[u8]) -> bool {
@@ -165,21 +176,22 @@ fn is_optional(name: &[u8]) -> bool {
     false
 }
 
-fn say_new_mode(reason: &mut Reason, mode: &[u8]) -> Result<(), AllocError> {
+fn new_mode(mode: &[u8]) -> (&'static str, &[u8]) {
     if name_of(MODES[2]) == mode {
-        return reason.tell(&[Text("mode "), Quoted(mode), Text(" is of version 3")]);
+        ("mode {0} is of version 3", mode)
+    } else {
+        ("a word is not known here", mode)
     }
-    reason.say("a word is not known here")
 }
 
-fn say_new_kind(reason: &mut Reason, line: &[u8]) -> Result<(), AllocError> {
+fn new_kind(line: &[u8]) -> (&'static str, &[u8]) {
     for place in 0..9 {
         let word = word_at(line, place);
         if is_new_kind(word) {
-            return reason.tell(&[Text("kind "), Quoted(word), Text(" is of version 3")]);
+            return ("kind {0} is of version 3", word);
         }
     }
-    reason.say("a word is not known here")
+    ("a word is not known here", line)
 }
 
 fn is_new_kind(word: &[u8]) -> bool {
@@ -194,9 +206,9 @@ fn is_new_kind(word: &[u8]) -> bool {
 // A word is missing or left over.
 fn say_count(reason: &mut Reason, faulty: &Faulty<'_>) -> Result<(), AllocError> {
     match departure_of(faulty.line, faulty.place) {
-        Departure::Missing(form) => { reason.tell(&[Text("a word is missing: "), Text(form)]) }
+        Departure::Missing(form) => fill(reason, "a word is missing: {0}", &[Text(form)]),
         Departure::LeftOver(word, form) => {
-            reason.tell(&[Quoted(word), Text(" is left over: "), Text(form)])
+            fill(reason, "{0} is left over: {1}", &[Quoted(word), Text(form)])
         }
         _ => reason.say("a word is missing or left over"),
     }
@@ -206,7 +218,11 @@ fn say_count(reason: &mut Reason, faulty: &Faulty<'_>) -> Result<(), AllocError>
 fn say_no_number(reason: &mut Reason, faulty: &Faulty<'_>) -> Result<(), AllocError> {
     match departure_of(faulty.line, faulty.place) {
         Departure::NoNumber(word) => {
-            reason.tell(&[Quoted(word), Text(" is no number of 1 to 10 digits")])
+            fill(
+                reason,
+                "{0} is no number of 1 to 10 digits",
+                &[Quoted(word)],
+            )
         }
         _ if word_at(faulty.line, 0) == b"event".as_slice() => {
             reason.say("an event is 1 to 16 bytes, each two lower-case hexadecimal digits")
@@ -217,56 +233,42 @@ fn say_no_number(reason: &mut Reason, faulty: &Faulty<'_>) -> Result<(), AllocEr
 
 // A number is outside its range.
 fn say_range(reason: &mut Reason, given: i64, least: i64, most: i64) -> Result<(), AllocError> {
-    if most < least {
-        return reason.tell(&[
-            Text("\""),
-            Signed(given),
-            Text("\" is the number of none: the header has no such line"),
-        ]);
-    }
-    reason.tell(&[
-        Text("\""),
-        Signed(given),
-        Text("\" is outside "),
-        Signed(least),
-        Text(" to "),
-        Signed(most),
-    ])
-}
-
-// A name is refused.
-fn say_name(reason: &mut Reason, faulty: &Faulty<'_>, fault: NameFault) -> Result<(), AllocError> {
-    match departure_of(faulty.line, faulty.place) {
-        Departure::NoPort(_) => reason.say(PORT),
-        Departure::NoClient(_) => reason.say(NAME),
-        _ if fault == NameFault::NoColon => reason.say(PORT),
-        _ => reason.say(NAME),
-    }
-}
-
-// A number is in its range and none of the lawful ones.
-fn say_choice(reason: &mut Reason, faulty: &Faulty<'_>, given: u64) -> Result<(), AllocError> {
-    let name = word_at(faulty.line, 0);
-    if name == b"jackd".as_slice() {
-        return say_version(reason, given);
-    }
-    if name == b"period".as_slice() {
-        return reason.tell(&[Number(given), Text(" is no power of two")]);
-    }
-    if name == b"event".as_slice() {
-        return reason.say("an event's first byte is 80 to ff");
-    }
-    reason.tell(&[Number(given), Text(" bits are not 8, 16, 24 or 32")])
-}
-
-// The version is another one than those that are played.
-fn say_version(reason: &mut Reason, given: u64) -> Result<(), AllocError> {
-    let wrong = if given == 3 {
-        " is not played yet; 1 and 2 are"
+    let sentence = if most < least {
+        "\"{0}\" is the number of none: the header has no such line"
     } else {
-        " is none; 1, 2 and 3 are"
+        "\"{0}\" is outside {1} to {2}"
     };
-    reason.tell(&[Text("version "), Number(given), Text(wrong)])
+    fill(
+        reason,
+        sentence,
+        &[Signed(given), Signed(least), Signed(most)],
+    )
+}
+
+// What is said of a name that is refused.
+fn wrong_name(faulty: &Faulty<'_>, fault: NameFault) -> &'static str {
+    match departure_of(faulty.line, faulty.place) {
+        Departure::NoPort(_) => PORT,
+        Departure::NoClient(_) => NAME,
+        _ if fault == NameFault::NoColon => PORT,
+        _ => NAME,
+    }
+}
+
+// What is said of a number that is in its range and none of the lawful ones.
+fn wrong_choice(faulty: &Faulty<'_>, given: u64) -> &'static str {
+    let name = word_at(faulty.line, 0);
+    if name == b"jackd".as_slice() && given == 3 {
+        "version {0} is not played yet; 1 and 2 are"
+    } else if name == b"jackd".as_slice() {
+        "version {0} is none; 1, 2 and 3 are"
+    } else if name == b"period".as_slice() {
+        "{0} is no power of two"
+    } else if name == b"event".as_slice() {
+        "an event's first byte is 80 to ff"
+    } else {
+        "{0} bits are not 8, 16, 24 or 32"
+    }
 }
 
 // A lane's call asks for fewer cycles than the one before it, or has no segment.
@@ -276,38 +278,32 @@ fn say_lane(
     before: u32,
     given: u64,
 ) -> Result<(), AllocError> {
-    if before == 0 {
-        return reason.say("no \"run\" or \"freewheel\" line is open before this call of a lane");
-    }
-    reason.tell(&[
-        Text("cycle "),
-        Number(given),
-        Text(" falls behind "),
-        Number(u64::from(before)),
-        Text(", the call before of lane "),
-        Shown(word_at(faulty.line, 1)),
-    ])
-}
-
-// The line is one too many.
-fn say_many(reason: &mut Reason, what: Many, limit: u32) -> Result<(), AllocError> {
-    let things = match what {
-        Many::Calls => " calls",
-        Many::Opens => " calls of open",
-        Many::Segments => " segments",
-        Many::Periods => " period lines in the body",
-        Many::Recorders => " recorders",
-        Many::Events => " events",
-        Many::Disks => " disk files",
-        Many::Cycles => " cycles in all",
+    let sentence = if before == 0 {
+        "no \"run\" or \"freewheel\" line is open before this call of a lane"
+    } else {
+        "cycle {0} falls behind {1}, the call before of lane {2}"
     };
-    reason.tell(&[Text("more than "), Number(u64::from(limit)), Text(things)])
+    fill(
+        reason,
+        sentence,
+        &[
+            Number(given),
+            Number(u64::from(before)),
+            Shown(word_at(faulty.line, 1)),
+        ],
+    )
 }
 
-// The script, or what it plays, is too long.
-fn say_long(reason: &mut Reason, line: u32) -> Result<(), AllocError> {
-    if line == 0 {
-        return reason.say("more than 1048576 bytes are no script");
+// What is said of a line that is one too many.
+fn too_many(what: Many) -> &'static str {
+    match what {
+        Many::Calls => "more than {0} calls",
+        Many::Opens => "more than {0} calls of open",
+        Many::Segments => "more than {0} segments",
+        Many::Periods => "more than {0} period lines in the body",
+        Many::Recorders => "more than {0} recorders",
+        Many::Events => "more than {0} events",
+        Many::Disks => "more than {0} disk files",
+        Many::Cycles => "more than {0} cycles in all",
     }
-    reason.say("more than 2000000000 bytes of samples would be played")
 }

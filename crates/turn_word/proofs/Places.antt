@@ -1,12 +1,16 @@
 -- Places of a list that is written, and lists with the same items.
-use Rattle.std.proofs.Common.{◌≡◌, ◌≢◌, ℕ, zero, suc, ◌<◌, List, [], ◌∷◌, ◌++◌, length, get_or, set, slice_get, refl, ap, subst, sym, arith, is_some, true, Some, None}
-use Rattle.std.specs.Prelude.{Option}
+use Rattle.std.proofs.Common.{◌≡◌, ◌≢◌, ℕ, zero, suc, ◌<◌, List, [], ◌∷◌, ◌++◌, length, All, Contains, get_or, set, slice_get, refl, ap, ◌∙◌, subst, sym, arith, is_some, Bool, true, false, Some, None}
+use Rattle.std.specs.Prelude.{Option, IsSomeAnd}
+use Rattle.std.proofs.lemmas.List.Elements.{All-weaker, All-contains_itself, Contains-append_left, Contains-append_right}
+use Rattle.atomic_table.specs.Seated.{TableId}
+use Rattle.turn_word.specs.Handles.{new_pass}
+use Rattle.turn_word.specs.Turns.{Caller, Handle, IsCaller, pass_of}
 
 module _ {A : Type 0} where
   pub same_Some : (x y : A) → Some x ≡ Some y → x ≡ y
   same_Some x y e = cc
 
-  none_Some : (x : A) → None ≡ Some x → ⊥
+  pub none_Some : (x : A) → None ≡ Some x → ⊥
   none_Some x e = cc
 
   pub got_here : (l : List A) (i : ℕ) (a b : A) → slice_get (set l i a) i ≡ Some b → b ≡ a
@@ -37,3 +41,33 @@ same_each (x ∷ xs) (y ∷ ys) long each = (λ i. each 0 x (omega arith) i ∷ 
 pub from_some : {T : Type 0} (o : Option T) → is_some o ≡ true → (x : T) × (o ≡ Some x)
 from_some (Some x) e = (x, refl)
 from_some None e = absurd (cc)
+
+pub from_some_and : {T : Type 0} (o : Option T) (P : T → Type 0) → IsSomeAnd o P → (x : T) × (o ≡ Some x) × P x
+from_some_and (Some x) P p = (x, refl, p)
+from_some_and None P p = absurd p
+
+-- what one of two lists has stands in both
+pub left_seen : {T : Type 0} (xs ys both seen : List T) → both ≡ xs ++ ys → All (Contains xs) seen → All (Contains both) seen
+left_seen {T} xs ys both seen is all = subst (λ (l : List T). All (Contains l) seen) (sym is) (All-weaker (Contains xs) (Contains (xs ++ ys)) (λ x. Contains-append_left xs ys x) seen all)
+
+pub right_seen : {T : Type 0} (xs ys both seen : List T) → both ≡ xs ++ ys → seen ≡ ys → All (Contains both) seen
+right_seen {T} xs ys both seen is same = subst (λ (l : List T). All (Contains l) seen) (sym is)
+    (subst (All (Contains (xs ++ ys))) (sym same) (All-weaker (Contains ys) (Contains (xs ++ ys)) (λ x. Contains-append_right xs ys x) ys (All-contains_itself ys)))
+
+pub own_seen : {T : Type 0} (xs seen : List T) → xs ≡ seen → All (Contains xs) seen
+own_seen xs seen is = subst (λ l. All (Contains l) seen) (sym is) (All-contains_itself seen)
+
+-- a pass that is new, and a caller by its fields
+pub of_new : {T : Type 0} (table : TableId) (count : ℕ) (opened : Option T) (i : ℕ) (p : Handle T) → p ≡ new_pass table count opened i → p ≡ pass_of table count opened i p
+of_new table count opened i p is = is ∙ ap (pass_of table count opened i) (sym is)
+
+pub of_caller : {T : Type 0} (table : TableId) (count : ℕ) (opened : Option T) (c : Caller T) → c.table ≡ table → c.passes ≡ count → c.opened ≡ opened → IsCaller table count opened c
+of_caller table count opened c is many known k = record { table = is k; passes = many k; opened = known k; called = c.called }
+
+pub if_not_true : (b : Bool) → (b ≡ true → ⊥) → b ≡ false
+if_not_true true not = absurd (not refl)
+if_not_true false not = refl
+
+pub if_not_false : (b : Bool) → (b ≡ false → ⊥) → b ≡ true
+if_not_false true not = refl
+if_not_false false not = absurd (not refl)

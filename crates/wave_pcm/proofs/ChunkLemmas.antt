@@ -12,7 +12,7 @@ use Rattle.session_model.specs.Samples.{number_of}
 use Rattle.session_model.specs.WaveFiles.{cut_format_fault, format_of, u32_at}
 use Rattle.session_model.specs.WaveOpening.{at_data, at_other, ended, forward, opened, Opened, skip, Step, step, tested}
 use Rattle.session_model.specs.WaveOpening.Step.{Go, Stop}
-use Rattle.session_laws.proofs.WaveFormats.{slice_front}
+use Rattle.wave_laws.proofs.WaveFormats.{slice_front}
 use Rattle.wave_pcm.specs.declared.chunks.Next.{Next}
 use Rattle.wave_pcm.specs.declared.chunks.Next.TheVariants.{Chunk, Data}
 use Rattle.wave_pcm.specs.Openings.{Begins, IsOnward, Opens}

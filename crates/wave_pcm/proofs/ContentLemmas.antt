@@ -9,8 +9,8 @@ use Rattle.jack_types.specs.declared.files.WaveFault.TheVariants.{BadFormat, End
 use Rattle.jack_types.specs.declared.files.Field.TheVariants.{Size}
 use Rattle.session_model.specs.Samples.{number_of}
 use Rattle.session_model.specs.WaveFiles.{cut_format_fault, failed_test, format_of, is_extended, is_width, needed, Test, test_fault, u16_at, u32_at}
-use Rattle.session_laws.proofs.WaveFormats.{failed_test-front, format_of-front, slice_front}
-use Rattle.session_laws.proofs.WaveFaults.{cond_none}
+use Rattle.wave_laws.proofs.WaveFormats.{failed_test-front, format_of-front, slice_front}
+use Rattle.wave_laws.proofs.WaveFaults.{cond_none}
 use Rattle.wave_pcm.specs.Contents.{IsTestedBy}
 use Rattle.wave_pcm.specs.Readings.{IsReadable}
 use Rattle.wave_pcm.specs.Steps.{Drops}

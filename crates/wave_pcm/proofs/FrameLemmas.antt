@@ -12,8 +12,8 @@ use Rattle.jack_types.specs.declared.files.WaveFault.{WaveFault}
 use Rattle.session_model.specs.Samples.{samples_of, width}
 use Rattle.session_model.specs.WaveFiles.{frame_bytes, IsWave, wave_fault, whole_frames}
 use Rattle.session_model.specs.WaveOpening.{fault_in, opened, Opened, wave_in}
-use Rattle.session_laws.proofs.WaveForward.{fault_in-opened, wave-opened}
-use Rattle.session_laws.proofs.WaveSamples.{length-samples_of, samples_of-append, width_some}
+use Rattle.wave_laws.proofs.WaveForward.{fault_in-opened, wave-opened}
+use Rattle.wave_laws.proofs.WaveSamples.{length-samples_of, samples_of-append, width_some}
 use Rattle.wave_pcm.specs.Openings.{Opens}
 use Rattle.wave_pcm.specs.Readings.{AreBytes, Gave, Gives, IsReadable, left_of, SameReading, Reading}
 

@@ -9,7 +9,7 @@ use Rattle.std.proofs.lemmas.Nat.{div-add-mod', div-mul-add}
 use Rattle.jack_types.specs.declared.files.Format.{Format}
 use Rattle.session_model.specs.Samples.{sample, samples_of, stored, up}
 use Rattle.session_model.specs.WaveFiles.{frame_bytes}
-use Rattle.session_laws.proofs.WaveSamples.{get_or-samples_of, length-samples_of}
+use Rattle.wave_laws.proofs.WaveSamples.{get_or-samples_of, length-samples_of}
 use Rattle.wave_pcm.proofs.FrameLemmas.{block_gives}
 use Rattle.wave_pcm.specs.Readings.{Gives, GivesPairs, IsReadable, left_of}
 

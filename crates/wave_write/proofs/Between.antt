@@ -1,7 +1,7 @@
 -- Headers of which each byte is that of one of two headers.
 use Rattle.std.proofs.Common.{◌≡◌, ℕ, zero, suc, List, [], ◌∷◌, ◌++◌, length, take, drop, ◌⊎◌, inl, inr, Some, refl, ap, arith}
 use Rattle.std.specs.Prelude.{slice_get}
-use Rattle.wave_write.specs.Tapes.{IsBetween}
+use Rattle.driver_words.specs.Tapes.{IsBetween}
 
 abbrev pub AreBetween : List ℕ → List ℕ → List ℕ → Type 0
 AreBetween [] [] [] = Unit {0}

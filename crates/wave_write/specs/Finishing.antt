@@ -4,7 +4,7 @@ use Rattle.std.specs.Prelude.{◌≡◌, ℕ, List, ◌++◌, drop, Option}
 use Rattle.jack_types.specs.declared.files.Format.{Format}
 use Rattle.jack_host.specs.Told.{BothTold}
 use Rattle.session_model.specs.WaveFiles.{file_text, opening_text}
-use Rattle.wave_write.specs.Tapes.{AreInOrder, IsHeaded}
+use Rattle.driver_words.specs.Tapes.{AreInOrder, IsHeaded}
 
 -- an unfinished file, where the store tells
 abbrev pub Opens : Format → List ℕ → Type 0

@@ -5,7 +5,7 @@ ghost use Rattle.std.specs.Int.RustNames.{FitsSigned};
 ghost use Rattle.jack_host.specs.Causes.{HasCause, Rose};
 ghost use Rattle.session_model.specs.Samples.{bytes_of, down, up, width};
 ghost use Rattle.session_model.specs.WaveFiles.{IsFormat, IsWave, opening_text, wave_text};
-ghost use Rattle.wave_write.specs.Tapes.{AreInOrder, Gained, GainedPart, HasFront, HasSamples, HasUnfinished, IsCut, SameFile};
+ghost use Rattle.driver_words.specs.Tapes.{AreInOrder, Gained, GainedPart, HasFront, HasSamples, HasUnfinished, IsCut, SameFile};
 
 use crate::finishing::{complete, write};
 use crate::header::opening;
@@ -31,7 +31,7 @@ pub struct WaveOut<W: Store> {
 }
 
 impl<W: Store> Model for WaveOut<W> {
-    ghost use Rattle.wave_write.specs.Tapes.{IsKept, Tape};
+    ghost use Rattle.driver_words.specs.Tapes.{IsKept, Tape};
 
     ghost Value = { Tape };
 

@@ -7,7 +7,7 @@ use client_benches::{ClientBench, Rooms};
 use client_kinds::{Guest, Shape};
 use guests::HoldGuest;
 use jack_host::Gate;
-use jack_types::{Kind, Link, Memory, Moment, Score, TransportState};
+use jack_types::{Kind, Link, Moment, Score, TransportState};
 use std::alloc::Global;
 use std::process::Abort;
 use std::sync::atomic::{AtomicU64, Ordering};
@@ -91,15 +91,20 @@ impl Guest for Busy {
     }
 }
 
+// The rooms of a link.
+fn rooms(alloc: Global) -> Result<Rooms, Fail> {
+    Rooms::new(alloc).map_err(|_| Fail::from("out of memory"))
+}
+
 // A wave of four frames, which is handed on over the two links that go out from its node.
-fn wave(alloc: Global) -> Result<Bench, Memory>
+fn wave(alloc: Global) -> Result<Bench, Fail>
     ensures { IfOk result (λ bench. (has_room_at bench 0 ≡ true) × (has_room_at bench 1 ≡ true)) }
 {
     let kind = Kind::Tone {
         half: 2,
         level: 1000,
     };
-    let mut bench = ClientBench::new(alloc, kind, 4)?;
+    let mut bench = ClientBench::new(alloc, kind, 4).map_err(|_| "out of memory")?;
     let ports = Shape {
         inputs: 0,
         outputs: 1,
@@ -108,15 +113,15 @@ fn wave(alloc: Global) -> Result<Bench, Memory>
     bench.begin(&MOMENT, ports, 2);
     bench.carry(0, Some(0));
     bench.carry(1, Some(0));
-    bench.link(0, Rooms::new(alloc)?);
-    bench.link(1, Rooms::new(alloc)?);
+    bench.link(0, rooms(alloc)?);
+    bench.link(1, rooms(alloc)?);
     Ok(bench)
 }
 
 // What comes over the first incoming link, so many times.
-fn times(alloc: Global, factor: i32) -> Result<Bench, Memory> {
+fn times(alloc: Global, factor: i32) -> Result<Bench, Fail> {
     let kind = Kind::Gain { factor, shift: 0 };
-    let mut bench = ClientBench::new(alloc, kind, 4)?;
+    let mut bench = ClientBench::new(alloc, kind, 4).map_err(|_| "out of memory")?;
     let ports = Shape {
         inputs: 1,
         outputs: 1,
@@ -128,9 +133,10 @@ fn times(alloc: Global, factor: i32) -> Result<Bench, Memory> {
 }
 
 // A bench with a guest that tells so much work. It hears nothing.
-fn seated(alloc: Global, work: u32) -> Result<Bench, Memory> {
-    let mut bench = ClientBench::new(alloc, Kind::Guest { guest: 0 }, 4)?;
-    let guest = HoldGuest::new(alloc, Score::Hold)?;
+fn seated(alloc: Global, work: u32) -> Result<Bench, Fail> {
+    let kind = Kind::Guest { guest: 0 };
+    let mut bench = ClientBench::new(alloc, kind, 4).map_err(|_| "out of memory")?;
+    let guest = HoldGuest::new(alloc, Score::Hold).map_err(|_| "out of memory")?;
     bench.lend(Busy { guest, work });
     let ports = Shape {
         inputs: 1,
@@ -190,7 +196,7 @@ fn plays_two_plans<R: Threads + Sync + AllocGlobal + Abort>(
     benches.push_reserved(times(alloc, 2)?);
     benches.push_reserved(times(alloc, 3)?);
     benches.push_reserved(times(alloc, 4)?);
-    let mut ensemble = Ensemble::new(alloc, 4, 4, steals)?;
+    let mut ensemble = Ensemble::new(alloc, 4, 4, steals).map_err(|_| "out of memory")?;
     let first = play(rt, &mut ensemble, benches.as_mut_slice(), 1, 2, loads[0]);
     assert_eq!(rt;
         given(&benches),
@@ -256,7 +262,7 @@ fn shares_beside<R: Threads + Sync + AllocGlobal + Abort>(rt: &R, work: u32) -> 
     benches.push_reserved(times(alloc, 2)?);
     benches.push_reserved(times(alloc, 3)?);
     benches.push_reserved(seated(alloc, work)?);
-    let mut ensemble = Ensemble::new(alloc, 4, 4, false)?;
+    let mut ensemble = Ensemble::new(alloc, 4, 4, false).map_err(|_| "out of memory")?;
     let shared = play(rt, &mut ensemble, benches.as_mut_slice(), 1, 2, LIGHT);
     assert_eq!(rt;
         given(&benches),

@@ -1,6 +1,6 @@
 use Rattle.std.proofs.Common.{arith, ◌≡◌, ◌+◌, suc, Err, sym, ◌∙◌, ap, subst}
 use Rattle.std.proofs.lemmas.Option.{same_Some}
-use Rattle.wave_write.specs.Tapes.{SameFile, Tape}
+use Rattle.driver_words.specs.Tapes.{SameFile, Tape}
 use Rattle.wave_pcm.specs.Readings.{SameReading}
 use Rattle.cycle_driver.specs.Gears.{Gear, driver_of}
 use Rattle.driver_laws.specs.Cycling.{CyclesMany, MayCycle}

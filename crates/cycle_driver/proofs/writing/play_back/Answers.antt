@@ -1,8 +1,8 @@
 use Rattle.std.proofs.Common.{◌≡◌, ◌+◌, ◌*◌, ◌≤◌, List, ◌++◌, length, ℤ, sym, ◌∙◌, ap, subst}
 use Rattle.std.specs.Prelude.{OnErr, OnOk}
 use Rattle.session_model.specs.Samples.{bytes_of, width}
-use Rattle.session_laws.proofs.WaveSamples.{length-bytes_of}
-use Rattle.wave_write.specs.Tapes.{Gained, HasSamples, HasUnfinished}
+use Rattle.wave_laws.proofs.WaveSamples.{length-bytes_of}
+use Rattle.driver_words.specs.Tapes.{Gained, HasSamples, HasUnfinished}
 use Rattle.cycle_works.proofs.PlaybackLemmas.{length-mixed}
 use Rattle.cycle_works.proofs.ResultLemmas.{on-ok}
 use Rattle.cycle_driver.proofs.writing.play_back.Goals as goal

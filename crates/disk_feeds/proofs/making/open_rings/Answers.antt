@@ -1,5 +1,5 @@
 use Rattle.std.proofs.Common.{◌*◌, ◌^◌, subst}
-use Rattle.record_ring.specs.Rings.{IsOpening}
+use Rattle.driver_words.specs.Rings.{IsOpening}
 use Rattle.disk_feeds.proofs.OpeningLemmas.{opened-more}
 use Rattle.disk_feeds.proofs.making.open_rings.Goals as goal
 

@@ -3,7 +3,7 @@ use Rattle.play_words.specs.Words.{Play}
 use Rattle.session_run.specs.Seen.{stores_in}
 use Rattle.jack_control.specs.Files.{AreOut}
 use Rattle.jack_control.specs.Plays.{made_by}
-use Rattle.jack_control.proofs.MadeLemmas.{HaveMade, left-cause, left-fronts, left-out, left-rest, made-all, made-count, made-fronts, made-more, made-none, made-touches, on_err}
+use Rattle.jack_control.proofs.MadeLemmas.{HaveMade, left-cause, left-empties, left-fronts, left-out, left-rest, made-all, made-count, made-fronts, made-more, made-none, made-touches, on_err}
 use Rattle.jack_control.proofs.NameLemmas.{front-more, front-next}
 use Rattle.jack_control.proofs.files.make_files.Goals as goal
 
@@ -15,6 +15,10 @@ returns-in_err-make_file-clause-cut g c =
 pub returns-in_err-make_file-clause-fronts : goal.returns-in_err-make_file-clause-fronts
 returns-in_err-make_file-clause-fronts g c =
     left-fronts g.G.Guest.sound (g.H.Host.files c.args.host.now) (g.H.Host.files c.args.host.now) (g.H.Host.files c.make_file.new.host) [] c.names.inside.playback.now c.args.session.now c.args.session.now c.make_file.new.session (g.H.Host.write_faults c.args.host.now) (g.H.Host.write_faults c.make_file.new.host) (made-none g.G.Guest.sound (g.H.Host.files c.args.host.now) c.args.session.now c.requires.attaching.0 c.requires.attaching.1 c.requires.attaching.2) c.in_err-make_file.ensures.cut
+
+pub returns-in_err-make_file-clause-empties : goal.returns-in_err-make_file-clause-empties
+returns-in_err-make_file-clause-empties g c =
+    left-empties g.G.Guest.sound (g.H.Host.files c.args.host.now) (g.H.Host.files c.args.host.now) (g.H.Host.files c.make_file.new.host) [] c.names.inside.playback.now c.args.session.now c.args.session.now c.make_file.new.session (g.H.Host.write_faults c.args.host.now) (g.H.Host.write_faults c.make_file.new.host) (made-none g.G.Guest.sound (g.H.Host.files c.args.host.now) c.args.session.now c.requires.attaching.0 c.requires.attaching.1 c.requires.attaching.2) c.in_err-make_file.ensures.cut
 
 pub returns-in_err-make_file-clause-others : goal.returns-in_err-make_file-clause-others
 returns-in_err-make_file-clause-others g c =
@@ -72,6 +76,10 @@ pub returns-in_err-make_file-2-clause-fronts : goal.returns-in_err-make_file-2-c
 returns-in_err-make_file-2-clause-fronts g c =
     left-fronts g.G.Guest.sound (g.H.Host.files c.args.host.now) (g.H.Host.files c.loop-recorder.host) (g.H.Host.files c.make_file-in-loop-recorder.new.host) (take (suc c.loop-recorder.recorder) (made_by c.args.names.now)) c.record.result.now c.args.session.now c.loop-recorder.session c.make_file-in-loop-recorder.new.session (g.H.Host.write_faults c.loop-recorder.host) (g.H.Host.write_faults c.make_file-in-loop-recorder.new.host) c.loop-recorder.invariant.made c.in_err-make_file-2.ensures.cut
 
+pub returns-in_err-make_file-2-clause-empties : goal.returns-in_err-make_file-2-clause-empties
+returns-in_err-make_file-2-clause-empties g c =
+    left-empties g.G.Guest.sound (g.H.Host.files c.args.host.now) (g.H.Host.files c.loop-recorder.host) (g.H.Host.files c.make_file-in-loop-recorder.new.host) (take (suc c.loop-recorder.recorder) (made_by c.args.names.now)) c.record.result.now c.args.session.now c.loop-recorder.session c.make_file-in-loop-recorder.new.session (g.H.Host.write_faults c.loop-recorder.host) (g.H.Host.write_faults c.make_file-in-loop-recorder.new.host) c.loop-recorder.invariant.made c.in_err-make_file-2.ensures.cut
+
 pub returns-in_err-make_file-2-clause-others : goal.returns-in_err-make_file-2-clause-others
 returns-in_err-make_file-2-clause-others g c =
     let left = left-out g.G.Guest.sound (g.H.Host.files c.args.host.now) (g.H.Host.files c.loop-recorder.host) (g.H.Host.files c.make_file-in-loop-recorder.new.host) (take (suc c.loop-recorder.recorder) (made_by c.args.names.now)) c.record.result.now c.args.session.now c.loop-recorder.session c.make_file-in-loop-recorder.new.session (g.H.Host.write_faults c.loop-recorder.host) (g.H.Host.write_faults c.make_file-in-loop-recorder.new.host) c.loop-recorder.invariant.made (made_by c.args.names.now) (suc c.loop-recorder.recorder) refl (front-next c.args.names.now.playback c.args.names.now.records c.loop-recorder.recorder (let test = c.loop-recorder-test.true in let end = c.loop-recorder.invariant.end in omega (arith, test, end)) ∙ ap (λ (name : List ℕ). take (suc c.loop-recorder.recorder) (made_by c.args.names.now) ++ name ∷ []) (sym c.record.ensures)) c.in_err-make_file-2.ensures.cut in
@@ -123,6 +131,9 @@ returns-clause-fronts g c = made-fronts g.G.Guest.sound (g.H.Host.files c.args.h
 
 pub returns-clause-others : goal.returns-clause-others
 returns-clause-others g c = made-touches (g.H.Host.files c.args.host.now) (g.H.Host.files c.loop-recorder.host) (suc c.loop-recorder.recorder) (made_by c.args.names.now) c.loop-recorder.invariant.made.others
+
+pub returns-clause-empties : goal.returns-clause-empties
+returns-clause-empties g c = c.loop-recorder.invariant.made.empties
 
 pub returns-clause-same : goal.returns-clause-same
 returns-clause-same g c = c.loop-recorder.invariant.made.rest

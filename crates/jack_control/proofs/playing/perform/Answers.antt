@@ -20,7 +20,7 @@ use Rattle.jack_control.proofs.playing.perform.Goals as goal
 pub returns-then-is_err-clause-made : goal.returns-then-is_err-clause-made
 returns-then-is_err-clause-made g c =
     let cut = err_of c.make_files.result (sym c.if-is_err.ensures.value) c.make_files.ensures.cut in
-    record { made = cut.0; out = cut.1; touches = cut.2 }
+    record { made = cut.0; out = cut.1; touches = cut.2; empties = c.make_files.ensures.empties }
 
 pub returns-then-is_err-clause-write : goal.returns-then-is_err-clause-write
 returns-then-is_err-clause-write g c e = err_of c.make_files.result (sym c.if-is_err.ensures.value) c.make_files.ensures.cause
@@ -51,7 +51,7 @@ returns-then-is_err-clause-fronts g c given is none =
 
 pub returns-in-Err-clause-fronts : goal.returns-in-Err-clause-fronts
 returns-in-Err-clause-fronts g c given is none =
-    cut-broken g.G.Guest.sound (g.H.Host.files c.args.host.now) (g.H.Host.files c.make_files.new.host) (made_by c.args.names.now) c.args.names.now.records c.args.session c.make_files.new.session (made-all g.G.Guest.sound c.make_files.result (g.H.Host.files c.args.host.now) (g.H.Host.files c.make_files.new.host) (made_by c.args.names.now) c.args.names.now.records c.args.session c.make_files.new.session c.if-is_err.ensures.value refl c.make_files.ensures.made c.make_files.ensures.others c.requires.recorders c.make_files.ensures.same.as_many)
+    cut-broken g.G.Guest.sound (g.H.Host.files c.args.host.now) (g.H.Host.files c.make_files.new.host) (made_by c.args.names.now) c.args.names.now.records c.args.session c.make_files.new.session (made-all g.G.Guest.sound c.make_files.result (g.H.Host.files c.args.host.now) (g.H.Host.files c.make_files.new.host) (made_by c.args.names.now) c.args.names.now.records c.args.session c.make_files.new.session c.if-is_err.ensures.value refl c.make_files.ensures.made c.make_files.ensures.others c.make_files.ensures.empties c.requires.recorders c.make_files.ensures.same.as_many)
     c.run-session.result.0 c.run-session.ensures.stores c.run-session.ensures.recorders c.run-session.ensures.script given (is.own.script ∙ sym (ap (λ (gear : Gear). gear.script) c.make_files.ensures.same.gear))
     (λ serial. at-err c.run-session.result.1 _ c.in-Err.is (c.run-session.ensures.fault serial) given (given-made g.G.Guest.sound c.args.session c.make_files.new.session c.make_files.ensures.same.gear given is))
     (λ threads.
@@ -63,13 +63,13 @@ returns-in-Err-clause-fronts g c given is none =
 
 pub returns-in-Err-clause-made : goal.returns-in-Err-clause-made
 returns-in-Err-clause-made g c =
-    made-behind g.G.Guest.sound (g.H.Host.files c.args.host.now) (g.H.Host.files c.make_files.new.host) (made_by c.args.names.now) c.args.names.now.records c.args.session c.make_files.new.session (made-all g.G.Guest.sound c.make_files.result (g.H.Host.files c.args.host.now) (g.H.Host.files c.make_files.new.host) (made_by c.args.names.now) c.args.names.now.records c.args.session c.make_files.new.session c.if-is_err.ensures.value refl c.make_files.ensures.made c.make_files.ensures.others c.requires.recorders c.make_files.ensures.same.as_many)
+    made-behind g.G.Guest.sound (g.H.Host.files c.args.host.now) (g.H.Host.files c.make_files.new.host) (made_by c.args.names.now) c.args.names.now.records c.args.session c.make_files.new.session (made-all g.G.Guest.sound c.make_files.result (g.H.Host.files c.args.host.now) (g.H.Host.files c.make_files.new.host) (made_by c.args.names.now) c.args.names.now.records c.args.session c.make_files.new.session c.if-is_err.ensures.value refl c.make_files.ensures.made c.make_files.ensures.others c.make_files.ensures.empties c.requires.recorders c.make_files.ensures.same.as_many)
     c.run-session.result.0 c.run-session.ensures.stores c.run-session.ensures.recorders
 
 pub returns-in-Err-end-clause-fronts : goal.returns-in-Err-end-clause-fronts
 returns-in-Err-end-clause-fronts g c given is none =
     let here = given-made g.G.Guest.sound c.args.session c.make_files.new.session c.make_files.ensures.same.gear given is in
-    cut-broken g.G.Guest.sound (g.H.Host.files c.args.host.now) (g.H.Host.files c.make_files.new.host) (made_by c.args.names.now) c.args.names.now.records c.args.session c.make_files.new.session (made-all g.G.Guest.sound c.make_files.result (g.H.Host.files c.args.host.now) (g.H.Host.files c.make_files.new.host) (made_by c.args.names.now) c.args.names.now.records c.args.session c.make_files.new.session c.if-is_err.ensures.value refl c.make_files.ensures.made c.make_files.ensures.others c.requires.recorders c.make_files.ensures.same.as_many)
+    cut-broken g.G.Guest.sound (g.H.Host.files c.args.host.now) (g.H.Host.files c.make_files.new.host) (made_by c.args.names.now) c.args.names.now.records c.args.session c.make_files.new.session (made-all g.G.Guest.sound c.make_files.result (g.H.Host.files c.args.host.now) (g.H.Host.files c.make_files.new.host) (made_by c.args.names.now) c.args.names.now.records c.args.session c.make_files.new.session c.if-is_err.ensures.value refl c.make_files.ensures.made c.make_files.ensures.others c.make_files.ensures.empties c.requires.recorders c.make_files.ensures.same.as_many)
     c.end.new.self (later-trans (stores_in c.make_files.new.session) (stores_in c.run-session.result.0) (stores_in c.end.new.self) c.run-session.ensures.stores c.end.ensures.stores) (c.end.ensures.recorders ∙ c.run-session.ensures.recorders) (c.end.ensures.script ∙ c.run-session.ensures.script) given (is.own.script ∙ sym (ap (λ (gear : Gear). gear.script) c.make_files.ensures.same.gear))
     (λ serial.
     at-err c.end.result _ c.in-Err-end.is (c.end.ensures.fault (subst (λ (s : Script). IsNone s.header.threads) (sym c.run-session.ensures.script) serial)) given
@@ -83,27 +83,27 @@ returns-in-Err-end-clause-fronts g c given is none =
 
 pub returns-in-Err-end-clause-made : goal.returns-in-Err-end-clause-made
 returns-in-Err-end-clause-made g c =
-    made-behind g.G.Guest.sound (g.H.Host.files c.args.host.now) (g.H.Host.files c.make_files.new.host) (made_by c.args.names.now) c.args.names.now.records c.args.session c.make_files.new.session (made-all g.G.Guest.sound c.make_files.result (g.H.Host.files c.args.host.now) (g.H.Host.files c.make_files.new.host) (made_by c.args.names.now) c.args.names.now.records c.args.session c.make_files.new.session c.if-is_err.ensures.value refl c.make_files.ensures.made c.make_files.ensures.others c.requires.recorders c.make_files.ensures.same.as_many)
+    made-behind g.G.Guest.sound (g.H.Host.files c.args.host.now) (g.H.Host.files c.make_files.new.host) (made_by c.args.names.now) c.args.names.now.records c.args.session c.make_files.new.session (made-all g.G.Guest.sound c.make_files.result (g.H.Host.files c.args.host.now) (g.H.Host.files c.make_files.new.host) (made_by c.args.names.now) c.args.names.now.records c.args.session c.make_files.new.session c.if-is_err.ensures.value refl c.make_files.ensures.made c.make_files.ensures.others c.make_files.ensures.empties c.requires.recorders c.make_files.ensures.same.as_many)
     c.end.new.self (later-trans (stores_in c.make_files.new.session) (stores_in c.run-session.result.0) (stores_in c.end.new.self) c.run-session.ensures.stores c.end.ensures.stores) (c.end.ensures.recorders ∙ c.run-session.ensures.recorders)
 
 pub returns-clause-explained : goal.returns-clause-explained
-returns-clause-explained g c given is none = explain-whole g.G.Guest.sound (g.H.Host.files c.args.host.now) (g.H.Host.files c.make_files.new.host) (made_by c.args.names.now) c.args.names.now.records c.args.session c.make_files.new.session (made-all g.G.Guest.sound c.make_files.result (g.H.Host.files c.args.host.now) (g.H.Host.files c.make_files.new.host) (made_by c.args.names.now) c.args.names.now.records c.args.session c.make_files.new.session c.if-is_err.ensures.value refl c.make_files.ensures.made c.make_files.ensures.others c.requires.recorders c.make_files.ensures.same.as_many) c.make_files.ensures.same.gear c.run-session.result.0 c.end.new.self (at-ok c.run-session.result.1 _ c.in_default.is c.run-session.ensures.runs) c.in_default-end.ensures.ends c.in_default-end.ensures.told (later-trans (stores_in c.make_files.new.session) (stores_in c.run-session.result.0) (stores_in c.end.new.self) c.run-session.ensures.stores c.end.ensures.stores) (c.end.ensures.recorders ∙ c.run-session.ensures.recorders) c.end.ensures.script given is none c.a_session_is_explained.ensures
+returns-clause-explained g c given is none = explain-whole g.G.Guest.sound (g.H.Host.files c.args.host.now) (g.H.Host.files c.make_files.new.host) (made_by c.args.names.now) c.args.names.now.records c.args.session c.make_files.new.session (made-all g.G.Guest.sound c.make_files.result (g.H.Host.files c.args.host.now) (g.H.Host.files c.make_files.new.host) (made_by c.args.names.now) c.args.names.now.records c.args.session c.make_files.new.session c.if-is_err.ensures.value refl c.make_files.ensures.made c.make_files.ensures.others c.make_files.ensures.empties c.requires.recorders c.make_files.ensures.same.as_many) c.make_files.ensures.same.gear c.run-session.result.0 c.end.new.self (at-ok c.run-session.result.1 _ c.in_default.is c.run-session.ensures.runs) c.in_default-end.ensures.ends c.in_default-end.ensures.told (later-trans (stores_in c.make_files.new.session) (stores_in c.run-session.result.0) (stores_in c.end.new.self) c.run-session.ensures.stores c.end.ensures.stores) (c.end.ensures.recorders ∙ c.run-session.ensures.recorders) c.end.ensures.script given is none c.a_session_is_explained.ensures
 
 pub returns-clause-serial : goal.returns-clause-serial
-returns-clause-serial g c given is none = serial-whole g.G.Guest.sound (g.H.Host.files c.args.host.now) (g.H.Host.files c.make_files.new.host) (made_by c.args.names.now) c.args.names.now.records c.args.session c.make_files.new.session (made-all g.G.Guest.sound c.make_files.result (g.H.Host.files c.args.host.now) (g.H.Host.files c.make_files.new.host) (made_by c.args.names.now) c.args.names.now.records c.args.session c.make_files.new.session c.if-is_err.ensures.value refl c.make_files.ensures.made c.make_files.ensures.others c.requires.recorders c.make_files.ensures.same.as_many) c.make_files.ensures.same.gear c.run-session.result.0 c.end.new.self (at-ok c.run-session.result.1 _ c.in_default.is c.run-session.ensures.runs) c.in_default-end.ensures.ends c.in_default-end.ensures.told (later-trans (stores_in c.make_files.new.session) (stores_in c.run-session.result.0) (stores_in c.end.new.self) c.run-session.ensures.stores c.end.ensures.stores) (c.end.ensures.recorders ∙ c.run-session.ensures.recorders) c.end.ensures.script given is none
+returns-clause-serial g c given is none = serial-whole g.G.Guest.sound (g.H.Host.files c.args.host.now) (g.H.Host.files c.make_files.new.host) (made_by c.args.names.now) c.args.names.now.records c.args.session c.make_files.new.session (made-all g.G.Guest.sound c.make_files.result (g.H.Host.files c.args.host.now) (g.H.Host.files c.make_files.new.host) (made_by c.args.names.now) c.args.names.now.records c.args.session c.make_files.new.session c.if-is_err.ensures.value refl c.make_files.ensures.made c.make_files.ensures.others c.make_files.ensures.empties c.requires.recorders c.make_files.ensures.same.as_many) c.make_files.ensures.same.gear c.run-session.result.0 c.end.new.self (at-ok c.run-session.result.1 _ c.in_default.is c.run-session.ensures.runs) c.in_default-end.ensures.ends c.in_default-end.ensures.told (later-trans (stores_in c.make_files.new.session) (stores_in c.run-session.result.0) (stores_in c.end.new.self) c.run-session.ensures.stores c.end.ensures.stores) (c.end.ensures.recorders ∙ c.run-session.ensures.recorders) c.end.ensures.script given is none
 
 pub returns-clause-whole : goal.returns-clause-whole
 returns-clause-whole g c =
     out-behind (g.H.Host.files c.make_files.new.host) (made_by c.args.names.now) (stores_in c.make_files.new.session) (stores_in c.end.new.self)
-    (made-all g.G.Guest.sound c.make_files.result (g.H.Host.files c.args.host.now) (g.H.Host.files c.make_files.new.host) (made_by c.args.names.now) c.args.names.now.records c.args.session c.make_files.new.session c.if-is_err.ensures.value refl c.make_files.ensures.made c.make_files.ensures.others c.requires.recorders c.make_files.ensures.same.as_many).out
+    (made-all g.G.Guest.sound c.make_files.result (g.H.Host.files c.args.host.now) (g.H.Host.files c.make_files.new.host) (made_by c.args.names.now) c.args.names.now.records c.args.session c.make_files.new.session c.if-is_err.ensures.value refl c.make_files.ensures.made c.make_files.ensures.others c.make_files.ensures.empties c.requires.recorders c.make_files.ensures.same.as_many).out
     (later-trans (stores_in c.make_files.new.session) (stores_in c.run-session.result.0) (stores_in c.end.new.self) c.run-session.ensures.stores c.end.ensures.stores)
 
 pub returns-clause-fronts : goal.returns-clause-fronts
-returns-clause-fronts g c given is none = cut-whole g.G.Guest.sound (g.H.Host.files c.args.host.now) (g.H.Host.files c.make_files.new.host) (made_by c.args.names.now) c.args.names.now.records c.args.session c.make_files.new.session (made-all g.G.Guest.sound c.make_files.result (g.H.Host.files c.args.host.now) (g.H.Host.files c.make_files.new.host) (made_by c.args.names.now) c.args.names.now.records c.args.session c.make_files.new.session c.if-is_err.ensures.value refl c.make_files.ensures.made c.make_files.ensures.others c.requires.recorders c.make_files.ensures.same.as_many) c.make_files.ensures.same.gear c.run-session.result.0 c.end.new.self (at-ok c.run-session.result.1 _ c.in_default.is c.run-session.ensures.runs) c.in_default-end.ensures.ends c.in_default-end.ensures.told (later-trans (stores_in c.make_files.new.session) (stores_in c.run-session.result.0) (stores_in c.end.new.self) c.run-session.ensures.stores c.end.ensures.stores) (c.end.ensures.recorders ∙ c.run-session.ensures.recorders) c.end.ensures.script given is none c.all_is_played_back.ensures c.blocks_kept_are_recorded.ensures.samples
+returns-clause-fronts g c given is none = cut-whole g.G.Guest.sound (g.H.Host.files c.args.host.now) (g.H.Host.files c.make_files.new.host) (made_by c.args.names.now) c.args.names.now.records c.args.session c.make_files.new.session (made-all g.G.Guest.sound c.make_files.result (g.H.Host.files c.args.host.now) (g.H.Host.files c.make_files.new.host) (made_by c.args.names.now) c.args.names.now.records c.args.session c.make_files.new.session c.if-is_err.ensures.value refl c.make_files.ensures.made c.make_files.ensures.others c.make_files.ensures.empties c.requires.recorders c.make_files.ensures.same.as_many) c.make_files.ensures.same.gear c.run-session.result.0 c.end.new.self (at-ok c.run-session.result.1 _ c.in_default.is c.run-session.ensures.runs) c.in_default-end.ensures.ends c.in_default-end.ensures.told (later-trans (stores_in c.make_files.new.session) (stores_in c.run-session.result.0) (stores_in c.end.new.self) c.run-session.ensures.stores c.end.ensures.stores) (c.end.ensures.recorders ∙ c.run-session.ensures.recorders) c.end.ensures.script given is none c.all_is_played_back.ensures c.blocks_kept_are_recorded.ensures.samples
 
 pub returns-clause-made : goal.returns-clause-made
 returns-clause-made g c =
-    made-behind g.G.Guest.sound (g.H.Host.files c.args.host.now) (g.H.Host.files c.make_files.new.host) (made_by c.args.names.now) c.args.names.now.records c.args.session c.make_files.new.session (made-all g.G.Guest.sound c.make_files.result (g.H.Host.files c.args.host.now) (g.H.Host.files c.make_files.new.host) (made_by c.args.names.now) c.args.names.now.records c.args.session c.make_files.new.session c.if-is_err.ensures.value refl c.make_files.ensures.made c.make_files.ensures.others c.requires.recorders c.make_files.ensures.same.as_many)
+    made-behind g.G.Guest.sound (g.H.Host.files c.args.host.now) (g.H.Host.files c.make_files.new.host) (made_by c.args.names.now) c.args.names.now.records c.args.session c.make_files.new.session (made-all g.G.Guest.sound c.make_files.result (g.H.Host.files c.args.host.now) (g.H.Host.files c.make_files.new.host) (made_by c.args.names.now) c.args.names.now.records c.args.session c.make_files.new.session c.if-is_err.ensures.value refl c.make_files.ensures.made c.make_files.ensures.others c.make_files.ensures.empties c.requires.recorders c.make_files.ensures.same.as_many)
     c.end.new.self (later-trans (stores_in c.make_files.new.session) (stores_in c.run-session.result.0) (stores_in c.end.new.self) c.run-session.ensures.stores c.end.ensures.stores) (c.end.ensures.recorders ∙ c.run-session.ensures.recorders)
 
 pub returns-clause-capture : goal.returns-clause-capture

@@ -25,7 +25,7 @@ returns-clause-played g c =
     (λ put files scores first is.
     explained g.G.Guest.sound scores c.args.names.now c.args.session (printed_of (session_of g.G.Guest.sound c.perform-session.result.0)) (stores_in c.perform-session.result.0) files (g.H.Host.files c.args.host.now) (g.H.Host.files c.perform-session.new.host) (g.H.Host.files c.hand_back-handed.new.host) (g.H.Host.files c.back.new.self)
     (g.K.Sink.content c.args.out.now) (g.K.Sink.content c.conclude-reported.new.out) (text_in (session_of g.G.Guest.sound c.perform-session.result.0)) first c.perform-session.ensures.others
-    (apart-front (made_by c.args.names.now) c.args.names.now.disks c.requires.apart.1.1) c.hand_back-handed.ensures.stand c.back.ensures.files is
+    (apart-front (made_by c.args.names.now) c.args.names.now.disks c.requires.apart.1.1) (ok-known c.hand_back-handed.result _ (sym c.is_ok.ensures.value ∙ put.1) c.hand_back-handed.ensures.whole (ok-known c.perform-session.result.1 _ put.0 c.perform-session.ensures.wanted)) c.back.ensures.files is
     (ok-known c.perform-session.result.1 _ put.0 c.perform-session.ensures.whole) (ok-known c.perform-session.result.1 _ put.0 c.perform-session.ensures.explained) (ok-known c.perform-session.result.1 _ put.0 c.perform-session.ensures.serial)
     (subst (λ (report : List ℕ). Gains (g.K.Sink.content c.args.out.now) (g.K.Sink.content c.conclude-reported.new.out) report) c.hand_back-handed.ensures.report put.2))
     c.conclude-reported.ensures.put
@@ -35,7 +35,7 @@ returns-clause-cut g c =
     err-any c.conclude-reported.result
     (λ files scores first is.
     cut g.G.Guest.sound scores c.args.names.now c.args.session (printed_of (session_of g.G.Guest.sound c.perform-session.result.0)) (stores_in c.perform-session.result.0) files (g.H.Host.files c.args.host.now) (g.H.Host.files c.perform-session.new.host) (g.H.Host.files c.hand_back-handed.new.host) (g.H.Host.files c.back.new.self) first
-    (apart-front (made_by c.args.names.now) c.args.names.now.disks c.requires.apart.1.1) c.perform-session.ensures.made c.hand_back-handed.ensures.stand c.back.ensures.files is c.perform-session.ensures.fronts)
+    (apart-front (made_by c.args.names.now) c.args.names.now.disks c.requires.apart.1.1) c.perform-session.ensures.made c.hand_back-handed.ensures.part c.back.ensures.files is c.perform-session.ensures.fronts)
 
 -- the session was performed and its files stand, so the whole report would explain them
 pub returns-clause-out_cut : goal.returns-clause-out_cut
@@ -51,7 +51,7 @@ returns-clause-out_cut g c =
           report = text;
           explained = explained g.G.Guest.sound scores c.args.names.now c.args.session (printed_of (session_of g.G.Guest.sound c.perform-session.result.0)) (stores_in c.perform-session.result.0) files (g.H.Host.files c.args.host.now) (g.H.Host.files c.perform-session.new.host) (g.H.Host.files c.hand_back-handed.new.host) (g.H.Host.files c.back.new.self)
               (Some []) (Some text) text first c.perform-session.ensures.others
-              (apart-front (made_by c.args.names.now) c.args.names.now.disks c.requires.apart.1.1) c.hand_back-handed.ensures.stand c.back.ensures.files is
+              (apart-front (made_by c.args.names.now) c.args.names.now.disks c.requires.apart.1.1) (ok-known c.hand_back-handed.result _ (sym c.is_ok.ensures.value ∙ broken.0.1) c.hand_back-handed.ensures.whole (ok-known c.perform-session.result.1 _ broken.0.0 c.perform-session.ensures.wanted)) c.back.ensures.files is
               (ok-known c.perform-session.result.1 _ broken.0.0 c.perform-session.ensures.whole) (ok-known c.perform-session.result.1 _ broken.0.0 c.perform-session.ensures.explained) (ok-known c.perform-session.result.1 _ broken.0.0 c.perform-session.ensures.serial) refl;
           front = broken.2.0;
           puts = subst (λ (report : List ℕ). Gains (g.K.Sink.content c.args.out.now) (g.K.Sink.content c.conclude-reported.new.out) (take broken.2.0 report)) c.hand_back-handed.ensures.report broken.2.1;
@@ -71,13 +71,13 @@ returns-clause-read g c is =
 
 pub returns-clause-write : goal.returns-clause-write
 returns-clause-write g c is =
-    rose-written c.hand_back-handed.result (stores_in c.perform-session.result.0) c.is_ok.result _ _ _ _ _ _ _ c.is_ok.ensures.value c.perform-session.ensures.later c.hand_back-handed.ensures.cause c.hand_back-handed.ensures.faults
+    rose-written c.hand_back-handed.result (stores_in c.perform-session.result.0) c.is_ok.result _ _ _ _ _ _ _ c.is_ok.ensures.value c.perform-session.ensures.later c.hand_back-handed.ensures.later c.hand_back-handed.ensures.failed c.hand_back-handed.ensures.faults
     c.back.ensures.writes c.perform-session.ensures.write (c.conclude-reported.ensures.write is)
 
 pub returns-clause-others : goal.returns-clause-others
 returns-clause-others g c =
     others-kept (g.H.Host.files c.args.host.now) (g.H.Host.files c.perform-session.new.host) (g.H.Host.files c.hand_back-handed.new.host) (g.H.Host.files c.back.new.self) (made_by c.args.names.now) (stores_in c.perform-session.result.0)
-    (apart-front (made_by c.args.names.now) c.args.names.now.disks c.requires.apart.1.1) c.perform-session.ensures.made c.hand_back-handed.ensures.stand c.back.ensures.files
+    (apart-front (made_by c.args.names.now) c.args.names.now.disks c.requires.apart.1.1) c.perform-session.ensures.made c.hand_back-handed.ensures.part c.back.ensures.files
 
 -- no read of the session failed, and the host took up a count of nothing
 pub returns-clause-reads : goal.returns-clause-reads
@@ -99,5 +99,5 @@ pub returns-clause-writes : goal.returns-clause-writes
 returns-clause-writes g c =
     ok-behind c.conclude-reported.result
     (λ put.
-    c.back.ensures.writes ∙ ok-known c.hand_back-handed.result _ (sym c.is_ok.ensures.value ∙ put.1) c.hand_back-handed.ensures.cause.kept ∙ ok-known c.perform-session.result.1 _ put.0 c.perform-session.ensures.kept)
+    c.back.ensures.writes ∙ ok-known c.hand_back-handed.result _ (sym c.is_ok.ensures.value ∙ put.1) c.hand_back-handed.ensures.kept (ok-known c.perform-session.result.1 _ put.0 c.perform-session.ensures.wanted) ∙ ok-known c.perform-session.result.1 _ put.0 c.perform-session.ensures.kept)
     c.conclude-reported.ensures.put

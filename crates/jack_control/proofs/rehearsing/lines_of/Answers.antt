@@ -1,7 +1,7 @@
 use Rattle.std.proofs.Common.{◌≡◌, ◌∙◌, List, None, Some, ap, map, refl, string_bytes, subst, sym}
 use Rattle.std.specs.Prelude.{codes}
 use Rattle.jack_host.specs.Files.{bytes_under}
-use Rattle.jack_host.specs.MemoryHost.{host_files}
+use Rattle.host_memory.specs.MemoryHost.{host_files}
 use Rattle.play_words.specs.Words.{IsPlay}
 use Rattle.rehearsal_model.specs.Rehearsals.{rehearsal, rehearsal_capture, rehearsal_format, rehearsal_script}
 use Rattle.session_model.specs.Kinds.{Sound}

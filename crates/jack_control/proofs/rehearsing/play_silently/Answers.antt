@@ -1,4 +1,4 @@
-use Rattle.std.proofs.Common.{◌∙◌, None, ap, map, take}
+use Rattle.std.proofs.Common.{◌∙◌, None, ap, map, sym, take}
 use Rattle.control_desk.specs.Desks.{Desk}
 use Rattle.run_laws.specs.Sessions.{printed_of}
 use Rattle.run_laws.specs.Told.{text_in}
@@ -6,6 +6,7 @@ use Rattle.session_run.specs.Seen.{session_of, stores_in}
 use Rattle.session_run.proofs.PassedLemmas.{at-ok}
 use Rattle.jack_control.specs.Plays.{made_by}
 use Rattle.jack_control.proofs.CutLemmas.{apart-front, apart-take, explained}
+use Rattle.jack_control.proofs.HandedLemmas.{ok_of}
 use Rattle.jack_control.proofs.RehearsalLemmas.{history-of}
 use Rattle.jack_control.proofs.rehearsing.play_silently.Goals as goal
 
@@ -20,7 +21,7 @@ pub returns-in-Ok-clause-played : goal.returns-in-Ok-clause-played
 returns-in-Ok-clause-played g c =
     explained g.G.Guest.sound (map g.G.Guest.sound (map g.G.Guest.score c.args.guests.items)) c.args.names.now c.in_ok-session.session (printed_of (session_of g.G.Guest.sound c.perform-session.result.0)) (stores_in c.perform-session.result.0) (g.H.Host.files c.args.host.now) (g.H.Host.files c.open_session.new.host) (g.H.Host.files c.perform-session.new.host) (g.H.Host.files c.hand_back-handed.new.host) (g.H.Host.files c.back.new.self)
     None None (text_in (session_of g.G.Guest.sound c.perform-session.result.0)) c.open_session.ensures.files c.perform-session.ensures.others
-    (apart-front (made_by c.args.names.now) c.args.names.now.disks c.requires.apart.1.1) c.hand_back-handed.ensures.stand c.back.ensures.files c.in_ok-session.ensures.opened
+    (apart-front (made_by c.args.names.now) c.args.names.now.disks c.requires.apart.1.1) (ok_of c.hand_back-handed.result (sym c.is_err.ensures.value ∙ c.if-is_err.false) c.hand_back-handed.ensures.whole (at-ok c.perform-session.result.1 _ c.in_default.is c.perform-session.ensures.wanted)) c.back.ensures.files c.in_ok-session.ensures.opened
     (at-ok c.perform-session.result.1 _ c.in_default.is c.perform-session.ensures.whole) (at-ok c.perform-session.result.1 _ c.in_default.is c.perform-session.ensures.explained) (at-ok c.perform-session.result.1 _ c.in_default.is c.perform-session.ensures.serial) tt
 
 pub returns-in-Ok-clause-history : goal.returns-in-Ok-clause-history

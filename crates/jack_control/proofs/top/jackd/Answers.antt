@@ -6,7 +6,7 @@ use Rattle.jack_types.specs.declared.replies.Row.{Row}
 use Rattle.play_inputs.specs.declared.status.Status.{Status}
 use Rattle.play_inputs.specs.declared.status.Status.TheVariants.{NoMemory, Ok}
 use Rattle.play_words.specs.Checks.{Check}
-use Rattle.session_model.specs.Checking.{IsFirstWrong}
+use Rattle.check_model.specs.Checking.{IsFirstWrong}
 use Rattle.jack_host.specs.Causes.{Rose}
 use Rattle.play_words.specs.Words.{Play}
 use Rattle.play_inputs.specs.Answers.{HasInput, HasRefusal, IfInput, IsDoneOrNoMemory, LacksInput, PlayStatus}

@@ -1,5 +1,5 @@
 use Rattle.std.proofs.Common.{[], ap, get_or, refl, sym, ◌∙◌}
-use Rattle.midi_wiring.specs.Hearings.{carried_at}
+use Rattle.driver_words.specs.Hearings.{carried_at}
 use Rattle.midi_stage.proofs.laws.what_is_carried.Goals as goal
 
 pub returns-clause-first : goal.returns-clause-first

@@ -1,5 +1,5 @@
 use Rattle.std.proofs.Common.{◌+◌, ◌≤◌, subst, sym}
-use Rattle.session_laws.proofs.GrammarBodies.{period_in}
+use Rattle.grammar_laws.proofs.GrammarBodies.{period_in}
 use Rattle.driver_laws.specs.Drivers.{greatest_period, turn_of}
 use Rattle.script_needs.proofs.LineLemmas.{greatest-from}
 use Rattle.script_needs.proofs.PeriodLemmas.{greatest-lawful, turns-within}

@@ -1,4 +1,4 @@
-use Rattle.session_laws.proofs.SameReportLemmas.{turns-few}
+use Rattle.report_texts.proofs.SameReportLemmas.{turns-few}
 use Rattle.script_needs.proofs.limits.cycles_are_few.Goals as goal
 
 pub returns : goal.returns

@@ -1,5 +1,5 @@
 use Rattle.std.proofs.Common.{◌+◌}
-use Rattle.session_laws.proofs.GrammarBodies.{period_in}
+use Rattle.grammar_laws.proofs.GrammarBodies.{period_in}
 use Rattle.session_model.specs.Grammar.{IsPeriod}
 use Rattle.driver_laws.specs.Drivers.{greatest_period, turn_of}
 use Rattle.script_needs.proofs.PeriodLemmas.{greatest-lawful, phases-lawful, turns-have, turns-within}

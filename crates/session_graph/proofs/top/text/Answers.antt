@@ -22,13 +22,13 @@ returns-in_err-told-clause-fault g c =
     let spelled = subst (λ (asking : Asking). IfBytes (g.H.Host.files c.args.host.now) asking.script (λ bytes. Spells (take 1048577 bytes) c.in_ok-script.script)) c.asked.view_is c.in_ok-script.ensures.script in
     kept-err c.from_residual-in_err-told.result _ (HasFault (g.H.Host.files c.args.host.now) c.args.asked.now) c.from_residual-in_err-told.ensures.1
     (front-fault (g.H.Host.files c.args.host.now) (g.H.Host.files c.read_script.new.host) c.in_ok-script.ensures.files c.args.asked.now c.in_ok-script.script spelled
-    (within c.asked.inside.cycle c.args.asked.now.cycle c.cycles_of.result c.in_ok-script.script c.if-asked-cycles_of.false c.cycles_of.ensures.count (ap (λ (asking : Asking). asking.cycle) c.asked.view_is)) _ c.in_err-told.ensures.fault)
+    (within c.asked.inside.cycle c.args.asked.now.cycle c.cycles_of.result c.in_ok-script.script c.if-asked-cycles_of.false c.cycles_of.ensures (ap (λ (asking : Asking). asking.cycle) c.asked.view_is)) _ c.in_err-told.ensures.fault)
 
 pub returns-in_err-told-clause-read : goal.returns-in_err-told-clause-read
 returns-in_err-told-clause-read g c is =
     let spelled = subst (λ (asking : Asking). IfBytes (g.H.Host.files c.args.host.now) asking.script (λ bytes. Spells (take 1048577 bytes) c.in_ok-script.script)) c.asked.view_is c.in_ok-script.ensures.script in
     lacks-report (g.H.Host.files c.args.host.now) (g.H.Host.files c.read_script.new.host) c.in_ok-script.ensures.files c.args.asked.now c.in_ok-script.script spelled
-    (within c.asked.inside.cycle c.args.asked.now.cycle c.cycles_of.result c.in_ok-script.script c.if-asked-cycles_of.false c.cycles_of.ensures.count (ap (λ (asking : Asking). asking.cycle) c.asked.view_is)) _ _ _ c.in_ok-script.ensures.kept
+    (within c.asked.inside.cycle c.args.asked.now.cycle c.cycles_of.result c.in_ok-script.script c.if-asked-cycles_of.false c.cycles_of.ensures (ap (λ (asking : Asking). asking.cycle) c.asked.view_is)) _ _ _ c.in_ok-script.ensures.kept
     (c.in_err-told.ensures.read (passed-on c.from_residual-in_err-told.result _ ReadFault c.from_residual-in_err-told.ensures.1 is))
 
 pub returns-in_err-graph-clause-fault : goal.returns-in_err-graph-clause-fault
@@ -36,7 +36,7 @@ returns-in_err-graph-clause-fault g c =
     let spelled = subst (λ (asking : Asking). IfBytes (g.H.Host.files c.args.host.now) asking.script (λ bytes. Spells (take 1048577 bytes) c.in_ok-script.script)) c.asked.view_is c.in_ok-script.ensures.script in
     kept-err c.from_residual-in_err-graph.result _ (HasFault (g.H.Host.files c.args.host.now) c.args.asked.now) c.from_residual-in_err-graph.ensures.1
     (replay-fault-at (g.H.Host.files c.args.host.now) (g.H.Host.files c.read_script.new.host) c.in_ok-script.ensures.files c.args.asked.now c.in_ok-script.script spelled
-    (within c.asked.inside.cycle c.args.asked.now.cycle c.cycles_of.result c.in_ok-script.script c.if-asked-cycles_of.false c.cycles_of.ensures.count (ap (λ (asking : Asking). asking.cycle) c.asked.view_is))
+    (within c.asked.inside.cycle c.args.asked.now.cycle c.cycles_of.result c.in_ok-script.script c.if-asked-cycles_of.false c.cycles_of.ensures (ap (λ (asking : Asking). asking.cycle) c.asked.view_is))
     c.in_ok-told.told.calls.items c.in_ok-told.told.cycle c.in_ok-told.ensures.cycle c.in_ok-told.ensures.front _ c.deref.result.now c.asked.inside.cycle c.deref.ensures.value
     (ap (λ (asking : Asking). asking.cycle) c.asked.view_is) c.in_err-graph.ensures.fault)
 
@@ -44,7 +44,7 @@ pub returns-clause-shown : goal.returns-clause-shown
 returns-clause-shown g c =
     let spelled = subst (λ (asking : Asking). IfBytes (g.H.Host.files c.args.host.now) asking.script (λ bytes. Spells (take 1048577 bytes) c.in_ok-script.script)) c.asked.view_is c.in_ok-script.ensures.script in
     shown (g.H.Host.files c.args.host.now) (g.H.Host.files c.read_script.new.host) c.in_ok-script.ensures.files c.args.asked.now c.in_ok-script.script spelled
-    (within c.asked.inside.cycle c.args.asked.now.cycle c.cycles_of.result c.in_ok-script.script c.if-asked-cycles_of.false c.cycles_of.ensures.count (ap (λ (asking : Asking). asking.cycle) c.asked.view_is))
+    (within c.asked.inside.cycle c.args.asked.now.cycle c.cycles_of.result c.in_ok-script.script c.if-asked-cycles_of.false c.cycles_of.ensures (ap (λ (asking : Asking). asking.cycle) c.asked.view_is))
     c.in_ok-told.told.calls.items c.in_ok-told.told.cycle c.in_ok-told.ensures.cycle c.in_ok-told.ensures.front (state_of c.in_ok-graph.graph) (string_bytes c.in_ok-text.text)
     (subst (λ (lines : List CallLine). IsUsed c.in_ok-script.script lines c.in_ok-told.told.cycle.number (state_of c.in_ok-graph.graph)) c.deref.ensures.value c.in_ok-graph.ensures.used)
     (subst (λ (asking : Asking). IsTextOf asking.dot c.in_ok-told.told.cycle (state_of c.in_ok-graph.graph) (string_bytes c.in_ok-text.text)) c.asked.view_is c.in_ok-text.ensures)

@@ -1,7 +1,11 @@
-use Rattle.std.proofs.Common.{ap, ◌∙◌, length, take_at}
+use Rattle.std.proofs.Common.{List, sym, ◌∙◌, subst, take_at}
+use Rattle.control_desk.specs.Desks.{Desk}
+use Rattle.turn_word.specs.Turns.{Handle}
+use Rattle.desk_turn.specs.Lanes.{HaveRun}
 use Rattle.session_threads.proofs.joins.wait_alone.Goals as goal
 
 pub returns : goal.returns
 returns g c =
-    let did = c.run_lanes.ensures in
-    take_at c.run_lanes.new.passes _ c.args.passes.len (ap length did ∙ c.deref_mut.ensures.len) ∙ did ∙ c.deref_mut.ensures.value
+    let did = c.run_lanes.ensures in let new : List (Handle Desk) = c.run_lanes.new.passes in
+    subst (λ (l : List (Handle Desk)). HaveRun c.args.passes.items l) (sym (take_at new _ c.args.passes.len (did.many ∙ c.deref_mut.ensures.len)))
+    (subst (λ (l : List (Handle Desk)). HaveRun l new) c.deref_mut.ensures.value did)

@@ -1,11 +1,11 @@
 use Rattle.std.proofs.Common.{◌≡◌, ◌+◌, suc, true, Err, ◌∙◌, ap, subst, arith}
 use Rattle.thread_laws.specs.Segments.{WheeledMany}
-use Rattle.session_threads.specs.Insides.{held, seen_with}
-use Rattle.session_threads.proofs.ReelLemmas.{on-err}
-use Rattle.session_threads.proofs.StayLemmas.{stays-trans}
-use Rattle.session_threads.proofs.StoreLemmas.{rose-behind}
-use Rattle.session_threads.proofs.TurningLemmas.{caught}
+use Rattle.session_works.specs.Insides.{held, seen_with}
+use Rattle.session_works.proofs.StayLemmas.{stays-trans}
+use Rattle.session_works.proofs.StoreLemmas.{rose-behind}
+use Rattle.session_works.proofs.TurningLemmas.{caught}
 use Rattle.session_threads.proofs.WheelLemmas.{fails-once, goes-once, goes-run, goes-sound, next-wheel, rose-later}
+use Rattle.session_works.proofs.ResultLemmas.{on-err}
 use Rattle.session_threads.proofs.joins.wheel_cycles.Goals as goal
 
 pub cycle-requires-clause-able : goal.cycle-requires-clause-able
@@ -23,7 +23,7 @@ cycle-requires-clause-period g c κs within = (next-wheel g.G.Guest.sound c.args
 pub loop-preserved : goal.loop-preserved
 loop-preserved g c = record {
   wheeled = λ desk sound. let next : suc c.loop.counter ≡ c.loop.counter + 1 = omega arith in subst (λ n. WheeledMany n (seen_with g.G.Guest.sound desk c.args.driver.now c.args.recorders.now.items) (seen_with g.G.Guest.sound desk c.cycle.new.driver c.cycle.new.recorders.items)) next (seen_with g.G.Guest.sound desk c.loop.driver c.loop.recorders.items, c.loop.invariant.wheeled desk sound, goes-once (seen_with g.G.Guest.sound desk c.loop.driver c.loop.recorders.items) (seen_with g.G.Guest.sound desk c.cycle.new.driver c.cycle.new.recorders.items) (c.in_ok-cycle.ensures.goes desk (c.loop.invariant.sound desk sound)));
-  sound = λ desk sound. goes-sound c.blocks_leave_the_parts.ensures.sound c.blocks_leave_the_parts.ensures.empty c.a_cycle_leaves_the_parts.ensures (seen_with g.G.Guest.sound desk c.loop.driver c.loop.recorders.items) (seen_with g.G.Guest.sound desk c.cycle.new.driver c.cycle.new.recorders.items) (c.loop.invariant.sound desk sound) (next-wheel g.G.Guest.sound c.args.driver.now c.loop.driver c.args.cycles c.loop.counter true c.requires.next c.loop-test.true c.loop.invariant.count (c.loop.invariant.stays c.requires.able.desk).script c.loop.invariant.set).left (c.in_ok-cycle.ensures.goes desk (c.loop.invariant.sound desk sound));
+  sound = λ desk sound. goes-sound c.cycles_and_blocks.ensures.blocks c.cycles_and_blocks.ensures.empty c.cycles_and_blocks.ensures.cycle (seen_with g.G.Guest.sound desk c.loop.driver c.loop.recorders.items) (seen_with g.G.Guest.sound desk c.cycle.new.driver c.cycle.new.recorders.items) (c.loop.invariant.sound desk sound) (next-wheel g.G.Guest.sound c.args.driver.now c.loop.driver c.args.cycles c.loop.counter true c.requires.next c.loop-test.true c.loop.invariant.count (c.loop.invariant.stays c.requires.able.desk).script c.loop.invariant.set).left (c.in_ok-cycle.ensures.goes desk (c.loop.invariant.sound desk sound));
   stays = λ desk. (stays-trans g.G.Guest.sound {S = g.row.S.Denot} {W = g.row.W.Denot} {G = g.row.G.Denot} (record { desk = desk; driver = c.args.driver.now; recorders = c.args.recorders.now }) (record { desk = desk; driver = c.loop.driver; recorders = c.loop.recorders }) (record { desk = desk; driver = c.cycle.new.driver; recorders = c.cycle.new.recorders }) (c.loop.invariant.stays desk) (c.cycle.ensures.stays desk));
   count = let one = goes-run (seen_with g.G.Guest.sound c.requires.able.desk c.loop.driver c.loop.recorders.items) (seen_with g.G.Guest.sound c.requires.able.desk c.cycle.new.driver c.cycle.new.recorders.items) (c.in_ok-cycle.ensures.goes c.requires.able.desk (c.loop.invariant.sound c.requires.able.desk c.requires.able.sound)) in let count = c.loop.invariant.count in omega (arith, one, count);
   within = let low = c.loop-test.true in omega (arith, low);

@@ -1,10 +1,10 @@
 use Rattle.std.proofs.Common.{◌≡◌, ◌+◌, ◌≤◌}
 use Rattle.control_desk.specs.Desks.{Desk}
-use Rattle.cycle_driver.specs.Gears.{driver_of}
+use Rattle.session_works.specs.Drivers.{driver_of}
 use Rattle.driver_laws.specs.Drivers.{run}
 use Rattle.serial_laws.specs.Steps.{IsSound}
 use Rattle.thread_laws.specs.Segments.{WheeledMany}
-use Rattle.session_threads.specs.Insides.{ArePaired, Stays, parts_with, seen_with}
+use Rattle.session_works.specs.Insides.{ArePaired, Stays, parts_with, seen_with}
 use Rattle.session_threads.proofs.joins.wheel_cycles.Given as goal
 
 abbrev pub invariant-loop : goal.invariant-loop

@@ -1,7 +1,7 @@
 use Rattle.std.proofs.Common.{ap}
 use Rattle.control_desk.specs.Desks.{Desk}
-use Rattle.cycle_driver.specs.Gears.{Gear}
-use Rattle.session_threads.specs.Insides.{seen, seen_with}
+use Rattle.session_works.specs.Drivers.{Gear}
+use Rattle.session_works.specs.Insides.{seen, seen_with}
 use Rattle.session_threads.proofs.meetings.begin.Goals as goal
 
 pub returns-clause-opens : goal.returns-clause-opens
@@ -11,7 +11,7 @@ returns-clause-opens g c = record {
   groups = record {
     runs = c.begin_group.ensures.runs;
     group = c.begin_group.ensures.done;
-    desk = c.note_desk.ensures;
+    desk = c.kept_by_type.ensures;
     published = c.begin_group.ensures.published;
     same = ap (λ (desk : Desk). seen_with g.G.Guest.sound desk c.args.works.now.driver c.args.works.now.recorders.items) c.begin_group.ensures.same;
   };

@@ -1,17 +1,17 @@
 use Rattle.std.proofs.Common.{◌≡◌, refl, sym, ◌∙◌, ap, subst, arith, vec_items}
 use Rattle.control_desk.specs.Desks.{cycles_before}
 use Rattle.driver_laws.specs.Drivers.{run}
-use Rattle.cycle_driver.specs.Gears.{Gear, driver_of}
-use Rattle.session_threads.specs.Insides.{seen}
-use Rattle.session_threads.proofs.BesideLemmas.{files-same}
+use Rattle.session_works.specs.Drivers.{Gear, driver_of}
+use Rattle.session_works.specs.Insides.{seen}
+use Rattle.session_works.proofs.BesideLemmas.{files-same}
 use Rattle.session_threads.proofs.PhaseLemmas.{may-begin, next-of, opens-sound, phase-fails, phase-whole, read-between, stays-over, write-between}
-use Rattle.session_threads.proofs.OutcomeLemmas.{at-err, at-ok}
-use Rattle.session_threads.proofs.SegmentLemmas.{of-phase}
-use Rattle.session_threads.proofs.StayLemmas.{stays-begun}
+use Rattle.session_works.proofs.SegmentLemmas.{of-phase}
+use Rattle.session_works.proofs.StayLemmas.{stays-begun}
+use Rattle.session_works.proofs.ResultLemmas.{at-err, at-ok}
 use Rattle.session_threads.proofs.phases.run_phase.Goals as goal
 
 pub begin-requires-clause-may : goal.begin-requires-clause-may
-begin-requires-clause-may g c = let of = (of-phase c.segments_are_the_phases.ensures.there c.args.rig.works.driver.script c.args.rig.works.driver.script c.args.phase c.args.segment refl c.requires.there) in may-begin (seen g.G.Guest.sound {S = g.row.S.Denot} {W = g.row.W.Denot} {G = g.row.G.Denot} c.args.rig.works) c.args.phase of.phase c.requires.sound c.requires.ran of.there
+begin-requires-clause-may g c = let of = (of-phase c.phases_and_cycles.ensures.segments c.args.rig.works.driver.script c.args.rig.works.driver.script c.args.phase c.args.segment refl c.requires.there) in may-begin (seen g.G.Guest.sound {S = g.row.S.Denot} {W = g.row.W.Denot} {G = g.row.G.Denot} c.args.rig.works) c.args.phase of.phase c.requires.sound c.requires.ran of.there
 
 pub run_segment-rig-requires-clause-sound : goal.run_segment-rig-requires-clause-sound
 run_segment-rig-requires-clause-sound g c κs within = opens-sound c.args.phase (seen g.G.Guest.sound {S = g.row.S.Denot} {W = g.row.W.Denot} {G = g.row.G.Denot} c.args.rig.works) (seen g.G.Guest.sound {S = g.row.S.Denot} {W = g.row.W.Denot} {G = g.row.G.Denot} c.begin.new.works) c.requires.sound c.begin.ensures.opens
@@ -24,7 +24,7 @@ run_segment-rig-requires-clause-begun g c κs within = (let phase = c.begin.ensu
 
 pub run_segment-rig-requires-clause-next : goal.run_segment-rig-requires-clause-next
 run_segment-rig-requires-clause-next g c κs within some =
-    next-of c.cycles_of_a_phase.ensures.there c.cycles_of_a_phase.ensures.is (driver_of g.G.Guest.sound c.begin.new.works.driver) c.args.phase c.args.segment (of-phase c.segments_are_the_phases.ensures.there c.args.rig.works.driver.script c.begin.new.works.driver.script c.args.phase c.args.segment (ap (λ (gear : Gear). gear.script) c.begin.ensures.driver) c.requires.there)
+    next-of c.phases_and_cycles.ensures.there c.phases_and_cycles.ensures.is (driver_of g.G.Guest.sound c.begin.new.works.driver) c.args.phase c.args.segment (of-phase c.phases_and_cycles.ensures.segments c.args.rig.works.driver.script c.begin.new.works.driver.script c.args.phase c.args.segment (ap (λ (gear : Gear). gear.script) c.begin.ensures.driver) c.requires.there)
     (subst (λ (gear : Gear). run (driver_of g.G.Guest.sound gear) ≡ cycles_before gear.script c.args.phase) (sym c.begin.ensures.driver) c.requires.ran.cycles) (ap (λ (gear : Gear). gear.set) c.begin.ensures.driver) some
 
 pub run_segment-rig-requires-clause-ring : goal.run_segment-rig-requires-clause-ring

@@ -2,7 +2,7 @@ use Rattle.std.proofs.Common.{◌≡◌, ◌≤◌, length}
 use Rattle.session_model.specs.Explanations.{Given}
 use Rattle.run_laws.specs.Runs.{AtPhase, RanPhases}
 use Rattle.serial_laws.specs.Steps.{IsSound}
-use Rattle.session_threads.specs.Insides.{Stays, parts_of, seen}
+use Rattle.session_works.specs.Insides.{Stays, parts_of, seen}
 use Rattle.session_threads.proofs.phases.run_phases.Given as goal
 
 abbrev pub invariant-loop-phase : goal.invariant-loop-phase

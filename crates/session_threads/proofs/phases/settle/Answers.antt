@@ -1,8 +1,8 @@
 use Rattle.std.proofs.Common.{◌<◌, List, length, slice_get, sym, ◌∙◌, ap, subst, vec_items}
-use Rattle.cycle_driver.specs.Gears.{Gear}
+use Rattle.session_works.specs.Drivers.{Gear}
 use Rattle.recorder_files.specs.Recorders.{Recording}
-use Rattle.session_threads.specs.Insides.{seen, seen_with}
-use Rattle.session_threads.proofs.StayLemmas.{stays-met, stays-trans}
+use Rattle.session_works.specs.Insides.{seen, seen_with}
+use Rattle.session_works.proofs.StayLemmas.{stays-met, stays-trans}
 use Rattle.session_threads.proofs.phases.settle.Goals as goal
 
 pub renew_rings-requires : goal.renew_rings-requires

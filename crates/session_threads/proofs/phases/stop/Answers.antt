@@ -1,5 +1,5 @@
-use Rattle.session_threads.specs.Insides.{seen_with}
-use Rattle.session_threads.proofs.StayLemmas.{stays-met, stays-trans}
+use Rattle.session_works.specs.Insides.{seen_with}
+use Rattle.session_works.proofs.StayLemmas.{stays-met, stays-trans}
 use Rattle.session_threads.proofs.phases.stop.Goals as goal
 
 pub returns-clause-stopped : goal.returns-clause-stopped

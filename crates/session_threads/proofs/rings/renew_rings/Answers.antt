@@ -1,14 +1,14 @@
 use Rattle.std.proofs.Common.{◌≡◌, ◌<◌, ◌≤◌, ◌+◌, List, length, set, sym, ◌∙◌, ap, ap₂, subst}
 use Rattle.std.proofs.lemmas.Option.{slice_get-get_or, slice_get_read}
-use Rattle.record_ring.specs.Rings.{Sending}
-use Rattle.cycle_driver.specs.Gears.{Gear}
+use Rattle.driver_words.specs.Rings.{Sending}
+use Rattle.session_works.specs.Drivers.{Gear}
 use Rattle.recorder_rings.specs.Sending.{no_ring, ring_at}
 use Rattle.thread_laws.specs.Segments.{Renewed}
-use Rattle.session_threads.specs.Insides.{parts_with, seen_with}
-use Rattle.session_threads.specs.Parts.{Parts, session_of}
+use Rattle.session_works.specs.Insides.{parts_with, seen_with}
+use Rattle.session_works.specs.Parts.{Parts, session_of}
 use Rattle.session_threads.proofs.RenewLemmas.{RenewedUpTo, may-renew, renewed-all, renewed-keep, renewed-more, renewed-parts}
-use Rattle.session_threads.proofs.RingLemmas.{AreEach}
-use Rattle.session_threads.proofs.StayLemmas.{stays-given}
+use Rattle.session_works.proofs.RingLemmas.{AreEach}
+use Rattle.session_works.proofs.StayLemmas.{stays-given}
 use Rattle.session_threads.proofs.rings.renew_rings.Goals as goal
 
 pub renew_one-requires-clause-there : goal.renew_one-requires-clause-there

@@ -1,6 +1,6 @@
 use Rattle.std.proofs.Common.{◌≡◌}
 use Rattle.session_threads.proofs.RenewLemmas.{RenewedUpTo}
-use Rattle.session_threads.proofs.RingLemmas.{AreEach}
+use Rattle.session_works.proofs.RingLemmas.{AreEach}
 use Rattle.session_threads.proofs.rings.renew_rings.Given as goal
 
 abbrev pub invariant-loop-recorder : goal.invariant-loop-recorder

@@ -1,11 +1,11 @@
 use Rattle.std.proofs.Common.{sym, subst, arith}
-use Rattle.cycle_driver.specs.Gears.{driver_of}
-use Rattle.cycle_driver.specs.Runs.{AreNext}
-use Rattle.session_threads.specs.Insides.{parts_of, seen}
+use Rattle.session_works.specs.Drivers.{driver_of}
+use Rattle.session_works.specs.Cycles.{AreNext}
+use Rattle.session_works.specs.Insides.{parts_of, seen}
 use Rattle.session_threads.specs.Phases.{Segmented}
-use Rattle.session_threads.proofs.PairedLemmas.{paired-sound}
+use Rattle.session_works.proofs.PairedLemmas.{paired-sound}
 use Rattle.session_threads.proofs.PhaseLemmas.{rests}
-use Rattle.session_threads.proofs.StayLemmas.{stays-refl}
+use Rattle.session_works.proofs.StayLemmas.{stays-refl}
 use Rattle.session_threads.proofs.segments.run_segment.Goals as goal
 
 pub returns-then-segment-eq0-clause-whole : goal.returns-then-segment-eq0-clause-whole

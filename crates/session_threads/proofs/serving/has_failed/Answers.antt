@@ -1,7 +1,7 @@
 use Rattle.std.proofs.Common.{length, refl, arith}
 use Rattle.std.proofs.lemmas.Option.{slice_get_read, slice_get_within}
 use Rattle.session_threads.specs.Serving.{IsUntorn}
-use Rattle.session_threads.proofs.ReelLemmas.{all-from_places}
+use Rattle.session_works.proofs.ReelLemmas.{all-from_places}
 use Rattle.session_threads.proofs.ServeLemmas.{untorn-by, up_to-next}
 use Rattle.session_threads.proofs.serving.has_failed.Goals as goal
 

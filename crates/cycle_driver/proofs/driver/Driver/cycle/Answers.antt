@@ -6,7 +6,7 @@ use Rattle.session_model.specs.Courses.{Course}
 use Rattle.session_model.specs.Samples.{width}
 use Rattle.session_model.specs.Scripts.{Script}
 use Rattle.cycle_plan.specs.Plans.{Planned}
-use Rattle.wave_write.specs.Tapes.{HasSamples, HasUnfinished}
+use Rattle.driver_words.specs.Tapes.{HasSamples, HasUnfinished}
 use Rattle.driver_laws.specs.Cycling.{CyclesOnce, FailsAtRead, FailsAtWrite, MayCycle, StepsOnce}
 use Rattle.driver_laws.specs.Drivers.{frames_run, greatest_period}
 use Rattle.driver_laws.specs.Keeping.{Fits, HasTape, Keeps}

@@ -1,5 +1,5 @@
 use Rattle.std.proofs.Common.{◌≡◌, ◌∙◌, IsPermutation, ap, arith, filter, filter_map, refl, subst, sym}
-use Rattle.cycle_plan.proofs.TableLemmas.{sources_below, destinations_below}
+use Rattle.feedback_edges.proofs.TableLemmas.{sources_below, destinations_below}
 use Rattle.cycle_plan.specs.Layouts.{distinct, is_player, leads_to, link_of, ordered}
 use Rattle.cycle_plan.specs.Searching.{ArePlaces}
 use Rattle.cycle_plan.proofs.LayoutLemmas.{AreLinks-laid_out, IsPermutation-ordered, joins_edges}

@@ -4,7 +4,7 @@ use Rattle.std.specs.Vec.{vec_capacity}
 use Rattle.jack_types.specs.declared.moments.Moment.{Moment}
 use Rattle.session_model.specs.Scripts.{Script, turns}
 use Rattle.cycle_plan.specs.Plans.{Planned}
-use Rattle.wave_write.specs.Tapes.{Tape}
+use Rattle.driver_words.specs.Tapes.{Tape}
 use Rattle.driver_laws.specs.Cycling.{MayCycle}
 use Rattle.cycle_laws.specs.Gears.{Gear, IsGear, driver_of}
 use Rattle.cycle_laws.specs.Turnings.{Turns}

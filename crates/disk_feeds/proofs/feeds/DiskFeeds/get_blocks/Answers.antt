@@ -1,6 +1,6 @@
 use Rattle.std.proofs.Common.{ap, arith, length}
 use Rattle.port_registry.specs.Registered.{open_clients}
-use Rattle.disk_feeds.specs.Feeding.{Fed}
+use Rattle.driver_words.specs.Feeding.{Fed}
 use Rattle.disk_feeds.proofs.AllLemmas.{got-all, got-next, got-none, may-next}
 use Rattle.disk_feeds.proofs.feeds.DiskFeeds.get_blocks.Goals as goal
 

@@ -1,5 +1,5 @@
 use Rattle.std.proofs.Common.{sym, subst}
-use Rattle.record_ring.specs.Rings.{IsPair}
+use Rattle.driver_words.specs.Rings.{IsPair}
 use Rattle.disk_player.specs.Playing.{Playing}
 use Rattle.disk_player.proofs.StepLemmas.{on-err}
 use Rattle.disk_files.specs.Readers.{BreaksAhead, ReadsAhead}

@@ -1,5 +1,5 @@
 use Rattle.std.proofs.Common.{◌<◌, ◌∙◌, true, inl, inr, sym, ap, arith, subst}
-use Rattle.record_ring.specs.Rings.{Sending}
+use Rattle.driver_words.specs.Rings.{Sending}
 use Rattle.disk_player.specs.Insides.{LooksAhead, seen_of}
 use Rattle.disk_player.specs.Playing.{Playing}
 use Rattle.disk_player.specs.declared.player.DiskPlayer.TheInside.{Inside}

@@ -1,6 +1,6 @@
 use Rattle.std.proofs.Common.{◌≡◌, ℕ, Some, ◌⊎◌, inl, inr, ap, sym, ◌∙◌}
 use Rattle.cycle_plan.specs.Plans.{Planned}
-use Rattle.midi_wiring.specs.Hearings.{log_at}
+use Rattle.driver_words.specs.Hearings.{log_at}
 use Rattle.midi_seats.specs.Seating.{owner_of}
 use Rattle.midi_stage.specs.Insides.{ArePartsOf, heard_of, plan_in, script_in, staged_by}
 use Rattle.midi_stage.specs.Stages.{heard_in}

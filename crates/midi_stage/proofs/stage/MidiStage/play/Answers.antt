@@ -4,7 +4,8 @@ use Rattle.session_model.specs.Scripts.{Script}
 use Rattle.port_registry.specs.Registered.{open_clients}
 use Rattle.cycle_plan.specs.Plans.{Planned}
 use Rattle.driver_laws.specs.Keeping.{AreOfCalls}
-use Rattle.midi_wiring.specs.Hearings.{Heard, HearsPlan}
+use Rattle.midi_wiring.specs.Hearings.{HearsPlan}
+use Rattle.driver_words.specs.Hearings.{Heard}
 use Rattle.midi_seats.specs.Owning.{IsShort}
 use Rattle.midi_seats.specs.Seating.{client_at, midi_code}
 use Rattle.midi_stage.specs.Insides.{heard_of, plan_in, script_in, staged_by}

@@ -1,7 +1,7 @@
 use Rattle.std.proofs.Common.{rules, arith, ap, ap₂, sym, ◌∙◌, ◌≡◌, ◌+◌, ◌/◌, ◌%◌, ℕ, false, length}
 use Rattle.record_ring.specs.declared.view.SeatView.{SeatView}
 use Rattle.record_ring.specs.declared.block.Block.{Block}
-use Rattle.record_ring.specs.Rings.{Getting}
+use Rattle.driver_words.specs.Rings.{Getting}
 use Rattle.record_ring.specs.Steps.{Sat}
 use Rattle.record_ring.proofs.Takes.{finds, draws, not_true}
 use Rattle.record_ring.proofs.consumer.Consumer.get.Goals as goal

@@ -1,7 +1,7 @@
 use Rattle.std.proofs.Common.{rules, arith, ap, ap₂, sym, ◌∙◌, ◌≡◌, ◌≤◌, ◌+◌, ◌*◌, ◌%◌, ℕ, length, subst}
 use Rattle.record_ring.specs.declared.view.SeatView.{SeatView}
 use Rattle.record_ring.specs.declared.block.Block.{Block}
-use Rattle.record_ring.specs.Rings.{Sending, items_of}
+use Rattle.driver_words.specs.Rings.{Sending, items_of}
 use Rattle.record_ring.proofs.Puts.{looks, sends}
 use Rattle.record_ring.proofs.producer.Producer.put.Goals as goal
 

@@ -1,5 +1,5 @@
 use Rattle.std.proofs.Common.{ap, subst, Some, IfSome}
-use Rattle.wave_write.specs.Tapes.{IsCut}
+use Rattle.driver_words.specs.Tapes.{IsCut}
 use Rattle.recorder_files.specs.Recorders.{Recording, Stored}
 use Rattle.recorder_files.proofs.recorder.Recorder.attach.Goals as goal
 

@@ -2,7 +2,7 @@ use Rattle.std.proofs.Common.{◌≡◌, ◌∙◌, List, Some, IfSome, OnErr, O
 use Rattle.std.specs.Prelude.{ℤ}
 use Rattle.jack_host.specs.Causes.{HasCause}
 use Rattle.session_model.specs.WaveFiles.{wave_text}
-use Rattle.wave_write.specs.Tapes.{HasFront, HasSamples, Tape}
+use Rattle.driver_words.specs.Tapes.{HasFront, HasSamples, Tape}
 use Rattle.recorder_files.specs.Recorders.{Recording, Stored}
 use Rattle.recorder_files.proofs.Closings.{closed-is}
 use Rattle.recorder_files.proofs.recorder.Recorder.close.Goals as goal

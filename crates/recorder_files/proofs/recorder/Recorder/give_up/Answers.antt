@@ -1,7 +1,7 @@
 use Rattle.std.proofs.Common.{◌≡◌, ◌+◌, ◌∙◌, Option, Some, true, false, is_err, length, ap, ap₂, subst, arith}
 use Rattle.jack_host.specs.Told.{BothTold}
-use Rattle.record_ring.specs.Rings.{Getting}
-use Rattle.wave_write.specs.Tapes.{Tape}
+use Rattle.driver_words.specs.Rings.{Getting}
+use Rattle.driver_words.specs.Tapes.{Tape}
 use Rattle.disk_recorder.specs.Recordings.{Drains, Fails}
 use Rattle.disk_recorder.proofs.Blocks.{on_err}
 use Rattle.recorder_files.specs.Recorders.{BreaksOff, GivesUp, Recording}

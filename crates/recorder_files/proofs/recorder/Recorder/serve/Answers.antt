@@ -1,6 +1,6 @@
 use Rattle.std.proofs.Common.{◌≡◌, ℕ, ◌+◌, ◌∙◌, Option, Some, true, false, is_err, length, ap, subst, sym, arith}
 use Rattle.jack_host.specs.Told.{BothTold}
-use Rattle.wave_write.specs.Tapes.{Tape}
+use Rattle.driver_words.specs.Tapes.{Tape}
 use Rattle.disk_recorder.specs.Recordings.{Fails, Serves}
 use Rattle.disk_recorder.proofs.Blocks.{on_err}
 use Rattle.recorder_files.specs.Recorders.{Recording, Tears}

@@ -1,7 +1,7 @@
 use Rattle.std.proofs.Common.{◌*◌, ◌<◌, ◌^◌, ℤ, List, true, length, get_or, arith, refl, sym, ◌∙◌, ap, subst, length-set}
 use Rattle.std.specs.Prelude.{vec_capacity}
 use Rattle.jack_types.specs.declared.replies.Overrun.{Overrun}
-use Rattle.record_ring.specs.Rings.{Sending}
+use Rattle.driver_words.specs.Rings.{Sending}
 use Rattle.driver_laws.specs.Cycling.{PutsOne}
 use Rattle.driver_laws.specs.Drivers.{overruns_on}
 use Rattle.recorder_rings.specs.Sending.{Sent, AreCounted, channels_at}

@@ -1,7 +1,7 @@
 use Rattle.std.proofs.Common.{◌+◌, sym, ap, arith}
 use Rattle.cycle_plan.specs.Graphs.{state_of}
+use Rattle.call_laws.proofs.StateLemmas.{command-tempo}
 use Rattle.lane_calls.specs.Plans.{plan_of}
-use Rattle.session_graph.proofs.LawfulLemmas.{command-tempo}
 use Rattle.session_graph.proofs.ReplayLemmas.{replay-more}
 use Rattle.session_graph.proofs.ShortLemmas.{plan-lawful}
 use Rattle.session_graph.proofs.replaying.Replay.make.Goals as goal

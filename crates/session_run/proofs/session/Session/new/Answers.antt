@@ -1,54 +1,25 @@
-use Rattle.std.proofs.Common.{◌≡◌, ◌∙◌, [], map, None, refl, sym, ap, subst}
+use Rattle.std.proofs.Common.{◌≡◌, ◌∙◌, sym, ap}
 use Rattle.std.specs.Prelude.{is_none}
 use Rattle.jack_types.specs.declared.scripts.Header.{Header}
-use Rattle.graph_word.specs.Publications.{IsOpening as IsPublication, Reading}
 use Rattle.session_model.specs.Scripts.{Script}
-use Rattle.control_desk.specs.Desks.{base_of}
-use Rattle.session_threads.specs.Drivers.{Gear}
-use Rattle.session_threads.specs.Parts.{stores_in}
-use Rattle.session_run.specs.Standings.{IsAttaching}
 use Rattle.script_segments.specs.Segments.{segments}
-use Rattle.session_run.proofs.OpeningLemmas.{IsAttaching-opened, IsOpened, no-stores, none-is, passed-on}
+use Rattle.session_ends.proofs.OpeningLemmas.{passed-on}
+use Rattle.session_run.proofs.ModeLemmas.{none-is}
 use Rattle.session_run.proofs.session.Session.new.Goals as goal
 
-pub returns-in-Ok-make_recorders-clause-new : goal.returns-in-Ok-make_recorders-clause-new
-returns-in-Ok-make_recorders-clause-new g c =
-    let desk = c.in-Ok.begun.desk in
-    let gear = c.in_ok-driver.driver in
-    let made = c.in-Ok-make_recorders.recorders.items in
-    let out = c.make_recorders.new.driver.rings.out in
-    let opened : IsOpened g.G.Guest.sound c.args.script.now _ desk gear made = record {
-      served = c.requires.served;
-      desk_is = c.in-Ok.ensures.desk;
-      desk_kept = c.in-Ok.ensures.kept;
-      opening = subst (λ (r : Reading). IsPublication (base_of c.args.script.now) desk.publishing r) (sym c.in_ok-driver.ensures.reader) c.in-Ok.ensures.opening;
-      new = c.in_ok-driver.ensures.new;
-      period = _;
-      losses = _;
-      rings = c.in_ok-driver.ensures.rings;
-      formats = c.in-Ok-make_recorders.ensures.formats;
-      bare_made = c.in-Ok-make_recorders.ensures.bare;
-      over = c.in-Ok-make_recorders.ensures.pairs;
-    } in
-    let own = subst (λ (s : Script). IsOpened g.G.Guest.sound s (map g.G.Guest.sound (map g.G.Guest.score c.args.guests.items)) desk gear made) (sym c.in_ok-driver.ensures.new.script_is) opened in (
-      subst (λ (seen : Gear). IsAttaching g.G.Guest.sound (record { desk = desk; gear = seen; recorders = made; playback = None; attached = 0 })) (sym c.make_recorders.ensures.driver) (IsAttaching-opened g.G.Guest.sound _ desk gear made out own),
-      refl,
-      subst (λ (seen : Gear). stores_in (record { desk = desk; gear = seen; recorders = made; playback = None; attached = 0 }) ≡ []) (sym c.make_recorders.ensures.driver) (no-stores g.G.Guest.sound _ desk gear made out own),
-    )
-
-pub returns-in_err-driver-clause-back : goal.returns-in_err-driver-clause-back
-returns-in_err-driver-clause-back g c = passed-on c.from_residual.result c.in_err-driver.field-0.0 (λ refused. refused.0 ≡ c.args.capture) c.from_residual.ensures.1 c.in_err-driver.ensures.back
+pub returns-in_err-parts-clause-back : goal.returns-in_err-parts-clause-back
+returns-in_err-parts-clause-back g c = passed-on c.from_residual.result c.in_err-parts.field-0.0 (λ refused. refused.0 ≡ c.args.capture) c.from_residual.ensures.1 c.in_err-parts.ensures.back
 
 pub invariant_of-result : goal.invariant_of-result
 invariant_of-result g c = (
-  c.in-Ok.ensures.segments ∙ ap segments (sym script_is),
+  c.in-Ok.ensures ∙ ap segments (sym script_is),
   ap (λ (h : Header). h.ring) header_is,
   ap (λ (h : Header). h.drain) header_is,
   none-is c.header-header.result.threads c.is_none.result c.is_none.ensures ∙ ap (λ (h : Header). is_none h.threads) header_is,
 )
   where
-    script_is : c.make_recorders.new.driver.script ≡ c.args.script.now
-    script_is = ap (λ (d : Gear). d.script) c.make_recorders.ensures.driver ∙ c.in_ok-driver.ensures.new.script_is
+    script_is : c.in_ok-parts.parts.gear.script ≡ c.args.script.now
+    script_is = c.in_ok-parts.ensures.script
 
-    header_is : c.header-header.result ≡ c.make_recorders.new.driver.script.header
+    header_is : c.header-header.result ≡ c.in_ok-parts.parts.gear.script.header
     header_is = c.header-header.ensures.value ∙ ap (λ (s : Script). s.header) (sym script_is)

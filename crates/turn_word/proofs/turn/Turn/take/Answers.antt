@@ -11,9 +11,9 @@ pub swap-found-requires : goal.swap-found-requires
 swap-found-requires g c =
     let T : Type 0 = g.row.T.Denot in let v : Known T = c.pass.inside.seat.me.0 in let view = sym c.pass.view_is in
     let o = from_some v.opened (subst (λ (h : Handle T). is_some h.opened ≡ true) view c.requires.open) in
-    (search rules, search rules, takes g.T.Kept.goes_on _ _ _ c.pass.inside.seat.me o.0 o.1 (subst (λ (h : Handle T). h.from < h.to) view c.requires.pass) (subst (λ (h : Handle T). h.holds ≡ false) view c.requires.free))
+    (search rules, search rules, takes g.T.Kept.goes_on g.T.Kept.same g.T.Kept.later _ _ _ c.pass.inside.seat.me o.0 o.1 (subst (λ (h : Handle T). h.from < h.to) view c.requires.pass) (subst (λ (h : Handle T). h.holds ≡ false) view c.requires.free))
 
 pub exchange-requires : goal.exchange-requires
 exchange-requires g c =
-    let T : Type 0 = g.row.T.Denot in let did = c.swap-found.ensures.2.0 (search rules) in let e = ap (λ (m : Me (Option T) (Known T)). m.1) did.4 in
+    let T : Type 0 = g.row.T.Denot in let did = c.swap-found.ensures.2.0 (search rules) in let e = ap (λ (m : Me (Option T) (Known T)). m.1) did.5 in
     (search rules, (Some did.1, e ∙ ap (λ l. (0, Some did.1) ∷ rest l) (sym e)))

@@ -4,7 +4,7 @@ use Rattle.std.specs.Int.{w32}
 use Rattle.std.specs.Int.RustNames.{FitsSigned}
 use Rattle.session_model.specs.Samples.{down, up}
 use Rattle.session_model.specs.WaveFiles.{IsWave, opening_text, wave_text}
-use Rattle.wave_write.specs.Tapes.{AreInOrder, HasFront, HasSamples, Tape}
+use Rattle.driver_words.specs.Tapes.{AreInOrder, HasFront, HasSamples, Tape}
 use Rattle.wave_write.proofs.TapeLemmas.{finish_front, finish_order, finish_tells, finish_text, finish_wave}
 use Rattle.wave_write.proofs.tape.WaveOut.finish.Goals as goal
 

@@ -1,6 +1,6 @@
 use Rattle.std.proofs.Common.{◌≡◌, ◌-◌, ◌≤◌, false, length, take}
 use Rattle.session_model.specs.Samples.{bytes_of}
-use Rattle.wave_write.specs.Tapes.{Gained, SameFile}
+use Rattle.driver_words.specs.Tapes.{Gained, SameFile}
 use Rattle.wave_write.proofs.tape.WaveOut.put_all.Given as goal
 
 abbrev pub invariant-putting : goal.invariant-putting

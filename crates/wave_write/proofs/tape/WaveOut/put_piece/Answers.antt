@@ -1,5 +1,5 @@
 use Rattle.std.proofs.Common.{◌+◌, ap, arith, refl, true, ◌∙◌}
-use Rattle.wave_write.specs.Tapes.{Tape}
+use Rattle.driver_words.specs.Tapes.{Tape}
 use Rattle.wave_write.proofs.TapeLemmas.{bytes_fit, gained_by_write, kept_more, part_by_write}
 use Rattle.wave_write.proofs.tape.WaveOut.put_piece.Goals as goal
 

@@ -1,0 +1,5 @@
+pub mod Standing
+pub mod Gathering
+pub mod Drafts
+pub mod Memory
+pub mod Streams

@@ -1,0 +1,13 @@
+pub mod GrammarReaders
+pub mod GrammarCommands
+pub mod GrammarBodies
+pub mod GrammarLimits
+pub mod GrammarLines
+pub mod GrammarLoops
+pub mod GrammarEvents
+pub mod GrammarLists
+pub mod GrammarHeaders
+pub mod GrammarLaws
+pub mod GrammarWords
+pub mod GrammarWidths
+pub mod GrammarText

@@ -1,0 +1,6 @@
+use Rattle.std.proofs.Common.{◌≡◌, length}
+use Rattle.std.specs.Io.KnownBytes.{Keeps}
+use Rattle.host_files.proofs.file_source.read_on.Given as goal
+
+abbrev pub invariant-loop : goal.invariant-loop
+invariant-loop g l = (length l.buffer ≡ length l.initial.buffer) × Keeps (g.F.Read.remaining l.initial.file) (g.F.Read.remaining l.file)

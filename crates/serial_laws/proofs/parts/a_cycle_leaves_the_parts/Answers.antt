@@ -1,5 +1,0 @@
-use Rattle.serial_laws.proofs.CycledLemmas.{IsSound-cycled}
-use Rattle.serial_laws.proofs.parts.a_cycle_leaves_the_parts.Goals as goal
-
-pub returns : goal.returns
-returns c = λ session after sound left empty cycled. IsSound-cycled session after sound empty cycled

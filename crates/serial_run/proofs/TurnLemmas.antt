@@ -1,0 +1,31 @@
+-- A cycle in serial mode, with the round of the lanes behind it.
+--     held-met      a meeting leaves the stores
+--     goes-round      the cycle, and a round between two meetings
+use Rattle.std.proofs.Common.{◌≡◌, List, ◌∷◌, filter_map, map, vec_items, Bool, Option, None, ap, ap₂}
+use Rattle.driver_words.specs.Tapes.{Tape}
+use Rattle.session_works.specs.Drivers.{Gear}
+use Rattle.recorder_files.specs.Recorders.{Recording, Stored, held_in, held_or}
+use Rattle.run_laws.specs.Sessions.{Session}
+use Rattle.serial_laws.specs.Steps.{Met, Rounded, Turned}
+use Rattle.session_works.specs.Insides.{held}
+use Rattle.session_works.specs.Turnings.{Goes}
+use Rattle.session_works.specs.declared.works.SessionWorks.{SessionWorks}
+
+pub held-met : {S W G : Type 0} (before after : SessionWorks S W G) → after.driver ≡ record before.driver { reading = after.driver.reading } → after.recorders ≡ before.recorders → held after ≡ held before
+held-met before after driver recorders =
+    ap₂ (λ (playback : Option Tape) (rs : List Recording). filter_map (λ (h : Option Stored). h) (held_or None playback ∷ map held_in rs)) (ap (λ (g : Gear). g.playback) driver) (ap vec_items recorders)
+
+pub goes-round : (freewheel : Bool) (session drained after : Session) → Goes freewheel session drained → ((met : Session) × (rounded : Session) × Met drained met × Rounded met rounded × Met rounded after) → Turned freewheel session after
+goes-round freewheel session drained after goes round = record {
+  emptied = goes.emptied;
+  cycled = goes.cycled;
+  drained = drained;
+  met = round.0;
+  rounded = round.1;
+  empties = goes.empties;
+  cycles = goes.cycles;
+  drains = goes.drains;
+  meets = round.2;
+  rounds = round.3;
+  meets_again = round.4;
+}

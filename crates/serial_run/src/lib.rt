@@ -1,0 +1,10 @@
+//! The phases of a session in serial mode: calls, cycles and recorders by turns, all of them on the caller's thread.
+#![tactic(auto)]
+
+mod laws;
+mod phases;
+mod running;
+mod steps;
+mod turning;
+
+pub use running::run_serial;

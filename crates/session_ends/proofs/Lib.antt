@@ -1,0 +1,10 @@
+pub mod PairLemmas
+pub mod OpeningLemmas
+pub mod AttachLemmas
+pub mod CloseLemmas
+pub mod EndLemmas
+pub mod TakeLemmas
+pub mod KindLemmas
+pub mod MeterLemmas
+pub mod ReportLemmas
+pub mod PassedLemmas

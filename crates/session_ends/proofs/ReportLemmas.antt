@@ -1,0 +1,130 @@
+-- The pieces of a report.
+--     title, calls_text, cycles_text, meters_text, recorders_text, last      what is put one after the other
+--     text-put      what is put behind the first line
+--     calls-put, cycles-put, meters-put, recorders-put      what is put of the desk's and the driver's lists and of the recorders is what the report says
+--     cause-later, cause-cut      what failed behind earlier calls has its cause behind them
+use Rattle.std.proofs.Common.{◌≡◌, ℕ, List, [], ◌∷◌, ◌++◌, ◌<◌, codes, length, map, flat_map, All, subst, sym, ◌∙◌, ap, ap₂, append_assoc, append-nil, Option, refl, true≢false}
+use Rattle.std.specs.Prelude.{Result, Ok, Err, IsErr}
+use Rattle.std.proofs.lemmas.List.{length-map}
+use Rattle.std.proofs.lemmas.List.Concat.{flat_map-append}
+use Rattle.jack_host.specs.Bytes.{Gains, Puts}
+use Rattle.jack_host.specs.Causes.{HasCause}
+use Rattle.jack_types.specs.declared.commands.Change.{Change}
+use Rattle.jack_types.specs.declared.moments.Moment.{Moment}
+use Rattle.jack_types.specs.declared.replies.Entry.{Entry}
+use Rattle.jack_types.specs.declared.replies.Overrun.{Overrun}
+use Rattle.session_model.specs.Grammar.{IsScript}
+use Rattle.session_model.specs.Histories.{accepted}
+use Rattle.session_model.specs.Kinds.{Sound}
+use Rattle.session_model.specs.Reports.{Report, PrintedCycle, PrintedDisk, PrintedEvent, call_line, cycle_line, disk_lines, event_line, line, meter_line, printed_call, recorder_lines, report_lines}
+use Rattle.session_model.specs.Samples.{below}
+use Rattle.session_model.specs.Scripts.{Script}
+use Rattle.client_kinds.specs.Scores.{Score}
+use Rattle.control_desk.specs.Laws.{AreOfCalls, OfCallsAccepted}
+use Rattle.session_works.specs.Drivers.{IsServed, driver_of}
+use Rattle.run_laws.specs.Sessions.{IsOne, Session}
+use Rattle.run_laws.specs.Told.{disk_in, meters_from, recorder_in, report_in, text_in}
+use Rattle.task_laws.specs.Calls.{IsOldKind, open_kinds}
+use Rattle.report_lines.specs.Outputs.{cycles_of, text_of}
+use Rattle.report_lines.proofs.PutLemmas.{first_last}
+use Rattle.recorder_files.specs.Recorders.{Recording}
+use Rattle.session_works.specs.Insides.{seen}
+use Rattle.session_works.specs.declared.works.SessionWorks.{SessionWorks}
+use Rattle.session_ends.proofs.KindLemmas.{no-events}
+use Rattle.session_ends.proofs.MeterLemmas.{cycles-below, recorder_item}
+
+abbrev pub title : List ℕ
+title = line (codes "report" ∷ codes "1" ∷ [])
+
+abbrev pub last : List ℕ
+last = line (codes "end" ∷ [])
+
+abbrev pub calls_text : Report → List ℕ
+calls_text report = text_of (map call_line report.calls)
+
+abbrev pub cycles_text : Report → List ℕ
+cycles_text report = text_of (map cycle_line report.cycles)
+
+abbrev pub meters_text : Report → List ℕ
+meters_text report = text_of (map meter_line report.meters)
+
+abbrev pub recorders_text : Report → List ℕ
+recorders_text report = text_of (flat_map recorder_lines report.recorders)
+
+-- what stands behind each
+abbrev pub behind_meters : Report → List ℕ
+behind_meters report = recorders_text report ++ last
+
+abbrev pub behind_cycles : Report → List ℕ
+behind_cycles report = meters_text report ++ behind_meters report
+
+abbrev pub behind_calls : Report → List ℕ
+behind_calls report = cycles_text report ++ behind_cycles report
+
+abbrev pub behind_title : Report → List ℕ
+behind_title report = calls_text report ++ behind_calls report
+
+text-behind : (xs ys : List (List ℕ)) (rest : List ℕ) → text_of (xs ++ ys) ++ rest ≡ text_of xs ++ (text_of ys ++ rest)
+text-behind xs ys rest = ap (λ (t : List ℕ). t ++ rest) (flat_map-append (λ (t : List ℕ). t) xs ys) ∙ append_assoc (text_of xs) (text_of ys) rest
+
+text-pieces : (a b c d e f g : List (List ℕ)) → text_of ((((((a ++ b) ++ c) ++ d) ++ e) ++ f) ++ g) ≡ text_of a ++ (text_of b ++ (text_of c ++ (text_of d ++ (text_of e ++ (text_of f ++ text_of g)))))
+text-pieces a b c d e f g =
+    flat_map-append (λ (t : List ℕ). t) (((((a ++ b) ++ c) ++ d) ++ e) ++ f) g
+    ∙ text-behind ((((a ++ b) ++ c) ++ d) ++ e) f (text_of g)
+    ∙ text-behind (((a ++ b) ++ c) ++ d) e (text_of f ++ text_of g)
+    ∙ text-behind ((a ++ b) ++ c) d (text_of e ++ (text_of f ++ text_of g))
+    ∙ text-behind (a ++ b) c (text_of d ++ (text_of e ++ (text_of f ++ text_of g)))
+    ∙ text-behind a b (text_of c ++ (text_of d ++ (text_of e ++ (text_of f ++ text_of g))))
+
+-- a report without events and disks
+text-report : (report : Report) → report.events ≡ [] → report.disks ≡ [] → text_of (report_lines report) ≡ title ++ behind_title report
+text-report report no_events no_disks =
+    ap (λ (t : List ℕ). title ++ t)
+    (text-pieces (map call_line report.calls) (map cycle_line report.cycles) (map meter_line report.meters) (map event_line report.events) (flat_map recorder_lines report.recorders) (flat_map disk_lines report.disks) (last ∷ [])
+    ∙ ap (λ (events : List PrintedEvent). calls_text report ++ (cycles_text report ++ (meters_text report ++ (text_of (map event_line events) ++ (recorders_text report ++ (text_of (flat_map disk_lines report.disks) ++ text_of (last ∷ []))))))) no_events
+    ∙ ap (λ (disks : List PrintedDisk). calls_text report ++ (cycles_text report ++ (meters_text report ++ (recorders_text report ++ (text_of (flat_map disk_lines disks) ++ text_of (last ∷ [])))))) no_disks
+    ∙ ap (λ (ending : List ℕ). calls_text report ++ (cycles_text report ++ (meters_text report ++ (recorders_text report ++ ending)))) (append-nil last))
+
+-- the report of a session of a script before version 3
+text-served : (session : Session) → IsOne session → IsServed session.script → OfCallsAccepted → All IsOldKind (open_kinds session.script) → text_in session ≡ title ++ behind_title (report_in session)
+text-served session one served of_calls old =
+    let calls : AreOfCalls session.script (accepted session.desk.history) = subst (λ script. AreOfCalls script (accepted session.desk.history)) one.desk_script (of_calls session.desk.script session.desk.history one.desk.legal) in
+    let none : session.script.header.disks ≡ [] = (served.lawful.old served.version).1 in
+    text-report (report_in session) (no-events session.script session.driver (accepted session.desk.history) calls old) (ap (λ (disks : List ℕ). map (disk_in session) (below (length disks))) none)
+
+-- the first line, and what is put behind it
+pub text-put : (sounding : Score → Sound) {S W G T E : Type 0} (works : SessionWorks S W G) (whole : Result T E) (a b c : Option (List ℕ)) → IsOne (seen sounding works) → IsServed works.driver.script → OfCallsAccepted
+    → ((script : Script) → IsScript script → script.header.version < 3 → All IsOldKind (open_kinds script)) → Gains a b title → Puts b c whole (behind_title (report_in (seen sounding works))) → Puts a c whole (text_in (seen sounding works))
+text-put sounding {T = T} {E = E} works whole a b c one served of_calls old first rest =
+    subst (λ (t : List ℕ). Puts {T = T} {E = E} a c whole t) (sym (text-served (seen sounding works) one served of_calls (old works.driver.script served.lawful served.version)))
+    (first_last whole a b c title title (behind_title (report_in (seen sounding works))) refl first rest)
+
+pub calls-put : (sounding : Score → Sound) {S W G : Type 0} (works : SessionWorks S W G) (history : List Entry) → history ≡ works.desk.history → text_of (map call_line (map printed_call history)) ≡ calls_text (report_in (seen sounding works))
+calls-put sounding works history own = ap (λ (h : List Entry). text_of (map call_line (map printed_call h))) own
+
+pub meters-put : (sounding : Score → Sound) {S W G : Type 0} (works : SessionWorks S W G) (history : List Entry) → history ≡ works.desk.history
+    → text_of (map meter_line (flat_map (λ (change : Change). meters_from (driver_of sounding works.driver) change.number change.command) (accepted history))) ≡ meters_text (report_in (seen sounding works))
+meters-put sounding works history own = ap (λ (h : List Entry). text_of (map meter_line (flat_map (λ (change : Change). meters_from (driver_of sounding works.driver) change.number change.command) (accepted h)))) own
+
+pub cycles-put : (sounding : Score → Sound) {S W G : Type 0} (works : SessionWorks S W G) (numbers : List ℕ) (moments : List Moment) → numbers ≡ works.driver.numbers → moments ≡ works.driver.moments → length works.driver.moments ≡ length works.driver.numbers
+    → text_of (map cycle_line (cycles_of numbers moments)) ≡ cycles_text (report_in (seen sounding works))
+cycles-put sounding works numbers moments own_numbers own_moments as_many =
+    ap₂ (λ (ns : List ℕ) (ms : List Moment). text_of (map cycle_line (cycles_of ns ms))) own_numbers own_moments ∙ ap (λ (cycles : List PrintedCycle). text_of (map cycle_line cycles)) (sym (cycles-below (driver_of sounding works.driver) as_many))
+
+pub recorders-put : (sounding : Score → Sound) {S W G : Type 0} (works : SessionWorks S W G) (recorders : List Recording) (overruns : List Overrun) → IsOne (seen sounding works) → recorders ≡ works.recorders.items → overruns ≡ works.driver.rings.overruns
+    → text_of (flat_map recorder_lines (map (recorder_item recorders overruns) (below (length recorders)))) ≡ recorders_text (report_in (seen sounding works))
+recorders-put sounding works recorders overruns one own_recorders own_overruns =
+    let as_many : length works.recorders.items ≡ length works.driver.script.header.recorders = sym (length-map works.recorders.items (λ (r : Recording). r.getting)) ∙ one.recorder_ends in
+    ap₂ (λ (rs : List Recording) (os : List Overrun). text_of (flat_map recorder_lines (map (recorder_item rs os) (below (length rs))))) own_recorders own_overruns
+    ∙ ap (λ (n : ℕ). text_of (flat_map recorder_lines (map (recorder_in (seen sounding works)) (below n)))) as_many
+
+-- a call behind others that left the count
+pub cause-later : {T E : Type 0} (r : Result T E) (a b c : ℕ) → b ≡ a → HasCause b c r → HasCause a c r
+cause-later r a b c same cause = subst (λ (n : ℕ). HasCause n c r) same cause
+
+-- what failed is handed on
+pub cause-cut : {T E U F : Type 0} (r : Result T E) (handed : Result U F) (a b c : ℕ) (e : E) → b ≡ a → HasCause b c r → r ≡ Err e → IsErr handed → HasCause a c handed
+cause-cut {T} {E} r (Err f) a b c e same cause was is =
+    let failed : HasCause {T = T} {E = E} a c (Err e) = subst (λ (n : ℕ). HasCause {T = T} {E = E} n c (Err e)) same (subst (HasCause b c) was cause) in
+    record { later = failed.later; failed = failed.failed; kept = tt }
+cause-cut r (Ok v) a b c e same cause was is = absurd (true≢false (sym is))

@@ -1,0 +1,17 @@
+//! How a session is opened, ended and told: its parts are made and its files begun, its files are finished, and it is reported.
+#![tactic(auto)]
+
+mod attaching;
+mod closing;
+mod ending;
+mod laws;
+mod opening;
+mod reporting;
+mod taking;
+
+pub use attaching::attach;
+pub use ending::end;
+pub use opening::open;
+pub use reporting::report;
+pub use session_works::{Driver, RingLimits, SessionFault, SessionParts};
+pub use taking::take_store;

@@ -1,5 +1,0 @@
-use Rattle.session_laws.proofs.GrammarText.{printed-again}
-use Rattle.session_laws.proofs.grammar.printed_again.Goals as goal
-
-pub returns : goal.returns
-returns c = printed-again

@@ -1,5 +1,0 @@
-use Rattle.session_laws.proofs.GrammarText.{printed}
-use Rattle.session_laws.proofs.grammar.printed_script.Goals as goal
-
-pub returns : goal.returns
-returns c = printed

@@ -1,5 +1,0 @@
-use Rattle.session_laws.proofs.WaveFaults.{wave-same}
-use Rattle.session_laws.proofs.waves.one_wave.Goals as goal
-
-pub returns : goal.returns
-returns c = wave-same c.args.bytes.now

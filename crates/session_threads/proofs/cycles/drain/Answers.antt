@@ -1,4 +1,0 @@
-use Rattle.session_threads.proofs.cycles.drain.Goals as goal
-
-pub returns-in-Err-clause-write : goal.returns-in-Err-clause-write
-returns-in-Err-clause-write g c desk is = c.in-Err.ensures.cause desk

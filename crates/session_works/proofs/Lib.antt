@@ -1,0 +1,12 @@
+pub mod ResultLemmas
+pub mod StoreLemmas
+pub mod RingLemmas
+pub mod ReelLemmas
+pub mod StayLemmas
+pub mod StepLemmas
+pub mod PairedLemmas
+pub mod TurningLemmas
+pub mod TellLemmas
+pub mod BesideLemmas
+pub mod SegmentLemmas
+pub mod ReadyLemmas

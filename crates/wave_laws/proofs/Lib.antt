@@ -1,0 +1,5 @@
+pub mod WaveFaults
+pub mod WaveFormats
+pub mod WaveForward
+pub mod WaveSamples
+pub mod WaveWritten

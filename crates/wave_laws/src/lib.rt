@@ -1,0 +1,4 @@
+//! Laws of WAVE files, each as the contract of a function that does nothing.
+#![tactic(auto)]
+
+pub mod waves;
