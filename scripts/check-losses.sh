@@ -122,8 +122,8 @@ for session in range(sessions):
 
 for places, way_out in ((1, '"ring 64" holds more blocks, and a "freewheel" segment loses none'), (64, 'a "freewheel" segment loses no block')):
     script = '\n'.join(['jackd 1', 'rate 48000', 'period 4', 'capture 1', 'playback 1 16', 'mode threads 2', f'ring {places}', 'recorder 1 16',
-        'do open t record 0', 'do activate t', 'run 30000']) + '\n'
-    code, report, told, *files = play(script, 120000, 1)
+        'do open t record 0', 'do activate t', 'run 1000']) + '\n'
+    code, report, told, *files = play(script, 4000, 1)
     rows = [row.split() for row in report.decode().splitlines() if row[:8] in ('recorder', 'overrun ')]
     blocks, lost = map(int, rows[0][2:])
     wanted = ''
