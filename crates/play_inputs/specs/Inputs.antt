@@ -2,7 +2,7 @@
 --     IfBytes files name P      what holds of a name's bytes, where the files are told
 --     line_at bytes place      the number of a line among those that are said
 --     unplayable bytes      the fault of a lawful script that is not played yet
---     IsPlayed script      a script that is played: before version 3
+--     IsPlayed script      a script that is played: without disks
 --     IsBadScript bytes fault      why a script can't be played
 --     first_difference, difference_in      the comparisons, in their order
 --     IsInput script_bytes capture_bytes scores play given      what the two files and the guests give
@@ -39,13 +39,13 @@ IfBytes (Some files) name P = (bytes : List ℕ) × (bytes_under files name ≡ 
 abbrev pub line_at : List ℕ → ℕ → ℕ
 line_at bytes place = slice_index_or (map (λ line. line.number) (said bytes)) place 0
 
--- the fault of a lawful script that is not played yet: it is of version 3, a version that is none, on the version's line, which is the first that is said
+-- the fault of a lawful script that is not played yet: on the version's line, which is the first that is said, its version, which is 3, since older ones have no disk, is none of those that are played
 abbrev pub unplayable : List ℕ → ScriptFault
 unplayable bytes = record { line = line_at bytes 0; cause = Choice 3 }
 
--- a version that is played
+-- it is played
 abbrev pub IsPlayed : Script → Type 0
-IsPlayed script = script.header.version < 3
+IsPlayed script = script.header.disks ≡ []
 
 -- the bytes have this fault, or spell a script that is not played yet
 abbrev pub IsFaulty : List ℕ → ScriptFault → Type 0
