@@ -22,6 +22,7 @@ def sine(hertz, bits, frames):
 os.chdir(sys.argv[1])
 make('straight', 16, [1, 2, 3, 4, 5])
 make('metronome', 16, [])
+make('notes', 16, [])
 make('patch', 16, sine(440, 16, 2000), sine(660, 16, 2000))
 make('bench', 16, [16384, 0, 0, 0, 0, 0, 0, 0, 0, 0, -3])
 make('echo', 16, [16000])

@@ -14,6 +14,8 @@ mono() { sox -t raw -r 48000 -e signed -b 16 -c 1 - "$1"; }
 printf '\001\000\002\000\003\000\004\000\005\000' | mono straight.capture.wav
 # no sample: a metronome hears nothing, but each session has a capture
 printf '' | mono metronome.capture.wav
+# nor does a session of events
+printf '' | mono notes.capture.wav
 # 2,000 frames of two sines; -D leaves dither out
 sox -D -n -r 48000 -c 2 -b 16 patch.capture.wav synth 2000s sine 440 sine 660 gain -3
 # an impulse of 16384, nine frames of silence, and -3

@@ -1,4 +1,4 @@
-"""Computes what each example's files hold from its capture alone, by formulas of its own, and compares the files."""
+"""Computes what each example's files hold from its capture alone, by formulas of its own, and compares the files; so it does with logs of events."""
 import os, sys
 
 os.chdir(sys.argv[1])
@@ -47,6 +47,17 @@ changed, stopped = 374 * 256, 699 * 256
 beats = [f for f in range(0, changed, 24000)] + [f for f in range(0, stopped, 32000) if f >= changed]
 clicks = {256 + f for f in beats}
 compare('metronome.playback.wav', 16, [[1000000000 if n in clicks else 0 for n in range(750 * 256)]])
+
+# Frame f of the transport is frame 1024 + f of the file, and in cycle 2 + f div 1024. The log of all hears the pedal first, then the
+# notes, and these again one cycle later.
+compare('notes.playback.wav', 16, [[1000000000 if n in (1024, 25024, 49024) else 0 for n in range(50 * 1024)]])
+notes, pedal = [(0, '903c64'), (12000, '803c00'), (24000, '904064'), (36000, '804000'), (48000, '904364')], [(0, 'b0407f'), (24000, 'b04000')]
+heard = [(2 + f // 1024 + late, f % 1024, place, event) for place, late, events in ((0, 0, pedal), (1, 0, notes), (2, 1, notes)) for f, event in events]
+wanted = [f'midi all {cycle} {offset} {event}' for cycle, offset, _, event in sorted(heard)]
+wanted += [f'midi plain {2 + f // 1024} {f % 1024} {event}' for f, event in notes]
+same = [line for line in open('notes.report').read().splitlines() if line.startswith('midi ')] == wanted
+differs += not same
+print(f'notes.report: {len(wanted)} events, {"as computed" if same else "NOT as computed"}')
 
 # Until the change, which cycle 11 is the first to play, the sides come 500 frames late.
 left, right = read('patch.capture.wav')

@@ -88,7 +88,7 @@ def play(name, records, wanted=0, capture=None, script=None):
 
 
 open('faulty', 'w').write('jackd 1\nrate 1\n')
-for name, records in (('straight', 0), ('metronome', 0), ('patch', 2), ('bench', 2), ('echo', 1), ('periods', 1), ('threads', 1)):
+for name, records in (('straight', 0), ('metronome', 0), ('notes', 0), ('patch', 2), ('bench', 2), ('echo', 1), ('periods', 1), ('threads', 1)):
     play(name, records)
 play('straight', 0, 5, script='faulty')
 play('straight', 0, 4, capture='faulty')

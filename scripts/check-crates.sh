@@ -17,7 +17,8 @@ while IFS=: read -r crate names; do
 done < <(sed -e 's/#.*//' -e '/^[[:space:]]*$/d' crates.txt)
 
 # A crate that stands on others has a path to itself, and those of each crate that it names. The three crates of the session that
-# are proved beside each other have each all paths of the driver of the cycles.
+# are proved beside each other have each all paths of the driver of the cycles. `rt ci` walks each path before its first proof: some
+# two minutes of a processor for 150,000.
 most=$(sed -e 's/#.*//' -e 's/:/ /' crates.txt | awk '
   NF { name[NR] = $1; known[$1] = 1; for (i = 2; i <= NF; i++) below[$1] = below[$1] " " $i }
   function paths(crate,  names, count, i, sum) {
@@ -28,7 +29,7 @@ most=$(sed -e 's/#.*//' -e 's/:/ /' crates.txt | awk '
     return found[crate] = sum
   }
   END { for (at in name) if (paths(name[at]) > most) most = paths(name[at]); print most }')
-if [ "$most" -gt 120000 ]; then
+if [ "$most" -gt 150000 ]; then
   echo "check-crates: $most paths lead down from a crate: pass on by \`pub use\` what it cites of far lower ones"
   status=1
 fi

@@ -52,5 +52,5 @@ if ! PATH=$PWD/tool:$PATH sh "$examples/rehearsal.sh" rehearsal > told 2>&1; the
 fi
 python3 "$examples/expected.py" . > files || status=1
 grep 'NOT as computed' files
-[ $status -eq 0 ] && echo "check-examples: passed, $(grep -c 'as computed' files) files of $(ls "$examples"/*.session | wc -l) sessions, and a rehearsal"
+[ $status -eq 0 ] && echo "check-examples: passed, $(grep -c 'as computed' files) files and logs of $(ls "$examples"/*.session | wc -l) sessions, and a rehearsal"
 exit $status

@@ -123,7 +123,7 @@ def capture_of(path, channels, rate):
 ROWS = ('a_loop_of_two_is_late_by_one_cycle', 'a_midi_connection_orders_its_clients', 'a_latency_is_least_and_greatest_of_all_ways',
         'a_refused_call_tells_its_first_refusal', 'a_deactivated_client_is_silent_from_the_next_cycle', 'a_recorder_is_opened_once',
         'a_port_registered_again_was_silent_before', 'the_input_behind_sixteen_is_refused', 'the_client_behind_sixty_four_is_refused',
-        'the_connection_behind_512_is_refused', 'a_lane_asks_and_is_refused_beside_the_cycles')
+        'the_connection_behind_512_is_refused', 'a_midi_loop_is_late_by_one_cycle', 'a_closed_log_keeps_its_events', 'a_lane_asks_and_is_refused_beside_the_cycles')
 
 for script in sorted(glob.glob('examples/*.session')):
     report = script.replace('.session', '.report')

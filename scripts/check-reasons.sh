@@ -218,21 +218,29 @@ script_case('a script in UTF-16', '\ufeffjackd 1\n'.encode('utf-16-le'), 1, 'Hea
 header_case('a missing rate', 2, 'period 64', 'Header', '"rate" is expected here')
 header_case('a header in capitals', 1, 'JACKD 1', 'Header', '"jackd" is expected here')
 header_case('another version', 1, 'jackd 4', 'Choice', 'version 4 is none; 1, 2 and 3 are')
-header_case('a version that is not played yet', 1, 'jackd 3', 'Choice', 'version 3 is not played yet; 1 and 2 are')
+script_case('a script with disks', text(JOINED, 'run 2', header=['jackd 3', *HEADER[1:], 'disk 1']), 1, 'Choice', 'disk files are not played yet', 'jackd 3')
 header_case('a rate too low', 2, 'rate 44', 'Range', '"44" is outside 8000 to 192000')
 header_case('a rate with a unit', 2, 'rate 48kHz', 'Number', '"48kHz" is no number of 1 to 10 digits')
 header_case('no power of two', 3, 'period 100', 'Choice', '100 is no power of two')
 header_case('no channels', 4, 'capture 0', 'Range', '"0" is outside 1 to 8')
 header_case('12 bits written', 5, 'playback 1 12', 'Choice', '12 bits are not 8, 16, 24 or 32')
 header_case('no bits', 5, 'playback 1', 'Words', 'a word is missing: playback CHANNELS BITS')
-header_case('another mode', 6, 'mode parallel', 'Unknown', 'no mode "parallel"; serial, threads or steal is expected')
+header_case('another mode', 6, 'mode parallel', 'Unknown', 'no mode "parallel"; serial or threads is expected')
 header_case('a mode of version 3', 6, 'mode steal 2', 'Unknown', 'mode "steal" is of version 3')
 header_case('a misspelt mode', 6, 'mode seriel', 'Unknown', 'no mode "seriel"; is "serial" meant?')
+header_case('a misspelt mode of version 3', 6, 'mode steel 2', 'Unknown', 'no mode "steel"; serial or threads is expected')
+script_case('a misspelt mode in version 3', text('run 2', header=['jackd 3', *HEADER[1:5], 'mode steel 2']), 6, 'Unknown', 'no mode "steel"; is "steal" meant?', 'mode steel 2')
 body_case('a misspelt line', 'rum 3', 'Unknown', 'no line "rum"; is "run" meant?')
 body_case('a misspelt command', 'do conect system:capture_1 system:playback_1', 'Unknown', 'no command "conect"; is "connect" meant?')
 body_case('no do', 'connect system:capture_1 system:playback_1', 'Unknown',
-    'no line "connect"; do, run, freewheel, lane, period, ring, drain, fill, recorder, disk or event is expected')
+    'no line "connect"; do, run, freewheel, lane, ring, drain or recorder is expected')
 body_case('a misspelt kind', 'do open a gian 1 1', 'Unknown', 'no kind "gian"; is "gain" meant?')
+body_case('a misspelt kind of version 3', 'do open a midipla 0', 'Unknown',
+    'no kind "midipla"; pass, gain, mix, delay, tone, click, meter, record or guest is expected', version=2)
+body_case('a misspelt kind in version 3', 'do open a midipla 0', 'Unknown', 'no kind "midipla"; is "midiplay" meant?', version=3)
+body_case('a misspelt period in version 1', 'peroid 128', 'Unknown', 'no line "peroid"; do, run, freewheel, lane, ring, drain or recorder is expected')
+body_case('a misspelt period', 'peroid 128', 'Unknown', 'no line "peroid"; is "period" meant?', version=2)
+body_case('a misspelt event', 'evnt 0 0 90', 'Unknown', 'no line "evnt"; is "event" meant?', version=3)
 body_case('a misspelt way', 'do register a:x inn audio', 'Unknown', 'no word "inn"; is "in" meant?')
 body_case('no such type', 'do register a:x in video', 'Unknown', 'no word "video"; audio or midi is expected')
 body_case('a command that steers a terminal', 'do op\x1ben a pass', 'Unknown', 'no command "op\\x1ben"; is "open" meant?',
@@ -546,6 +554,18 @@ METERS = ['report 1', 'call 0 1 ok 1', 'call 0 2 refused 3 IsOpen', 'cycle 1 1 s
 report_case('another peak', 'meter 1', 5, 'meter 1: the peak is 0, and 7 stands there', [*METERS, 'meter m 7', 'end'], metered)
 report_case('a meter missing', 'meter 1', 0, 'meter 1: its line is missing', [*METERS, 'end'], metered)
 report_case('a meter too many', 'meter 2', 6, 'meter 2: nothing in the session asks for this line', [*METERS, 'meter m 0', 'meter m 0', 'end'], metered)
+# A log that hears a list from its start on: its first frame is played in cycle 2.
+logged = {'s': text('do open a midiplay 0', 'do register a:o out midi', 'do activate a', 'do open k midilog', 'do register k:i in midi', 'do activate k',
+    'do connect a:o k:i', 'do start', 'run 3', header=['jackd 3', *HEADER[1:], 'event 0 1 903c40', 'event 0 70 803c00']), 'p': wave(data=bytes(384))}
+LOGGED = ['report 1', *(f'call 0 {call} ok {call}' for call in range(1, 9)), 'cycle 1 8 starting 0 -', 'cycle 2 8 rolling 0 -', 'cycle 3 8 rolling 64 -']
+ON, OFF = 'midi k 2 1 903c40', 'midi k 3 6 803c00'
+case('a log that is explained', CHECK, 0, b'check ok\n', '', files={**logged, 'r': ''.join(it + '\n' for it in [*LOGGED, ON, OFF, 'end']).encode()})
+report_case('an event in another cycle', 'midi 1', 13, 'midi 1: the cycle is 2, and 1 stands there', [*LOGGED, 'midi k 1 1 903c40', OFF, 'end'], logged)
+report_case('an event at another offset', 'midi 2', 14, 'midi 2: the offset is 6, and 7 stands there', [*LOGGED, ON, 'midi k 3 7 803c00', 'end'], logged)
+report_case('an event of other bytes', 'midi 1', 13, 'midi 1: an event of other bytes is expected', [*LOGGED, 'midi k 2 1 903c41', OFF, 'end'], logged)
+report_case('an event of another log', 'midi 1', 13, 'midi 1: its line is missing', [*LOGGED, 'midi a 2 1 903c40', OFF, 'end'], logged)
+report_case('an event missing', 'midi 2', 0, 'midi 2: its line is missing', [*LOGGED, ON, 'end'], logged)
+report_case('an event too many', 'midi 3', 15, 'midi 3: nothing in the session asks for this line', [*LOGGED, ON, OFF, OFF, 'end'], logged)
 
 
 # A ring of two places that nothing leaves, of one recorder, and cycles that find it full from the third on.

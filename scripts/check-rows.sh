@@ -23,7 +23,8 @@
 # stored plus 128; 0*20 is a sample twenty times.
 #
 # A script in serial mode that threads play to the same bytes, in whatever order they run, is played with 1, 2 and 4 workers
-# too, as its row says, and where that is a play to its end $TIMES times (1). A run that does not end in 60 seconds is a fault.
+# too, as its row says, and where that is a play to its end $TIMES times (1), and as often with workers that steal, as a script of
+# version 3. A run that does not end in 60 seconds is a fault.
 #
 # What a row says of a play that ends well is also what scripts/explained.py computes of its script and capture.
 set -u
@@ -42,7 +43,7 @@ jackd, top, times = sys.argv[1], 'tests/rows', int(os.environ.get('TIMES', 1))
 threads, explained_once = 0, functools.lru_cache(None)(explained.explain)
 
 
-def with_threads(script):
+def with_threads(script, steals=False):
     """The script with 1, 2 and 4 workers, if no lane has a call and no ring has fewer places than `run` cycles."""
     lines = [line.split() for line in script.splitlines()]
     first = [line[0] for line in lines if line]
@@ -50,7 +51,12 @@ def with_threads(script):
     cycles = sum(int(line[1]) for line in lines if line[:1] == [b'run'] and line[1:])
     if b'lane' in first or b'recorder' in first and cycles > places:
         return []
-    return [script.replace(b'mode serial\n', b'mode threads %d\n' % workers, 1) for workers in (1, 2, 4) if b'mode serial\n' in script]
+    if steals:
+        script, versions = re.subn(rb'^jackd [123]$', b'jackd 3', script, count=1, flags=re.M)
+        if not versions:
+            return []
+    mode = b'steal' if steals else b'threads'
+    return [script.replace(b'mode serial\n', b'mode %s %d\n' % (mode, workers), 1) for workers in (1, 2, 4) if b'mode serial\n' in script]
 
 
 def play(words, given):
@@ -167,7 +173,9 @@ def faults_of_row(folder):
     way = next((WAYS[it] for it in WAYS if it in row), None)
     if way is None:
         plays = [words for words in row['words'].decode().splitlines() if words.startswith('play ')]
-        others = [other for script in scripts for other in with_threads(script) if plays] * (times if int(row['status']) == 0 else 1)
+        is_played = int(row['status']) == 0
+        ways = (False, True) if is_played else (False,)
+        others = [other for script in scripts for steals in ways for other in with_threads(script, steals) if plays] * (times if is_played else 1)
         scripts, threads = scripts + others, threads + len(others)
     for script in scripts:
         given = {'s': script, **{it: row[it] for it in ('c', 'o') if it in row}}

@@ -52,6 +52,18 @@ WORKED = [
 ]
 
 
+# A session of events: two logs of one source, a feedback connection, and a list that two players play.
+PLAYERS = (('p', 'midiplay 0'), ('q', 'midiplay 1'), ('t', 'midithru'), ('l', 'midilog'), ('n', 'midilog'))
+EVENTFUL = [
+    'jackd 3', 'rate 8000', 'period 8', 'capture 1', 'playback 1 16', 'mode serial', 'recorder 1 16',
+    *(f'event {number % 2} {5 * number} {128 + number:02x}{"".join(f"{number:02x}" for _ in range(number % 4))}' for number in range(24)),
+    *(line for name, kind in PLAYERS for line in (f'do open {name} {kind}', f'do register {name}:i in midi', f'do register {name}:o out midi', f'do activate {name}')),
+    *(f'do connect {edge}' for edge in ('p:o t:i', 'q:o t:i', 't:o l:i', 't:o n:i', 'n:o q:i', 'q:o n:i', 't:o t:i')),
+    'do open m meter', 'do open r record 0', 'do register r:i in audio', 'do activate r', 'do start', 'run 9', 'lane 1 at 4 disconnect p:o t:i', 'lane 1 at 6 connect p:o n:i', 'lane 2 at 7 close l',
+    'freewheel 4', 'period 16', 'do open l midilog', 'run 3', 'lane 2 at 1 locate 0',
+]
+
+
 def wave(channels, frames):
     return explained.wave_of(8000, channels, 16, [chance.randrange(-9999, 9999) * 65536 for _ in range(channels * frames)])
 
@@ -144,7 +156,8 @@ OTHER_WORDS = (
     ('stopped', 'starting'), ('starting', 'rolling'), ('rolling', 'stopped'), ('ok', 'OK'), (r'ok \d+', 'refused 16 Exists'), (r'refused \d+ \w+', 'latency 0 0'),
     (r'refused \d+ (\w+)', r'refused 1 \1'), (r'refused \d+ \w+', 'refused 5 NameTaken'), (r'refused \d+ \w+', 'ok 1'), (r'latency', 'ok'), (r'latency \d+ (\d+)', r'latency \1'),
     (' -$', ' 1|1|0'), (r' \d+\|\d+\|\d+$', ' -'), (r'\|(\d+)$', r'|\1|\1'), ('^call', 'cycle'), ('^cycle', 'call'), ('^overrun', 'underrun'), ('^recorder', 'disk'),
-    (r'^meter (\w+)', r'meter \1x'), (r'^meter (\w+)', r'midi \1 1 0'), (r'^meter (\w+)', 'meter a:b'), ('^end', 'End'), ('^report 1', 'report 2'), ('^report 1', 'report'), ('^report 1', 'jackd 1'),
+    (r'^meter (\w+)', r'meter \1x'), (r'^meter (\w+)', r'midi \1 1 0'), (r'^midi (\w+)', r'midi \1x'), (r'^midi (\w+)', 'midi a:b'), ('^midi', 'meter'),
+    (r'^(midi .*)..$', r'\1'), (r'^(midi .*)$', r'\g<1>00'), (r'^(midi .*).$', r'\1'), (r'^(midi .*)..$', r'\1FF'), (r'^(midi .*)$', r'\g<1>' + '00' * 16), (r'^meter (\w+)', 'meter a:b'), ('^end', 'End'), ('^report 1', 'report 2'), ('^report 1', 'report'), ('^report 1', 'jackd 1'),
     ('$', '\r'), ('$', ' '), ('$', ' 1'), ('^', ' '), (' ', '  '), (' ', '\t'), ('^', '\n'), ('^', '# '), (r'(\w+)$', r'\1\0'), (r'(\w+)$', '\\1\xe9'), ('$', ' ' * 600),
 )
 
@@ -305,7 +318,7 @@ def judge_cases(folder, cases, top):
     """Plays a session from paper, and checks its report and its files as they are and in each case."""
     paper = {name.split('.')[0]: read(f'{folder}/{name}') for name in os.listdir(folder) if name not in ('lines', 'changes', 'files')}
     paper['o'] = cases.report.encode()
-    with_threads = b'\nmode threads' in paper['s']
+    with_threads = b'\nmode serial' not in paper['s']
     session = Session(os.path.basename(folder), paper['s'], paper['c'], top, paper if with_threads else None)
     for name in sorted({*paper, *session.held}):
         if paper.get(name) != session.held.get(name):
@@ -341,8 +354,9 @@ NO_CASES = (
 
 def judge_words(session):
     words, script = ['check', 's', 'c', 'o', *session.words(session.outputs)], session.held['s']
+    with_disk = script.replace(b'jackd 2', b'jackd 3', 1).replace(b'recorder 1 8\n', b'recorder 1 8\ndisk 1\n', 1).replace(b'\nperiod 16\n', b'\n', 1)
     files = {
-        'text': b'no WAVE file', 'faulty': script.replace(b'jackd 2', b'jackd 9', 1), 'later': script.replace(b'jackd 2', b'jackd 3', 1),
+        'text': b'no WAVE file', 'faulty': script.replace(b'jackd 2', b'jackd 9', 1), 'later': with_disk,
         'faster': script.replace(b'rate 8000', b'rate 9000', 1), 'wider': script.replace(b'capture 2', b'capture 3', 1),
     }
     for name, held in files.items():
@@ -372,6 +386,7 @@ def sessions_in(top):
     capture = wave(2, 100)
     yield 'worked', text.encode(), capture
     yield 'worked, with threads', text.replace('mode serial', 'mode threads 2').encode(), capture
+    yield 'worked, with events', ''.join(f'{line}\n' for line in EVENTFUL).encode(), wave(1, 100)
     os.mkdir(f'{top}/captures')
     subprocess.run([sys.executable, '-B', 'examples/captures.py', f'{top}/captures'], check=True)
     for script in sorted(glob.glob('examples/*.session')):
@@ -416,7 +431,7 @@ with tempfile.TemporaryDirectory() as top:
             faults.append(f'{session.name}: a check changed its files')
 
 changes = sum(verdicts_told.values()) - from_paper
-for part in ('ok', 'report', 'call', 'cycle', 'meter', 'recorder', 'overrun', 'record', 'playback'):
+for part in ('ok', 'report', 'call', 'cycle', 'meter', 'midi', 'recorder', 'overrun', 'record', 'playback'):
     if verdicts_told[part] < min(10, wanted // 200):
         faults.append(f'{verdicts_told[part]} changes are answered by {part}')
 for fault in faults[:40]:

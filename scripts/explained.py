@@ -4,10 +4,10 @@
 explained.py SCRIPT CAPTURE REPORT [PLAYBACK [RECORD]..]    tells what differs, and ends with 1 where anything does
 explained.py --tell SCRIPT CAPTURE REPORT                   prints the report anew, by its order, numbers and overruns alone
 
-It is a second computation of all that `jackd play` does with a lawful script of version 1 or 2. A report leaves open only in
+It is a second computation of all that `jackd play` does with a lawful script without disk files. A report leaves open only in
 which order the lanes' calls were answered, which number each cycle took, and which cycles were overruns; these are read off it
-and have to be ones that can be. All else (replies, moments, peaks, counts, every sample) is computed from them, so that two runs
-of a script with threads are each held against their own report. Of a script in serial mode the three are computed too.
+and have to be ones that can be. All else (replies, moments, peaks, events, counts, every sample) is computed from them, so that
+two runs of a script with threads are each held against their own report. Of a script in serial mode the three are computed too.
 """
 import struct
 import sys
@@ -30,13 +30,23 @@ class Segment:
         self.freewheel, self.cycles, self.period, self.first, self.lanes = freewheel, cycles, period, first, {1: [], 2: [], 3: [], 4: []}
 
 
+def event_of(digits):
+    """The bytes of an event."""
+    event = bytes.fromhex(digits)
+    if event.hex() != digits or not 1 <= len(event) <= 16 or event[0] < 128:
+        raise ValueError(f'no event: {digits}')
+    return event
+
+
 class Script:
-    """A lawful script of version 1 or 2."""
+    """A lawful script without disk files."""
 
     def __init__(self, text):
         rows = [line.split() for line in text.splitlines()]
         rows = [row for row in rows if row and not row[0].startswith('#')]
         self.threads, self.ring, self.drain, self.recorders = False, 16, 4, []
+        # The lists of events: of each event its frame and its bytes.
+        self.events = [[] for _ in range(16)]
         # Phases: the calls of lane 0, and the segment behind them.
         self.phases, calls, cycles = [], [], 0
         for place, (word, *rest) in enumerate(rows):
@@ -49,13 +59,15 @@ class Script:
             elif word == 'playback':
                 self.playback, self.bits = map(int, rest)
             elif word == 'mode':
-                self.threads = rest[0] == 'threads'
+                self.threads = rest[0] in ('threads', 'steal')
             elif word == 'ring':
                 self.ring = int(rest[0])
             elif word == 'drain':
                 self.drain = int(rest[0])
             elif word == 'recorder':
                 self.recorders.append((int(rest[0]), int(rest[1])))
+            elif word == 'event':
+                self.events[int(rest[0])].append((int(rest[1]), event_of(rest[2])))
             elif word == 'do':
                 calls.append(rest)
             elif word in ('run', 'freewheel'):
@@ -63,8 +75,8 @@ class Script:
                 calls, cycles = [], cycles + int(rest[0])
             elif word == 'lane':
                 self.phases[-1][1].lanes[int(rest[0])].append((int(rest[2]), rest[3:]))
-            elif word != 'jackd' or place:
-                raise ValueError(f'no line of these versions: {word}')
+            elif word not in ('jackd', 'fill') or word == 'jackd' and place:
+                raise ValueError(f'no line of a script without disk files: {word}')
         self.phases.append((calls, Segment(first=cycles + 1)))
         self.cycles = cycles
 
@@ -236,8 +248,10 @@ class Graph:
         self.into = {}
         for (source, destination), feedback in edges:
             self.into.setdefault(destination, []).append((source, feedback))
-        audio = [port for port in state.ports.values() if port.kind == 'audio']
-        self.playback = [port.name for port in audio if port.client == 'system' and port.way == 'in']
+        ports = {}
+        for port in state.ports.values():
+            ports.setdefault((port.client, port.kind, port.way), []).append(port.name)
+        self.playback = ports.get(('system', 'audio', 'in'), [])
         # Each player behind those that feed it directly.
         behind, self.order, done = {}, [], set()
         for (source, destination), feedback in edges:
@@ -251,8 +265,8 @@ class Graph:
             for other in behind.get(name, []):
                 visit(other)
             client = state.clients[name]
-            ways = [[port.name for port in audio if port.client == name and port.way == way] for way in ('in', 'out')]
-            self.order.append((client.birth, client.kind, *ways))
+            of_ways = [ports.get((name, kind, way), []) for kind in ('audio', 'midi') for way in ('in', 'out')]
+            self.order.append((client.birth, client.kind, *of_ways))
 
         for name in self.active:
             visit(name)
@@ -263,7 +277,7 @@ def first_memory(kind):
         return [[0] * int(kind[1]) for _ in range(16)]
     if kind[0] == 'guest':
         return [[0] * 4800, [0, 0], [0]][int(kind[1])]
-    return 0
+    return [] if kind[0] == 'midilog' else 0
 
 
 def play(kind, memory, moment, period, inputs, outputs):
@@ -302,6 +316,22 @@ def play(kind, memory, moment, period, inputs, outputs):
             given, memory = memory * period, at(0)[-1:]
         return [given] * outputs, memory
     return [silence] * outputs, memory
+
+
+def merged(lists):
+    """The events of these lists, each with its offset: by offset, and at one offset those of an earlier list first; the first 256."""
+    return sorted((event for events in lists for event in events), key=lambda event: event[0])[:256]
+
+
+def play_midi(kind, log, events, cycle, moment, period, inputs):
+    """What a client plays on each MIDI output, and a log's memory behind it, from the script's lists of events (section 3)."""
+    if kind[0] == 'midiplay' and moment[0] == 'rolling':
+        return [(at - moment[1], event) for at, event in events[int(kind[1])] if moment[1] <= at < moment[1] + period][:256], log
+    if kind[0] == 'midithru':
+        return merged(inputs), log
+    if kind[0] == 'midilog':
+        return [], (log + [(cycle, *event) for event in merged(inputs)])[:4096]
+    return [], log
 
 
 class Transport:
@@ -386,7 +416,7 @@ class Play:
 
     def __init__(self, script, capture, order=None, numbers=None, lost=None):
         self.script, self.faults = script, []
-        self.replies, self.graphs, self.accepted, self.meters = [], [], [], []
+        self.replies, self.graphs, self.accepted, self.meters, self.logs = [], [], [], [], []
         self.state = State(script)
         self.graphs.append(self.state.graph())
         self.make_calls(order, numbers)
@@ -401,8 +431,8 @@ class Play:
         if reply.startswith('ok'):
             self.accepted.append(words)
             self.graphs.append(self.state.graph())
-            if words[0] == 'open' and words[2] == 'meter':
-                self.meters.append((words[1], self.state.count))
+            if words[0] == 'open' and words[2] in ('meter', 'midilog'):
+                (self.meters if words[2] == 'meter' else self.logs).append((words[1], self.state.count))
         self.replies.append(f'call {lane} {index} {reply}')
 
     def make_calls(self, order, numbers):
@@ -466,32 +496,41 @@ class Play:
                 def heard(port):
                     parts = []
                     for source, feedback in graph.into.get(port, ()):
-                        birth, samples = past.get(source, (None, None))
-                        was_there = birth == graph.births[source] and past_period == period
-                        parts.append(now[source] if not feedback else samples if was_there else silence)
+                        parts.append(carried(source, feedback, silence))
                     return clamped(map(sum, zip(*parts))) if len(parts) > 1 else parts[0] if parts else silence
 
+                def carried(source, feedback, nothing):
+                    """What an edge gives, of samples or of events."""
+                    birth, before = past.get(source, (None, None))
+                    was_there = birth == graph.births[source] and past_period == period
+                    return now[source] if not feedback else before if was_there else nothing
+
                 blocks = {}
-                for birth, kind, inputs, outputs in graph.order:
+                for birth, kind, inputs, outputs, midi_inputs, midi_outputs in graph.order:
                     sounds = [heard(port) for port in inputs]
+                    notes = [merged(carried(source, feedback, []) for source, feedback in graph.into.get(port, ())) for port in midi_inputs]
                     if kind[0] == 'record':
                         blocks[int(kind[1])] = sounds
                     memory = memories[birth] if birth in memories else first_memory(kind)
-                    given, memories[birth] = play(kind, memory, moment, period, sounds, len(outputs))
+                    given, memory = play(kind, memory, moment, period, sounds, len(outputs))
+                    events, memories[birth] = play_midi(kind, memory, script.events, k, moment, period, notes)
                     now.update(zip(outputs, given))
-                past, past_period = {source: (graph.births[source], samples) for source, samples in now.items()}, period
+                    now.update((port, events) for port in midi_outputs)
+                past, past_period = {source: (graph.births[source], given) for source, given in now.items()}, period
                 if not segment.freewheel:
                     for channel, port in zip(self.heard, graph.playback):
                         channel += heard(port)
                 for r, tape in enumerate(self.tapes):
                     tape.cycle(k, segment, blocks.get(r))
         self.peaks = [(name, memories.get(birth, 0)) for name, birth in self.meters]
+        self.logged = [(name, event) for name, birth in self.logs for event in memories.get(birth, ())]
         self.faults += [fault for tape in self.tapes for fault in tape.faults]
 
     # What is written.
 
     def report(self):
         lines = ['report 1', *self.replies, *self.lines, *(f'meter {name} {peak}' for name, peak in self.peaks)]
+        lines += [f'midi {name} {cycle} {offset} {event.hex()}' for name, (cycle, offset, event) in self.logged]
         for r, tape in enumerate(self.tapes):
             lines.append(f'recorder {r} {tape.kept} {len(tape.overruns)}')
             lines += [f'overrun {r} {k} {sent} {taken}' for k, sent, taken in tape.overruns]
@@ -590,7 +629,7 @@ def main(words):
     try:
         read = Script(script)
     except (ValueError, IndexError) as fault:
-        sys.exit(f'explained: the script is not lawful in version 1 or 2: {fault}')
+        sys.exit(f'explained: the script is not lawful, or has disk files: {fault}')
     if tells:
         made = Play(read, samples_of(capture), *left_open(report, len(read.recorders)) if read.threads else ())
         sys.stdout.write(''.join(f'{fault}\n' for fault in made.faults) or made.report())

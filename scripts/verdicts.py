@@ -3,7 +3,7 @@
 
 verdicts.py SCRIPT CAPTURE REPORT PLAYBACK [RECORD]..    prints `check ok`, or `check wrong PART NUMBER[ PLACE]` and ends with 8
 
-It stands on the second computation of a play, explained.py, and serves scripts of version 1 and 2. What a report leaves open is
+It stands on the second computation of a play, explained.py, and serves scripts without disk files. What a report leaves open is
 taken as it is printed, in every mode: the order of the calls, the numbers of the cycles and the cycles of the overruns. The parts
 are looked at in this order, and the first wrong one is told, by the first number that is wrong in it:
 
@@ -11,6 +11,7 @@ are looked at in this order, and the first wrong one is told, by the first numbe
     call K           call K is not the next of its lane, stands before one of an earlier stage, has another reply, or is missing
     cycle K          its number can't be, by the cycle before, by its segment's calls or by one that asks for it; or its moment differs
     meter K          meter K has another name or peak, is missing, or is one too many
+    midi K           event K, of those of all logs, is another one, is missing, or is one too many
     recorder K       recorder K - 1 kept another number of blocks than its line tells
     overrun K        overrun K, of those of all recorders, can't be, or not behind the one before it
     record R BYTE    the file of recorder R differs first at BYTE, or one of the two ends there; both are counted from 0
@@ -29,6 +30,7 @@ FORMS = {form.split(' ', 1)[0]: re.compile(form) for form in (
     f'call {NUMBER} {NUMBER} (ok {NUMBER}|{REFUSED}|latency {NUMBER} {NUMBER})',
     f'cycle {NUMBER} {NUMBER} (?:stopped|starting|rolling) {NUMBER} (?:-|{NUMBER}[|]{NUMBER}[|]{NUMBER})',
     f'meter {NAME} {NUMBER}',
+    f'midi {NAME} {NUMBER} {NUMBER} ((?:[0-9a-f]{{2}}){{1,16}})',
     f'recorder {NUMBER} {NUMBER} {NUMBER}',
     f'overrun {NUMBER} {NUMBER} {NUMBER} {NUMBER}',
     'end',
@@ -39,9 +41,10 @@ BEHIND = {
     'call': {'report', 'call'},
     'cycle': {'report', 'call', 'cycle'},
     'meter': {'report', 'call', 'cycle', 'meter'},
-    'recorder': {'report', 'call', 'cycle', 'meter', 'recorder', 'overrun'},
+    'midi': {'report', 'call', 'cycle', 'meter', 'midi'},
+    'recorder': {'report', 'call', 'cycle', 'meter', 'midi', 'recorder', 'overrun'},
     'overrun': {'recorder', 'overrun'},
-    'end': {'report', 'call', 'cycle', 'meter', 'recorder', 'overrun'},
+    'end': {'report', 'call', 'cycle', 'meter', 'midi', 'recorder', 'overrun'},
 }
 
 
@@ -51,7 +54,7 @@ class Told:
     def __init__(self, most, report):
         # How many lines of a kind a report may have, the kind of the line before, and how many overruns a recorder's line still asks for.
         self.most, self.last, self.asked, self.wrong = most, None, 0, None
-        self.calls, self.cycles, self.meters, self.recorders, self.overruns = [], [], [], [], []
+        self.calls, self.cycles, self.meters, self.events, self.recorders, self.overruns = [], [], [], [], [], []
         *lines, rest = report.decode('latin-1').split('\n')
         for number, line in enumerate(lines, 1):
             if not self.takes(line):
@@ -66,7 +69,7 @@ class Told:
         form = kind in FORMS and FORMS[kind].fullmatch(line)
         if not form or self.last not in BEHIND[kind] or (self.asked > 0) != (kind == 'overrun'):
             return False
-        if kind in ('meter', 'recorder', 'end') and len(self.cycles) < self.most['cycle']:
+        if kind in ('meter', 'midi', 'recorder', 'end') and len(self.cycles) < self.most['cycle']:
             return False
         self.last = kind
         return kind == 'report' or getattr(self, kind)(form)
@@ -83,6 +86,11 @@ class Told:
     def meter(self, form):
         self.meters.append((form[1], int(form[2])))
         return len(self.meters) <= self.most['meter']
+
+    def midi(self, form):
+        name, cycle, offset, event = form.groups()
+        self.events.append((name, (int(cycle), int(offset), bytes.fromhex(event))))
+        return len(self.events) <= self.most['midi']
 
     def recorder(self, form):
         number, blocks, self.asked = map(int, form.groups())
@@ -121,13 +129,13 @@ class Replay:
 
 
 class Heard:
-    """What the cycles of these numbers gave: peaks, the playback, and of each recorder the cycles in which it was active with their blocks."""
+    """What the cycles of these numbers gave: peaks, events, the playback, and of each recorder the cycles in which it was active with their blocks."""
 
     def __init__(self, checker, lanes, numbers):
         script = checker.script
         made = explained.Play(script, checker.capture, lanes, numbers, [()] * len(script.recorders))
         assert not made.faults, made.faults
-        self.peaks, (self.playback, *_) = made.peaks, made.files()
+        self.peaks, self.logged, (self.playback, *_) = made.peaks, made.logged, made.files()
         self.active, self.blocks = [], []
         for tape in made.tapes:
             samples = iter(tape.samples)
@@ -159,8 +167,8 @@ class Checker:
             self.turns += [segment] * segment.cycles
             self.phase_of += [phase] * segment.cycles
         calls = [words for lane in self.planned.values() for words, _, _ in lane]
-        meters = sum(words[0] == 'open' and words[2] == 'meter' for words in calls)
-        self.most = {'call': len(calls), 'cycle': self.script.cycles, 'meter': meters, 'recorder': len(self.script.recorders)}
+        meters, logs = (sum(words[0] == 'open' and words[2] == kind for words in calls) for kind in ('meter', 'midilog'))
+        self.most = {'call': len(calls), 'cycle': self.script.cycles, 'meter': meters, 'midi': 4096 * logs, 'recorder': len(self.script.recorders)}
         self.replays, self.plays, self.waves = {}, {}, {}
 
     def verdict(self, report, files):
@@ -229,6 +237,9 @@ class Checker:
         meter = first_difference(told.meters, heard.peaks)
         if meter is not None:
             return 'meter', meter + 1
+        event = first_difference(told.events, heard.logged)
+        if event is not None:
+            return 'midi', event + 1
         kept = [self.kept(told, heard, r) for r in range(len(told.recorders))]
         recorder = first_difference(told.recorders, [len(cycles) for cycles in kept])
         if recorder is not None:
@@ -292,7 +303,7 @@ def main(words):
     try:
         checker = Checker(script.decode('ascii', 'replace'), capture)
     except (ValueError, IndexError) as fault:
-        sys.exit(f'verdicts: script and capture are no session of version 1 or 2: {fault}')
+        sys.exit(f'verdicts: script and capture are no session without disk files: {fault}')
     line, code = line_of(checker.verdict(report, files))
     sys.stdout.write(line)
     return code

@@ -14,6 +14,8 @@ pub enum Number {
     Beat,
     Tick,
     Peak,
+    Cycle,
+    Offset,
     Blocks,
     Sent,
     Taken,

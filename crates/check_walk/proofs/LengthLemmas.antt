@@ -20,8 +20,8 @@ use Rattle.record_ring.specs.declared.consumer.Got.{Got}
 use Rattle.cycle_plan.specs.Plans.{Planned}
 use Rattle.driver_laws.specs.Cycling.{MayCycle, RingStays, StepsOnce}
 use Rattle.driver_laws.specs.Drivers.{Driver, bench_at, block_at as block_of, block_in, channels_on}
-pub use Rattle.cycle_laws.proofs.ListLemmas.{interleaved-length, sum-next}
 use Rattle.cycle_works.specs.Gears.{Gear, IsGear, Turns, driver_of, with_playback}
+pub use Rattle.cycle_works.proofs.CycleLemmas.{interleaved-length, sum-next}
 use Rattle.cycle_works.proofs.PlaybackLemmas.{length-mixed}
 use Rattle.walk_laws.specs.Walks.{Asks}
 use Rattle.check_walk.specs.Parts.{WalkedOn}

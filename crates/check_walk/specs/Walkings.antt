@@ -24,6 +24,7 @@ use Rattle.driver_words.specs.Rings.{Getting, Sending}
 use Rattle.control_desk.specs.Desks.{base_of}
 use Rattle.driver_words.specs.Tapes.{Tape}
 use Rattle.driver_laws.specs.Drivers.{Driver, HasOwnRings, HasOwnRows, run, turn_of}
+use Rattle.driver_laws.specs.Keeping.{AreOfCalls}
 use Rattle.cycle_works.specs.Gears.{Gear, driver_of, with_playback}
 pub use Rattle.cycle_works.specs.Gears.{IsServed}
 use Rattle.check_courses.specs.Untold.{untold}
@@ -56,9 +57,10 @@ block_at walking recorder = option_map_or (λ (taken : Taken). taken.block) (sli
 abbrev pub block_given : Course → ℕ → ℕ → Option (List ℤ)
 block_given course recorder k = if is_taping course recorder k then Some (block course recorder k) else None
 
--- behind some cycles of the course: it is kept; each recorder's block of the last one is at hand, and what that plays back
+-- behind some cycles of the course: it is kept, and what the last one took are calls of the script; each recorder's block of that cycle is at hand, and what that plays back
 pub record GoesAlong (sounding : Score → Sound) (course : Course) (walking : Walking) : Type 0 where
   pub walks : Walks course walking.publishing (driver_in sounding walking)
+  pub of_calls : AreOfCalls walking.gear.script walking.gear.stage.plan.changes
   pub blocks : (recorder : ℕ) (taken : Taken) → slice_get walking.takers recorder ≡ Some taken → 1 ≤ run (driver_in sounding walking) → taken.block ≡ block_given course recorder (run (driver_in sounding walking))
   pub played : 1 ≤ run (driver_in sounding walking) → (turn course (run (driver_in sounding walking))).is_freewheel ≡ false → walking.played ≡ played_in course (run (driver_in sounding walking))
 

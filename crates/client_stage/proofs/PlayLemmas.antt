@@ -19,6 +19,8 @@ use Rattle.bench_rack.specs.Racks.{Racked, bench_at}
 use Rattle.client_tasks.specs.Fillings.{AreJoints, with_wires}
 use Rattle.client_tasks.specs.Tasks.{HasRooms, joint_at, wire_by, wires_of}
 use Rattle.client_seats.specs.Seatings.{HavePeriod, IsRefused, IsSeating, standing_at}
+use Rattle.driver_words.specs.Feeding.{Fed}
+use Rattle.stage_feeds.specs.Feeding.{Feeds}
 use Rattle.stage_laws.specs.Known.{AreKnown}
 use Rattle.stage_laws.specs.Casts.{ArePlaces, Casts, Fills, Performs}
 use Rattle.stage_laws.specs.Stages.{Staged}
@@ -78,7 +80,8 @@ places-of old cast period places before is same other = record {
 }
 
 module _ (sounding : Score → Sound) (old : Staged) (last plan : Planned) (moment : Moment) (period : ℕ) (channels : List (List ℤ)) (cast : Staged) (casts : Casts sounding old last plan moment period cast) (by : StandsBy cast plan)
-    (places : List (Option ℕ)) (filled : Racked) (fills : Fills cast plan moment period channels places filled) (played : Racked) (performs : Performs sounding filled plan cast.crew played)
+    (places : List (Option ℕ)) (filled : Racked) (fills : Fills cast plan moment period channels places filled) (disks : Fed) (fed : Racked) (feeds : Feeds plan disks filled fed)
+    (played : Racked) (performs : Performs sounding fed plan cast.crew played)
     (rooms : HasRooms plan.links played) (links : played.links ≡ cast.racked.links) (others : (p : ℕ) → cast.crew ≤ p → (bench_at cast.racked p).kept.wires ≡ [] → bench_at played p ≡ bench_at cast.racked p)
     (known : AreKnown plan played cast.owned) where
   idle-there : (p : ℕ) → cast.crew ≤ p → cleared (bench_at played p) ≡ bench_at played p
@@ -87,7 +90,7 @@ module _ (sounding : Score → Sound) (old : Staged) (last plan : Planned) (mome
       subst (λ (b : Seen). cleared b ≡ b) (sym (others p h (sym (ap (λ (b : Seen). b.kept.wires) was)))) was
 
   lengths-there : length played.benches ≡ length cast.racked.benches
-  lengths-there = performs.lengths ∙ fills.lengths
+  lengths-there = performs.lengths ∙ feeds.lengths ∙ fills.lengths
 
   pub stands-played : (new : Staged) → new.racked ≡ played → new.owned ≡ cast.owned → new.crew ≡ cast.crew → new.room ≡ cast.room → new.wiring ≡ cast.wiring → new.nodes ≡ plan.nodes → new.period ≡ period → new.is_staffed ≡ true → StandsOn new plan
   stands-played new rack owned crew room wiring nodes same_period is_staffed = record {
@@ -95,16 +98,16 @@ module _ (sounding : Score → Sound) (old : Staged) (last plan : Planned) (mome
       planned = by.planned;
       wiring = wiring ∙ casts.wiring;
       nodes = nodes;
-      seating = subst (λ r. IsSeating r new.owned) (sym rack) (subst (IsSeating played) (sym owned) (seating-played sounding old last plan moment period channels cast casts places filled fills cast.crew played performs));
+      seating = subst (λ r. IsSeating r new.owned) (sym rack) (subst (IsSeating played) (sym owned) (seating-played sounding old last plan moment period channels cast casts places filled fills disks fed feeds cast.crew played performs));
       known = subst (λ r. AreKnown plan r new.owned) (sym rack) (subst (AreKnown plan played) (sym owned) known);
-      periods = subst (HavePeriod new.racked) (sym room) (subst (λ r. HavePeriod r cast.room) (sym rack) (periods-played sounding old last plan moment period channels cast casts places filled fills cast.crew played performs));
-      unfed = λ p. ap (λ (r : Racked). (standing_at r p).memory.fed) rack ∙ unfed-played sounding old last plan moment period channels cast casts places filled fills cast.crew played performs p;
-      unused = λ p h. ap (λ (r : Racked). (bench_at r p).kept.turn) rack ∙ idle-played sounding old last plan moment period channels cast casts places filled fills cast.crew played performs p h;
+      periods = subst (HavePeriod new.racked) (sym room) (subst (λ r. HavePeriod r cast.room) (sym rack) (periods-played sounding old last plan moment period channels cast casts places filled fills disks fed feeds cast.crew played performs));
+      unfed = λ p. ap (λ (r : Racked). (standing_at r p).memory.fed) rack ∙ unfed-played sounding old last plan moment period channels cast casts places filled fills disks fed feeds cast.crew played performs p;
+      unused = λ p h. ap (λ (r : Racked). (bench_at r p).kept.turn) rack ∙ idle-played sounding old last plan moment period channels cast casts places filled fills disks fed feeds cast.crew played performs p h;
       idle = λ p h. subst (λ (r : Racked). cleared (bench_at r p) ≡ bench_at r p) (sym rack) (idle-there p (omega (arith, h, crew)));
       crew = crew ∙ by.crew ∙ ap (λ n. min n 64) (sym (ap (λ (r : Racked). length r.benches) rack ∙ lengths-there));
       links = subst (λ n. EnoughLinks n new.racked.links) (sym crew) (subst (EnoughLinks cast.crew) (sym (ap (λ (r : Racked). r.links) rack ∙ links)) by.links);
       room = subst (λ n. n ≤ 4096) (sym room) by.room;
       refused = λ e. absurd (true≢false (sym is_staffed ∙ e));
     };
-    staffed = λ e. staffed-played sounding old last plan moment period channels cast casts places filled fills cast.crew played performs rooms new rack owned (wiring ∙ casts.wiring) same_period (ap open_clients nodes);
+    staffed = λ e. staffed-played sounding old last plan moment period channels cast casts places filled fills disks fed feeds cast.crew played performs rooms new rack owned (wiring ∙ casts.wiring) same_period (ap open_clients nodes);
   }

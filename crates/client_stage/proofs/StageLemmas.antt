@@ -1,7 +1,7 @@
 -- A cycle on the stage, from one cycle to the next.
 --     stands-moved_on, refused-moved_on      the stage once the period is set
---     performed      what the performance was
---     stands-behind, plays-behind, kinds-behind      the stage behind it
+--     the-cast, few-there, set-there, unused-there, unfed-there, periods-there, places-there      what the performance stands on
+--     stands-behind, kinds-behind      the stage behind it
 use Rattle.std.proofs.Common.{◌≡◌, ◌≢◌, ℕ, ◌≤◌, true, false, List, [], length, None, refl, sym, ◌∙◌, ap, subst}
 use Rattle.std.specs.Prelude.{ℤ, slice_index_or}
 use Rattle.std.specs.List.Sorted.{IsPermutation}
@@ -13,6 +13,9 @@ use Rattle.client_wiring.specs.Wirings.{Wired, wired_of}
 use Rattle.bench_rack.specs.Racks.{Racked, bench_at}
 use Rattle.client_tasks.specs.Tasks.{AreSet, HasRooms}
 use Rattle.client_seats.specs.Moves.{kinds_of}
+use Rattle.client_seats.specs.Seatings.{HavePeriod, standing_at}
+use Rattle.driver_words.specs.Feeding.{Fed}
+use Rattle.stage_feeds.specs.Feeding.{Feeds}
 use Rattle.stage_laws.specs.Known.{AreKnown}
 use Rattle.stage_laws.specs.Casts.{ArePlaces, Casts, Fills, Performs}
 use Rattle.stage_laws.specs.Stages.{Staged}
@@ -49,6 +52,12 @@ module _ (sounding : Score → Sound) {G : Type 0} (parts turned moved : Parts G
   pub refused-moved_on : moved.is_staffed ≡ false → StandsOn (staged_by moved crew plan.nodes) plan
   refused-moved_on e = stands-refused (staged_by moved crew plan.nodes) plan stands-moved_on e
 
+  pub unfed-there : (p : ℕ) → (standing_at moved.rack p).memory.fed ≡ []
+  unfed-there p = stands-moved_on.unfed p
+
+  pub periods-there : HavePeriod moved.rack moved.room
+  periods-there p h = stands-moved_on.periods p h
+
   module _ (casts : turned.is_staffed ≡ true → Casts sounding (staged_by parts crew last.nodes) last plan moment period cast) (is_staffed : moved.is_staffed ≡ true) where
     pub the-cast : Casts sounding (staged_by parts crew last.nodes) last plan moment period cast
     the-cast = casts (sym staffed-same ∙ is_staffed)
@@ -67,13 +76,14 @@ module _ (sounding : Score → Sound) {G : Type 0} (parts turned moved : Parts G
         → ArePlaces (staged_by parts crew last.nodes) cast period moved.last.items
     places-there kept same other = places-of (staged_by parts crew last.nodes) cast period moved.last.items turned.period (sym kept) (λ e. ap (λ v. v.items) (same e)) other
 
-    module _ (channels : List (List ℤ)) (filled played : Racked) (fills : Fills cast plan moment period channels moved.last.items filled) (performs : Performs sounding filled plan crew played) where
+    module _ (channels : List (List ℤ)) (filled : Racked) (fills : Fills cast plan moment period channels moved.last.items filled) (disks : Fed) (fed : Racked) (feeds : Feeds plan disks filled fed)
+        (played : Racked) (performs : Performs sounding fed plan crew played) where
       pub kinds-behind : kinds_of played ≡ kinds_of turned.rack → IsPermutation (kinds_of parts.rack) (kinds_of turned.rack) → IsPermutation (kinds_of parts.rack) (kinds_of played)
       kinds-behind kinds moved_kinds = subst (IsPermutation (kinds_of parts.rack)) (sym kinds) moved_kinds
 
       pub stands-behind : AreKnown plan played turned.owners → HasRooms plan.links played → played.links ≡ moved.rack.links
           → ((p : ℕ) → crew ≤ p → (bench_at moved.rack p).kept.wires ≡ [] → bench_at played p ≡ bench_at moved.rack p) → StandsOn (staged_by (record moved { rack = played }) crew plan.nodes) plan
       stands-behind known rooms links others =
-          stands-played sounding (staged_by parts crew last.nodes) last plan moment period channels cast the-cast by moved.last.items filled fills played performs rooms (links ∙ ap (λ (r : Racked). r.links) rack-same)
+          stands-played sounding (staged_by parts crew last.nodes) last plan moment period channels cast the-cast by moved.last.items filled fills disks fed feeds played performs rooms (links ∙ ap (λ (r : Racked). r.links) rack-same)
           (λ p h none. others p h (ap (λ (r : Racked). (bench_at r p).kept.wires) rack-same ∙ none) ∙ ap (λ (r : Racked). bench_at r p) rack-same) known
           (staged_by (record moved { rack = played }) crew plan.nodes) refl owners-same refl room-same wiring-same refl (ap (λ p. p.period) rest) is_staffed

@@ -1,3 +1,4 @@
 mod PlayedLemmas
 mod EndLemmas
 pub mod RunLemmas
+pub mod PassedLemmas

@@ -5,24 +5,28 @@ use client_kinds::Guest;
 use cycle_plan::Plan;
 use graph_word::Reader;
 use jack_host::{Source, Store, WriteFailed};
-use jack_types::{Moment, Overrun};
+use jack_types::{Logged, Moment, Overrun, Underrun};
 use record_ring::{Consumer, Producer};
 use wave_pcm::Wave;
 use wave_write::WaveOut;
 
 impl<S: Source, W: Store, G: Guest> Driver<S, W, G> {
-    ghost use Rattle.std.specs.Prelude.{◌≡◌, ◌<◌, ◌≤◌, [], false, IfErr, IfSome, None, OnErr, OnOk, Some, is_some, length, slice_set};
+    ghost use Rattle.std.specs.Prelude.{◌≡◌, ◌<◌, ◌≤◌, [], All, false, IfErr, IfSome, None, OnErr, OnOk, Some, is_some, length, slice_set};
     ghost use Rattle.std.specs.Borrow.{sem, Lends};
     ghost use Rattle.graph_word.specs.contracts.reader.Reader.{the_row as the_reader};
     ghost use Rattle.cycle_plan.specs.contracts.plan.Plan.{the_row as the_plan};
     ghost use Rattle.cycle_plan.specs.Plans.{Planned};
+    ghost use Rattle.record_ring.specs.contracts.consumer.Consumer.{the_row as the_consumer};
     ghost use Rattle.record_ring.specs.contracts.producer.Producer.{the_row as the_producer};
     ghost use Rattle.recorder_rings.specs.Sending.{consumer_at, ring_at};
     ghost use Rattle.cycle_driver.specs.contracts.driver.Driver.{the_row};
     ghost use Rattle.std.specs.Option.{ForSome};
     ghost use Rattle.jack_host.specs.Causes.{Rose};
     ghost use Rattle.driver_words.specs.Tapes.{HasSamples, IsCut, Tape};
-    ghost use Rattle.driver_laws.specs.Drivers.{peak_in};
+    ghost use Rattle.driver_words.specs.Feeding.{disk_at, played_at, producer_at};
+    ghost use Rattle.midi_player.specs.Standings.{IsLawful};
+    ghost use Rattle.driver_laws.specs.Drivers.{log_in, peak_in};
+    ghost use Rattle.driver_laws.specs.Keeping.{AreOfCalls};
     ghost use Rattle.cycle_works.specs.Gears.{driver_of};
     ghost use Rattle.cycle_driver.specs.Openings.{playback_format};
 
@@ -83,6 +87,31 @@ impl<S: Source, W: Store, G: Guest> Driver<S, W, G> {
         self.works.peak(birth)
     }
 
+    /// What the client that the change of this number opened has logged of MIDI over the cycles run, where the plan that was
+    /// played last is of calls of the script; nothing for every other number.
+    pub fn log(&self, birth: u32) -> &[Logged]
+        ensures value { AreOfCalls self.now.script self.now.stage.plan.changes → result.now ≡ log_in (driver_of G.sound self.now) birth }
+        ensures few { length result.now ≤ 4096 }
+        ensures lawful { All IsLawful result.now }
+    {
+        self.works.log(birth)
+    }
+
+    /// The underruns of all disks, in the order in which they came.
+    pub fn underruns(&self) -> &[Underrun]
+        ensures { result.now ≡ self.now.disks.underruns }
+    {
+        self.works.underruns()
+    }
+
+    /// How many blocks the cycles got from a disk's ring.
+    pub fn disk_played(&self, disk: u8) -> u64
+        requires { disk < length self.now.disks.disks }
+        ensures { result ≡ played_at self.now.disks disk }
+    {
+        self.works.disk_played(disk)
+    }
+
     /// The end of the publication that reads plans, to meet the other end.
     pub fn reader(&mut self) -> &mut Reader<Plan>
         ensures* writes_back { sem 𝓛 (Lends (the_row S.row W.row G.row S.Source W.Store G.Guest) (the_reader the_plan (record { base = λ (plan : Planned). plan.base; content = λ (plan : Planned). plan.changes })) self.entry result (λ reader. record self.old { reading = reader.0 })) }
@@ -107,6 +136,24 @@ impl<S: Source, W: Store, G: Guest> Driver<S, W, G> {
         ensures value { result.now ≡ ring_at self.old.rings recorder }
     {
         self.works.producer(recorder)
+    }
+
+    /// The end of a disk's ring that gets, to meet the other end.
+    pub fn disk_consumer(&mut self, disk: u8) -> &mut Consumer
+        requires { disk < length self.old.disks.disks }
+        ensures* writes_back { sem 𝓛 (Lends (the_row S.row W.row G.row S.Source W.Store G.Guest) the_consumer self.entry result (λ ring. record self.old { disks = record self.old.disks { disks = slice_set self.old.disks.disks disk ring } })) }
+        ensures value { result.now ≡ disk_at self.old.disks disk }
+    {
+        self.works.disk_consumer(disk)
+    }
+
+    /// Hands the end of a disk's ring out that puts, None exactly where it is out.
+    pub fn disk_producer(&mut self, disk: u8) -> Option<Producer>
+        requires { disk < length self.old.disks.disks }
+        ensures end { result ≡ producer_at self.old.disks disk }
+        ensures after { self.new ≡ record self.old { disks = record self.old.disks { out = slice_set self.old.disks.out disk None } } }
+    {
+        self.works.disk_producer(disk)
     }
 
     /// Takes the playback out, None exactly where none is attached. After it no cycle may be run.

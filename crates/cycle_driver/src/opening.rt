@@ -2,7 +2,7 @@
 
 ghost use Rattle.std.specs.Prelude.{◌≡◌, ◌<◌, ◌≤◌, IfOk, None};
 ghost use Rattle.driver_laws.specs.Drivers.{greatest_period};
-ghost use Rattle.cycle_works.specs.Gears.{IsServed};
+ghost use Rattle.session_model.specs.Grammar.{IsScript};
 
 use crate::driver::Driver;
 use client_kinds::Guest;
@@ -40,7 +40,7 @@ fn around<S: Source, W: Store, G: Guest>(
     works: Works<S, G>,
     mix: Playback,
 ) -> Driver<S, W, G>
-    requires served { IsServed script.now }
+    requires lawful { IsScript script.now }
     requires mix { (mix.channels ≡ script.now.header.playback) × (mix.room ≡ greatest_period script.now) }
     requires script { works.script ≡ script.now }
     requires playback { works.playback ≡ None }
@@ -66,7 +66,9 @@ impl<S: Source, W: Store, G: Guest> Driver<S, W, G> {
     ghost use Rattle.driver_laws.specs.Openings.{IsNew};
     ghost use Rattle.recorder_rings.specs.Openings.{IsNew as AreNew};
     ghost use Rattle.task_laws.specs.Calls.{guests_needed};
-    ghost use Rattle.cycle_works.specs.Gears.{IsServed, driver_of};
+    ghost use Rattle.cycle_works.specs.Gears.{driver_of};
+    ghost use Rattle.disk_feeds.specs.Openings.{IsNew as AreNewFeeds};
+    ghost use Rattle.session_model.specs.Grammar.{IsScript};
 
     /// The driver of a script's cycles, with these guests, over a capture of the script's channels of which nothing was read.
     /// No cycle was begun by the reader yet. All memory is taken here; where it lacks, the capture comes back.
@@ -77,7 +79,7 @@ impl<S: Source, W: Store, G: Guest> Driver<S, W, G> {
         capture: Wave<S>,
         guests: Vec<G>,
     ) -> Result<Driver<S, W, G>, (Wave<S>, Memory)>
-        requires served { IsServed script.now }
+        requires lawful { IsScript script.now }
         requires rows { reader.0.rows ≡ [] }
         requires capture { (capture.format.channels ≡ script.now.header.capture) × (capture.failed ≡ false) }
         requires guests { guests_needed script.now ≤ length guests.items }
@@ -85,6 +87,7 @@ impl<S: Source, W: Store, G: Guest> Driver<S, W, G> {
         ensures capture { IfOk result (λ driver. driver.capture.reading ≡ capture) }
         ensures reader { IfOk result (λ driver. driver.reading ≡ reader.0) }
         ensures rings { IfOk result (λ driver. AreNew script.now.header.recorders script.now.header.ring (greatest_period script.now) (length (turns script.now) * length script.now.header.recorders) driver.rings) }
+        ensures disks { IfOk result (λ driver. AreNewFeeds script.now.header.disks script.now.header.ring (greatest_period script.now) (length (turns script.now) * length script.now.header.disks) driver.disks) }
         ensures back { IfErr result (λ refused. refused.0 ≡ capture) }
     {
         let steals = script.header().steal;

@@ -1,4 +1,5 @@
 -- What is of a script's calls.
+--     front-front      a front of a front is one of the whole
 --     AreOfCalls-front      a front of changes that are of calls is of calls
 --     AreOfCalls-last      so is what the cycle before took
 use Rattle.std.proofs.Common.{◌≡◌, ℕ, zero, suc, List, [], ◌∷◌, length, map, take, Contains, ◌⊎◌, inl, inr, sym, ◌∙◌, ap, subst, arith}
@@ -10,7 +11,11 @@ use Rattle.session_model.specs.Soundness.{Apart}
 use Rattle.session_laws.proofs.ListLemmas.{map-take}
 use Rattle.session_laws.proofs.LoopLemmas.{Contains-cases, Contains-first, Contains-later}
 use Rattle.graph_word.specs.Publications.{IsFront}
+use Rattle.graph_word.proofs.Fronts.{front_short, take_take}
 use Rattle.driver_laws.specs.Keeping.{AreOfCalls}
+
+pub front-front : (front middle whole : List Change) → IsFront front middle → IsFront middle whole → IsFront front whole
+front-front front middle whole first second = first ∙ ap (take (length front)) second ∙ take_take (length front) (length middle) whole (front_short front middle first)
 
 contains-none : {X : Type 0} {x : X} → Contains [] x → ⊥
 contains-none m = omega (arith, m.1)
@@ -43,4 +48,4 @@ AreOfCalls-front script front whole is_front of = record {
 
 -- what the last cycle took is a front of what the place held, and that is one of what the cycle takes
 pub AreOfCalls-last : (script : Script) (last held changes : List Change) → IsFront last held → IsFront held changes → AreOfCalls script changes → AreOfCalls script last
-AreOfCalls-last script last held changes earlier later of = AreOfCalls-front script last held earlier (AreOfCalls-front script held changes later of)
+AreOfCalls-last script last held changes earlier later of = AreOfCalls-front script last changes (front-front last held changes earlier later) of

@@ -3,11 +3,14 @@ pub mod RowLemmas
 pub mod FrameLemmas
 pub mod RingLemmas
 pub mod SendLemmas
+pub mod DiskLemmas
 pub mod BlockLemmas
 pub mod MayLemmas
 pub mod StepLemmas
 pub mod PartLemmas
 pub mod FrontLemmas
+pub mod PeriodLemmas
+pub mod FeedLemmas
 pub mod SeenLemmas
 pub mod SettledLemmas
 pub mod PlayedLemmas

@@ -1,8 +1,9 @@
 -- Lists: what is found in them, sums over one item more, and how long a block is.
---     found-permuted      whether an item passes a test does not depend on their order
+--     found-permuted, any-permuted      whether an item passes a test does not depend on their order
 --     sum-next      a sum over one item more
 --     interleaved-length      how many samples an interleaved block has
-use Rattle.std.proofs.Common.{◌≡◌, ℕ, zero, suc, ◌+◌, ◌*◌, ◌<◌, Bool, true, false, List, find, length, map, take, get_or, sum_by, Contains, ℤ, IsPermutation, Option, Some, None, is_some, refl, sym, ◌∙◌, ap, arith, true≢false, take-suc}
+use Rattle.std.proofs.Common.{◌≡◌, ℕ, zero, suc, ◌+◌, ◌*◌, ◌<◌, ◌||◌, cond, Bool, true, false, List, [], ◌∷◌, find, length, map, take, get_or, sum_by, Contains, ℤ, IsPermutation, Option, Some, None, is_some, refl, sym, ◌∙◌, ap, arith, true≢false, take-suc}
+use Rattle.std.specs.List.{list_any}
 use Rattle.std.proofs.lemmas.List.{length-map}
 use Rattle.std.proofs.lemmas.List.Concat.{length-flat_map}
 use Rattle.std.proofs.lemmas.List.Sorted.{Contains-permutation, IsPermutation-sym}
@@ -31,6 +32,17 @@ found-permuted test xs ys same = both (is_some (find test xs)) (is_some (find te
     both true b f g = sym (f refl)
     both false true f g = g refl
     both false false f g = refl
+
+any-found : {X : Type 0} (test : X → Bool) (xs : List X) → list_any test xs ≡ is_some (find test xs)
+any-found test [] = refl
+any-found {X} test (x ∷ xs) = go (test x) (any-found test xs)
+  where
+    go : (b : Bool) → list_any test xs ≡ is_some (find test xs) → (b || list_any test xs) ≡ is_some (cond b (Some x) (find test xs))
+    go true rest = refl
+    go false rest = rest
+
+pub any-permuted : {X : Type 0} (test : X → Bool) (xs ys : List X) → IsPermutation xs ys → list_any test xs ≡ list_any test ys
+any-permuted test xs ys same = any-found test xs ∙ found-permuted test xs ys same ∙ sym (any-found test ys)
 
 pub sum-next : {X : Type 0} (f : X → ℕ) (xs : List X) (n : ℕ) (d : X) → n < length xs → sum_by f (take (suc n) xs) ≡ sum_by f (take n xs) + f (get_or xs n d)
 sum-next f xs n d low = ap (sum_by f) (take-suc xs n d low) ∙ sum_by_push f (take n xs) (get_or xs n d)

@@ -21,7 +21,7 @@ use Rattle.driver_laws.specs.Cycling.{MayCycle, StepsOnce}
 use Rattle.driver_laws.specs.Drivers.{Driver, bench_at}
 use Rattle.driver_laws.specs.Playing.{mixed_now, played_now, settled_now}
 use Rattle.playback_mix.specs.Mixes.{channel_mix}
-use Rattle.stage_laws.specs.Stages.{bench_of}
+use Rattle.play_laws.specs.Plays.{bench_of}
 use Rattle.cycle_laws.specs.Gears.{Gear, IsGear, driver_of}
 use Rattle.cycle_laws.specs.Turnings.{Turns}
 use Rattle.cycle_laws.proofs.SeenLemmas.{audio-seen, outputs-same}

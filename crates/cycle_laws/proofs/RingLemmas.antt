@@ -1,4 +1,4 @@
--- The rings of recorders behind one cycle more.
+-- The rings of recorders and disks behind one cycle more.
 --     put-kept      a cycle leaves a ring its bounds
 --     put-one_more      it puts one block at most
 --     put-samples      and no more samples than that has
@@ -6,7 +6,6 @@
 --     block-length      a block has no more samples than the channels of a period
 --     HasOwnRings-next      the rings are the driver's own again
 use Rattle.std.proofs.Common.{◌≡◌, ℕ, ◌+◌, ◌*◌, ◌≤◌, Bool, List, [], ◌∷◌, ◌++◌, length, map, slice_get, Option, Some, None, ℤ, sym, ◌∙◌, ap, subst, arith, add-mul}
-use Rattle.std.specs.Prelude.{slice_index_or}
 use Rattle.std.specs.Option.{option_map_or}
 use Rattle.std.proofs.lemmas.List.{length_push, length-map}
 use Rattle.std.proofs.lemmas.List.Sums.{sum_by_push}
@@ -15,9 +14,9 @@ use Rattle.session_model.specs.Rings.{RingBlock}
 use Rattle.session_model.specs.Samples.{below, interleaved}
 use Rattle.session_model.specs.Scripts.{Script}
 use Rattle.session_laws.proofs.SequentialLemmas.{length-below}
-use Rattle.driver_words.specs.Rings.{Sending, items_of}
+use Rattle.driver_words.specs.Rings.{Getting, Sending, items_of}
 use Rattle.driver_laws.specs.Cycling.{Idle, Lacked, PutsOne, Went}
-use Rattle.driver_laws.specs.Drivers.{Driver, HasOwnRings, IsOwnRing, channels_on, frames_run, greatest_period}
+use Rattle.driver_laws.specs.Drivers.{Driver, HasOwnRings, IsOwnDisk, IsOwnRing, channels_on, frames_run, greatest_period}
 use Rattle.driver_laws.proofs.PlaceLemmas.{there_too}
 use Rattle.cycle_laws.proofs.ListLemmas.{interleaved-length}
 
@@ -80,20 +79,20 @@ own-next driver after recorder ring ring_after samples script frames few grown o
       items = omega (arith, room, both, old, more, few);
     }
 
--- all rings are, of a driver that has no disks
+-- all rings are
 pub HasOwnRings-next : (driver after : Driver) → HasOwnRings driver → after.script ≡ driver.script → frames_run after ≡ frames_run driver + driver.set → length after.rings ≡ length driver.rings
-    → after.disks ≡ driver.disks → after.played ≡ driver.played → map (λ (ring : Sending). length ring.put) after.rings ≡ after.sent → (samples : ℕ → List ℤ)
+    → length after.disks ≡ length driver.disks → map (λ (got : Getting). length got.got) after.disks ≡ after.played → ((disk : ℕ) (got : Getting) → slice_get after.disks disk ≡ Some got → IsOwnDisk after disk got)
+    → map (λ (ring : Sending). length ring.put) after.rings ≡ after.sent → (samples : ℕ → List ℤ)
     → ((recorder : ℕ) → length (samples recorder) ≤ driver.set * channels_on driver.script recorder)
     → ((recorder : ℕ) (ring ring_after : Sending) → slice_get driver.rings recorder ≡ Some ring → slice_get after.rings recorder ≡ Some ring_after → Grows (samples recorder) ring ring_after)
     → HasOwnRings after
-HasOwnRings-next driver after own script frames as_many disks played counted samples few grown = record {
+HasOwnRings-next driver after own script frames as_many as_many_disks played own_disks counted samples few grown = record {
   recorders = as_many ∙ own.recorders ∙ ap (λ (s : Script). length s.header.recorders) (sym script);
-  disks = ap length disks ∙ own.disks ∙ ap (λ (s : Script). length s.header.disks) (sym script);
+  disks = as_many_disks ∙ own.disks ∙ ap (λ (s : Script). length s.header.disks) (sym script);
   puts = counted;
-  gets = ap (map (λ got. length got.got)) disks ∙ own.gets ∙ sym played;
+  gets = played;
   own = λ recorder ring_after here.
       let there = there_too after.rings driver.rings recorder ring_after (sym as_many) here in
       own-next driver after recorder there.0 ring_after (samples recorder) script frames (few recorder) (grown recorder there.0 ring_after there.1 here) (own.own recorder there.0 there.1);
-  own_disks = λ disk got here.
-      own.own_disks disk got (ap (λ xs. slice_get xs disk) (sym disks) ∙ here) ∙ ap (λ (s : Script). greatest_period s * slice_index_or s.header.disks disk 0) (sym script);
+  own_disks = own_disks;
 }

@@ -47,7 +47,7 @@ puts-few rings sent cycles recorder counted all low =
     let few : get_or sent recorder 0 ≤ cycles = all recorder 0 (omega (arith, long, low)) in
     omega (arith, at, few)
 
--- there is room for an overrun of each recorder
+-- there is room for an overrun of each recorder, or an underrun of each disk
 pub losses-fit : (overruns recorders losses cycles turns : ℕ) → overruns ≤ cycles * recorders → turns * recorders ≤ losses → cycles < turns → overruns + recorders ≤ losses
 losses-fit overruns recorders losses cycles turns so_far room few =
     let next : (cycles + 1) * recorders ≡ cycles * recorders + 1 * recorders = add-mul cycles 1 recorders in

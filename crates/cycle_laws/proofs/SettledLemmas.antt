@@ -1,18 +1,18 @@
 -- What is settled before the clients of a cycle play, in the driver's own terms and in those of its parts.
 --     content-now, base-now, graph-now      the changes, the channels and the graph of the cycle are its plan's
 --     moment-now      what the transport shows
+--     goes-on      the plan goes on from the one before
 --     channels-now      as many channels as the script's capture
 --     settled-now      all that is settled
---     events-now      no event comes from the cycle before
-use Rattle.std.proofs.Common.{◌≡◌, ℕ, ◌+◌, ◌*◌, ◌<◌, ◌==◌, ◌&&◌, cond, Bool, true, false, List, [], length, map, replicate, ℤ, Some, refl, sym, ◌∙◌, ap, ap₂, subst}
-use Rattle.std.specs.Prelude.{Option, slice_index_or, unwrap_or}
+use Rattle.std.proofs.Common.{◌≡◌, ℕ, ◌+◌, ◌*◌, ◌<◌, cond, Bool, true, false, List, [], length, map, replicate, ℤ, Option, Some, refl, sym, ◌∙◌, ap, ap₂, subst}
+use Rattle.std.specs.Prelude.{slice_index_or, unwrap_or}
 use Rattle.jack_types.specs.declared.commands.Change.{Change}
+use Rattle.jack_types.specs.declared.events.Event.{Event}
 use Rattle.jack_types.specs.declared.moments.Moment.{Moment}
-use Rattle.session_model.specs.Benches.{node_at, outputs_of}
+use Rattle.session_model.specs.Benches.{Bench, node_at, outputs_of}
 use Rattle.session_model.specs.Commands.{replay}
-use Rattle.session_model.specs.Cycles.{was_there}
 use Rattle.session_model.specs.Driving.{kept_from}
-use Rattle.session_model.specs.Kinds.{Sound, first}
+use Rattle.session_model.specs.Kinds.{Memory, Sound, first}
 use Rattle.session_model.specs.Samples.{below, sample, silence}
 use Rattle.session_model.specs.Scripts.{Script}
 use Rattle.session_model.specs.State.{OpenClient, State, opening}
@@ -21,19 +21,25 @@ use Rattle.client_kinds.specs.Scores.{Score}
 use Rattle.port_registry.specs.Registered.{open_clients}
 use Rattle.cycle_plan.specs.Plans.{Planned, state_of_plan}
 use Rattle.graph_word.specs.declared.plans.Base.{Base}
-use Rattle.graph_word.specs.Publications.{Reading}
+use Rattle.graph_word.specs.Publications.{IsFront, Reading}
 use Rattle.transport.specs.Standings.{Standing}
 use Rattle.device_periods.specs.Captures.{Captured, Reads}
+use Rattle.driver_words.specs.Feeding.{fed_at}
+use Rattle.driver_words.specs.Hearings.{log_at}
 use Rattle.driver_laws.specs.Cycling.{MayCycle, StepsOnce}
-use Rattle.driver_laws.specs.Drivers.{Driver, bench_at, content_now, graph_now, graph_of, memory_in, run, turn_of}
-use Rattle.driver_laws.specs.Playing.{capture_now, fed_now, kept_now, moment_now, settled_last, settled_now}
-use Rattle.task_laws.specs.Calls.{IsOldKind}
-use Rattle.stage_laws.specs.Quiet.{HasNoEvents}
-use Rattle.stage_laws.specs.Plays.{IsSettledOn}
-use Rattle.stage_laws.specs.Stages.{bench_of}
+use Rattle.driver_laws.specs.Drivers.{Driver, bench_at, content_now, graph_now, graph_of, run}
+use Rattle.driver_laws.specs.Keeping.{AreOfCalls}
+use Rattle.driver_laws.specs.Playing.{capture_now, fed_now, kept_now, moment_now, settled_last, settled_now, with_fed}
+use Rattle.client_wiring.specs.Keeping.{GoesOn}
+use Rattle.midi_wiring.specs.Keeping.{BringsCarried, Gave}
+use Rattle.client_seats.specs.Seatings.{memory_of}
+use Rattle.client_seats.proofs.SeatLemmas.{bench-within}
+use Rattle.event_laws.specs.Machine.{BringsEvents}
+use Rattle.play_laws.specs.Plays.{IsSettledOn, bench_of, with_log}
 use Rattle.cycle_laws.specs.Gears.{Gear, IsGear, IsInStep, driver_of}
 use Rattle.cycle_laws.specs.Turnings.{Turns}
-use Rattle.cycle_laws.proofs.SeenLemmas.{audio-seen, events-none, memory-plain, midi-seen, outputs-same}
+use Rattle.cycle_laws.proofs.FrontLemmas.{front-front}
+use Rattle.cycle_laws.proofs.SeenLemmas.{audio-seen, bench-seen, memory-logged, memory-own, outputs-same}
 
 module _ (sounding : Score → Sound) {freewheel : Bool} {before after : Gear} {plan : Planned} {moment : Moment} (gear : IsGear sounding before) (may : MayCycle (driver_of sounding before) freewheel) (turns : Turns sounding freewheel before plan moment after)
     (steps : StepsOnce (driver_of sounding before) (driver_of sounding after)) where
@@ -80,13 +86,52 @@ module _ (sounding : Score → Sound) {freewheel : Bool} {before after : Gear} {
       kept_at : ℕ → State → State → (List ℕ → List ℤ) → List ℤ
       kept_at period last state audio = (kept_from period last (record { audio = audio; midi = λ _. [] }) state before.set).audio port
 
-  -- no bench gave an event, so feedback edges give none
-  pub events-now : (left : List ℤ) → HasNoEvents (settled_now driver played left)
-  events-now left port = none-kept ((turn_of before.script (run driver)).period == before.set && was_there (graph_now driver) (graph_now played) port) (events-none (settled_last driver) driver.nodes (bench_at driver) (midi-seen sounding before) port)
+  -- the plan goes on from the one that the stage played last
+  pub goes-on : GoesOn before.stage.plan plan
+  goes-on = record {
+    planned_last = gear.stands.stands.planned;
+    planned = turns.planned;
+    base = base-now ∙ sym gear.base;
+    front = front-front before.stage.plan.changes before.reading.held plan.changes may.rows.place (subst (IsFront before.reading.held) (sym turns.content) turns.takes.front);
+  }
+
+  -- each bench of the last plan gave on its MIDI outputs what was heard
+  gave-last : before.stage.staged.is_staffed ≡ true → Gave before.stage.plan before.events (bench_at driver)
+  gave-last staffed n low =
+      ap (λ (bench : Bench). bench.midi) (bench-seen sounding before n
+      (bench-within (open_clients before.stage.plan.nodes) before.stage.staged.racked before.stage.staged.owned n n gear.stands.stands.seating ((gear.stands.staffed staffed).has n low)))
+
+  -- the events that feedback edges give are told by the plans
+  midi-kept : (port : List ℕ) → (kept_now driver played).midi port
+      ≡ (kept_from before.events.period (state_of_plan before.stage.plan) (outputs_of (settled_last driver) (open_clients before.stage.plan.nodes) (bench_at driver)) (state_of_plan plan) before.set).midi port
+  midi-kept port =
+      ap₂ (λ period last. kept_of period last driver.nodes (graph_now played)) (sym in_step.heard) graph-last
+      ∙ ap₂ (kept_of before.events.period (state_of_plan before.stage.plan)) (ap open_clients gear.stands.stands.nodes) graph-now
     where
-      none-kept : (b : Bool) → (outputs_of (settled_last driver) driver.nodes (bench_at driver)).midi port ≡ [] → cond b ((outputs_of (settled_last driver) driver.nodes (bench_at driver)).midi port) [] ≡ []
-      none-kept true none = none
-      none-kept false none = refl
+      kept_of : ℕ → State → List OpenClient → State → List Event
+      kept_of period last nodes state = (kept_from period last (outputs_of (settled_last driver) nodes (bench_at driver)) state before.set).midi port
+
+  -- so feedback edges bring what outputs carried
+  pub events-now : before.stage.staged.is_staffed ≡ true → BringsCarried before.stage.plan plan before.events after.events before.set → (left : List ℤ) → BringsEvents plan (settled_now driver played left) after.events
+  events-now staffed brings left edge listed end back = midi-kept edge.source ∙ brings edge listed end back (settled_last driver) (bench_at driver) graph-last (gave-last staffed)
+
+  -- a client of the plan
+  abbrev client : ℕ → OpenClient
+  client n = node_at (open_clients plan.nodes) n
+
+  -- its memory is its own, or the first of its kind, with its log and its disk's block
+  memory-now : AreOfCalls before.script before.stage.plan.changes
+      → ((n : ℕ) → n < length plan.nodes → (memory : Memory) → with_fed (fed_now driver played) (client n).kind memory ≡ with_fed (fed_at after.disks) (client n).kind memory)
+      → (left : List ℤ) (n : ℕ) → n < length plan.nodes
+      → (settled_now driver played left).memory (client n)
+      ≡ with_fed (fed_at after.disks) (client n).kind (with_log (log_at before.events (client n).birth)
+      (unwrap_or (memory_of before.stage.staged.racked before.stage.staged.owned (client n).birth) (first (map sounding before.stage.staged.owned.scores) (client n).kind)))
+  memory-now of_last fed left n low =
+      ap (with_fed (fed_now driver played) (client n).kind)
+      (ap (λ held. unwrap_or held (first driver.scores (client n).kind)) (memory-logged sounding before (client n).birth)
+      ∙ memory-own (log_at before.events (client n).birth) (memory_of before.stage.staged.racked before.stage.staged.owned (client n).birth) driver.scores (client n).kind (gear.logs of_last (client n).birth))
+      ∙ fed n low (with_log (log_at before.events (client n).birth)
+      (unwrap_or (memory_of before.stage.staged.racked before.stage.staged.owned (client n).birth) (first driver.scores (client n).kind)))
 
   module _ (left : List ℤ) (told : driver.left ≡ Some left)
       (as_many_read : (left : List ℤ) (rest : Option (List ℤ)) (channels : List (List ℤ)) (count frames : ℕ) → Reads (Some left) rest channels count frames → length channels ≡ count)
@@ -126,9 +171,11 @@ module _ (sounding : Score → Sound) {freewheel : Bool} {before after : Gear} {
         go true e = ap (λ b. channel_in b count channel) e ∙ sym ((rested after.capture.channels count before.set (of-freewheel e)).1 channel within)
         go false e = ap (λ b. channel_in b count channel) e ∙ sym (was_read left after.capture.reading.left after.capture.channels count before.set channel (of-run e) within)
 
-    pub settled-now : ((n : ℕ) → n < length plan.nodes → IsOldKind (node_at (open_clients plan.nodes) n).kind)
-        → IsSettledOn sounding before.stage.staged before.stage.plan plan moment before.set after.capture.channels (settled_now driver played left)
-    settled-now old = record {
+    pub settled-now : AreOfCalls before.script before.stage.plan.changes
+        → ((n : ℕ) → n < length plan.nodes → (memory : Memory) → with_fed (fed_now driver played) (client n).kind memory ≡ with_fed (fed_at after.disks) (client n).kind memory)
+        → BringsEvents plan (settled_now driver played left) after.events
+        → IsSettledOn sounding before.stage.staged before.stage.plan plan moment before.set after.capture.channels before.events after.events after.disks (settled_now driver played left)
+    settled-now of_last fed events = record {
       graph = graph-now;
       moment_is = sym moment-now;
       frames = refl;
@@ -137,8 +184,6 @@ module _ (sounding : Score → Sound) {freewheel : Bool} {before after : Gear} {
       graph_last = graph-last;
       frames_last = sym in_step.period;
       before = kept-now;
-      memory = λ n low. memory-plain (fed_now driver played) (client n).kind (unwrap_or (memory_in driver (client n).birth) (first (map sounding before.stage.staged.owned.scores) (client n).kind)) (old n low);
+      events = events;
+      memory = memory-now of_last fed left;
     }
-      where
-        client : ℕ → OpenClient
-        client n = node_at (open_clients plan.nodes) n

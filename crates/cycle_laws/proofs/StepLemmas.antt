@@ -3,13 +3,11 @@
 --     puts      at each ring the blocks were put as by the driver
 --     frames-is      the frames of one cycle more
 --     StepsOnce-turned      it is a step
-use Rattle.std.proofs.Common.{◌≡◌, ℕ, ◌+◌, ◌*◌, ◌<◌, ◌≤◌, Bool, true, false, List, [], ◌∷◌, ◌++◌, drop, length, map, position, All, slice_get, ℤ, Some, refl, sym, ◌∙◌, ap, ap₂, subst}
-use Rattle.std.proofs.lemmas.List.Elements.{All-nil}
-use Rattle.std.proofs.lemmas.Option.{get_or_from_slice_get, none-some, slice_get_within}
+use Rattle.std.proofs.Common.{◌≡◌, ℕ, ◌+◌, ◌*◌, ◌≤◌, Bool, true, false, List, [], ◌∷◌, ◌++◌, drop, length, map, position, All, slice_get, ℤ, Some, refl, sym, ◌∙◌, ap, ap₂, subst}
+use Rattle.std.proofs.lemmas.Option.{get_or_from_slice_get, slice_get_within}
 use Rattle.jack_types.specs.declared.commands.Change.{Change}
 use Rattle.jack_types.specs.declared.moments.Moment.{Moment}
-use Rattle.jack_types.specs.declared.replies.Underrun.{Underrun}
-use Rattle.session_model.specs.Courses.{players}
+use Rattle.session_model.specs.Courses.{is_disk, players}
 use Rattle.session_model.specs.Kinds.{Sound, input_at}
 use Rattle.session_model.specs.Recorders.{is_tape}
 use Rattle.session_model.specs.Scripts.{Script}
@@ -18,21 +16,24 @@ use Rattle.session_model.specs.Transport.{active_master, next_row, shown, slow_n
 use Rattle.client_kinds.specs.Scores.{Score}
 use Rattle.port_registry.specs.Registered.{open_clients}
 use Rattle.cycle_plan.specs.Plans.{Planned, state_of_plan}
-use Rattle.driver_words.specs.Rings.{Sending}
+use Rattle.driver_words.specs.Feeding.{AreForPeriods, Fed}
+use Rattle.driver_words.specs.Rings.{Getting, Sending}
 use Rattle.transport.specs.Standings.{HasTarget, Standing}
 use Rattle.bench_rack.specs.Racks.{bench_at as bench_of_rack}
 use Rattle.device_periods.specs.Captures.{Captured}
-use Rattle.driver_laws.specs.Cycling.{MayCycle, PutsOne, StepsOnce}
-use Rattle.driver_laws.specs.Drivers.{HasOwnRings, HasOwnRows, bench_at, block_in, channels_on, content_now, frames_read, frames_run, graph_now, has_tape, overruns_on, turn_of}
+use Rattle.driver_laws.specs.Cycling.{GetsOne, MayCycle, PutsOne, StepsOnce}
+use Rattle.driver_laws.specs.Drivers.{HasOwnRings, HasOwnRows, IsOwnDisk, bench_at, block_in, channels_on, content_now, frames_read, frames_run, graph_now, greatest_period, has_disk, has_tape, overruns_on, turn_of, underruns_on}
 use Rattle.driver_laws.specs.Keeping.{AreOfCalls}
 use Rattle.driver_laws.specs.Playing.{adopted_now, last_number, moment_now}
 use Rattle.recorder_rings.specs.Sending.{channels_at, no_ring, ring_at}
 use Rattle.cycle_blocks.specs.Blocks.{block_by, is_taped}
+use Rattle.disk_feeds.specs.Cycling.{is_fed}
 use Rattle.cycle_laws.specs.Gears.{Gear, IsGear, driver_of}
 use Rattle.cycle_laws.specs.Turnings.{Turns}
 use Rattle.cycle_laws.proofs.BlockLemmas.{block-same, frames-of_freewheel, frames-of_run, left-read, left-rest}
+use Rattle.cycle_laws.proofs.DiskLemmas.{disks-are, disks-own}
 use Rattle.cycle_laws.proofs.FrameLemmas.{frames-after}
-use Rattle.cycle_laws.proofs.ListLemmas.{found-permuted}
+use Rattle.cycle_laws.proofs.ListLemmas.{any-permuted, found-permuted}
 use Rattle.cycle_laws.proofs.RingLemmas.{HasOwnRings-next, block-length, grows, puts-same}
 use Rattle.cycle_laws.proofs.RowLemmas.{HasOwnRows-next, graph-planned}
 use Rattle.cycle_laws.proofs.SeenLemmas.{sounds-seen}
@@ -53,6 +54,11 @@ module _ (sounding : Score → Sound) (freewheel : Bool) (before after : Gear) (
   taped recorder =
       sym (found-permuted (λ (client : OpenClient). is_tape recorder client.kind) (players (state_of_plan plan)) (open_clients plan.nodes) turned.planned.moved)
       ∙ ap (λ (state : State). has_tape state recorder) (sym graph-is)
+
+  fed : (disk : ℕ) → is_fed (open_clients plan.nodes) disk ≡ has_disk (graph_now (driver_of sounding after)) disk
+  fed disk =
+      sym (any-permuted (λ (client : OpenClient). is_disk disk client.kind) (players (state_of_plan plan)) (open_clients plan.nodes) turned.planned.moved)
+      ∙ ap (λ (state : State). has_disk state disk) (sym graph-is)
 
   nodes-are : open_clients plan.nodes ≡ open_clients after.stage.staged.nodes
   nodes-are = ap open_clients (sym turned.stands.stands.nodes)
@@ -86,8 +92,15 @@ module _ (sounding : Score → Sound) (freewheel : Bool) (before after : Gear) (
       (ap₂ (λ a b. a * b) turned.set (ap (λ (s : Script). channels_on s recorder) turned.script))
       (block-length after.set (channels_on after.script recorder) (λ n. input_at after.set (bench_at (driver_of sounding after) n).sounds) (position (λ (client : OpenClient). is_tape recorder client.kind) (open_clients after.stage.staged.nodes)))
 
-  own-rings : HasOwnRings (driver_of sounding after)
-  own-rings = HasOwnRings-next (driver_of sounding before) (driver_of sounding after) may.rings turned.script frames-is turned.sends.as_many refl refl (turned.sends.counted may.rings.puts)
+  -- the disks' rings are for the greatest period yet
+  own-disks : (AreForPeriods before.disks → AreForPeriods after.disks) → (disk : ℕ) (got : Getting) → slice_get after.disks.disks disk ≡ Some got → IsOwnDisk (driver_of sounding after) disk got
+  own-disks ready = disks-own after.disks (driver_of sounding after)
+      (ap (λ (f : Fed). f.channels) turned.gets.same ∙ is.disks.channels ∙ ap (λ (s : Script). s.header.disks) (sym turned.script))
+      (ap (λ (f : Fed). f.period) turned.gets.same ∙ is.disks.period ∙ ap greatest_period (sym turned.script))
+      (ready (disks-are before.disks (driver_of sounding before) is.disks.channels is.disks.period may.rings.own_disks))
+
+  own-rings : (AreForPeriods before.disks → AreForPeriods after.disks) → HasOwnRings (driver_of sounding after)
+  own-rings ready = HasOwnRings-next (driver_of sounding before) (driver_of sounding after) may.rings turned.script frames-is turned.sends.as_many turned.gets.as_many (turned.gets.counted may.rings.gets) (own-disks ready) (turned.sends.counted may.rings.puts)
       (block_in (driver_of sounding after)) block-fits
       (λ recorder ring ring_after here there. grows (length before.numbers + 1) recorder (has_tape (graph_now (driver_of sounding after)) recorder) (block_in (driver_of sounding after) recorder) ring ring_after
       (overruns_on before.rings.overruns recorder) (overruns_on after.rings.overruns recorder) (puts recorder ring ring_after here there))
@@ -125,8 +138,11 @@ module _ (sounding : Score → Sound) (freewheel : Bool) (before after : Gear) (
       (ap (λ (s : Standing). s.cycles) turned.standing ∙ ap (λ cycles. cycles + 1) (is.in_step may.sound).cycles) is.rate
       ∙ ap (λ state. shown (length before.numbers + 1) after.transport.row before.script.header.rate (active_master state)) (sym graph-is)
 
-  pub StepsOnce-turned : (AreOfCalls before.script plan.changes → All HasTarget (drop (last_number (driver_of sounding before)) plan.changes)) → StepsOnce (driver_of sounding before) (driver_of sounding after)
-  StepsOnce-turned targets = record {
+  pub StepsOnce-turned : (AreOfCalls before.script plan.changes → All HasTarget (drop (last_number (driver_of sounding before)) plan.changes))
+      → ((disk : ℕ) (got got_after : Getting) → slice_get before.disks.disks disk ≡ Some got → slice_get after.disks.disks disk ≡ Some got_after
+      → GetsOne (length before.numbers + 1) disk (is_fed (open_clients plan.nodes) disk) got got_after (underruns_on before.disks.underruns disk) (underruns_on after.disks.underruns disk))
+      → (AreForPeriods before.disks → AreForPeriods after.disks) → StepsOnce (driver_of sounding before) (driver_of sounding after)
+  StepsOnce-turned targets gets ready = record {
     taken = turned.taken;
     number = turned.number;
     takes = turned.takes;
@@ -139,14 +155,15 @@ module _ (sounding : Score → Sound) (freewheel : Bool) (before after : Gear) (
     overruns = turned.sends.overruns;
     more_overruns = turned.sends.more;
     overruns_now = turned.sends.now;
-    disks = λ disk got got_after here there. absurd (none-some got here);
-    as_many_disks = refl;
-    underruns = [];
-    more_underruns = refl;
-    underruns_now = All-nil (λ (underrun : Underrun). (underrun.cycle ≡ length before.numbers + 1) × (underrun.disk < 0));
+    disks = λ disk got got_after here there.
+        subst (λ (b : Bool). GetsOne (length before.numbers + 1) disk b got got_after (underruns_on before.disks.underruns disk) (underruns_on after.disks.underruns disk)) (fed disk) (gets disk got got_after here there);
+    as_many_disks = turned.gets.as_many;
+    underruns = turned.gets.underruns;
+    more_underruns = turned.gets.more;
+    underruns_now = turned.gets.now;
     left = left-is;
     own_rows = own-rows;
-    own_rings = own-rings;
+    own_rings = own-rings ready;
     script = turned.script;
     scores = ap (map sounding) turned.scores;
     set = turned.set;

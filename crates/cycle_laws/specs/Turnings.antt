@@ -1,13 +1,9 @@
 -- What the parts of a driver do in a cycle.
 --     Turns sounding freewheel before plan moment after      what the calls left, in their order
-use Rattle.std.specs.Prelude.{◌≡◌, ℕ, ◌+◌, ◌<◌, Bool, true, false, [], ◌∷◌, ◌++◌, length, drop, map, replicate, All}
+use Rattle.std.specs.Prelude.{◌≡◌, ℕ, ◌+◌, Bool, true, false, [], ◌∷◌, ◌++◌, length, drop, replicate, All}
 use Rattle.std.specs.List.Sorted.{IsPermutation}
 use Rattle.jack_types.specs.declared.moments.Moment.{Moment}
-use Rattle.session_model.specs.Benches.{node_at}
-use Rattle.session_model.specs.Courses.{Course}
-use Rattle.session_model.specs.Cycles.{Settled, audio_outputs}
 use Rattle.session_model.specs.Samples.{silence}
-use Rattle.session_model.specs.State.{system_name}
 use Rattle.session_model.specs.Transport.{active_master, next_row, shown, slow_numbers, timeout_of}
 use Rattle.session_model.specs.Kinds.{Sound}
 use Rattle.client_kinds.specs.Scores.{Score}
@@ -17,16 +13,16 @@ use Rattle.graph_word.specs.Publications.{Begins, Reading, Takes}
 use Rattle.transport.specs.Standings.{HasTarget}
 use Rattle.wave_pcm.specs.Readings.{SameReading}
 use Rattle.device_periods.specs.Captures.{Reads}
+use Rattle.driver_laws.specs.Keeping.{AreOfCalls}
 use Rattle.driver_laws.specs.Playing.{last_number}
+use Rattle.disk_feeds.specs.Cycling.{GetsAll}
+use Rattle.midi_wiring.specs.Hearings.{AreCarried, HearsPlan}
 use Rattle.client_seats.specs.Moves.{kinds_of}
-use Rattle.task_laws.specs.Calls.{IsOldKind}
-use Rattle.stage_laws.specs.Quiet.{HasNoEvents}
-use Rattle.stage_laws.specs.Plays.{IsSettledOn, PlaysPlan}
-use Rattle.stage_laws.specs.Standing.{StandsOn}
+use Rattle.play_laws.specs.Plays.{PerformsPlan, StandsOn}
 use Rattle.cycle_blocks.specs.Blocks.{Sends}
 use Rattle.cycle_laws.specs.Gears.{Gear, driver_of}
 
--- the plan was taken and begun, the transport stepped, the capture read in a `run` cycle alone, the plan played, and the blocks put
+-- the plan was taken and begun, the transport stepped, the capture read in a `run` cycle alone, the blocks of disks got, the plan performed and its MIDI clients heard, and the recorders' blocks put
 pub record Turns (sounding : Score → Sound) (freewheel : Bool) (before : Gear) (plan : Planned) (moment : Moment) (after : Gear) : Type 0 where
   pub number : ℕ
   pub taken : Reading
@@ -49,15 +45,16 @@ pub record Turns (sounding : Score → Sound) (freewheel : Bool) (before : Gear)
   pub plan_is : after.stage.plan ≡ plan
   pub period : after.stage.staged.period ≡ before.set
   pub stands : StandsOn after.stage.staged plan
-  pub plays : (course : Course) (at : Settled) → before.stage.staged.is_staffed ≡ true → after.stage.staged.is_staffed ≡ true → IsSettledOn sounding before.stage.staged before.stage.plan plan moment before.set after.capture.channels at
-      → course.scores ≡ map sounding before.stage.staged.owned.scores → HasNoEvents at
-      → length after.capture.channels ≡ length (audio_outputs (state_of_plan plan) system_name) → ((n : ℕ) → n < length plan.nodes → IsOldKind (node_at (open_clients plan.nodes) n).kind)
-      → PlaysPlan sounding course before.stage.staged plan at after.stage.staged
+  pub performs : before.stage.staged.is_staffed ≡ true → after.stage.staged.is_staffed ≡ true
+      → PerformsPlan sounding before.stage.staged before.stage.plan plan moment before.set after.capture.channels after.disks after.stage.staged
+  pub hears : AreOfCalls before.script plan.changes → HearsPlan before.events plan moment before.set after.events
+  pub carried : AreCarried plan after.events
+  pub lists : after.events.lists ≡ before.events.lists
+  pub heard_period : after.events.period ≡ before.set
+  pub gets : GetsAll (open_clients plan.nodes) (length before.numbers + 1) before.disks after.disks
   pub kinds : IsPermutation (kinds_of before.stage.staged.racked) (kinds_of after.stage.staged.racked)
   pub scores : after.stage.staged.owned.scores ≡ before.stage.staged.owned.scores
   pub room : after.stage.staged.room ≡ before.stage.staged.room
   pub sends : Sends after.stage.staged.racked (open_clients plan.nodes) (length before.numbers + 1) before.set before.rings after.rings
   pub script : after.script ≡ before.script
   pub set : after.set ≡ before.set
-  pub events : after.events ≡ before.events
-  pub disks : after.disks ≡ before.disks

@@ -6,6 +6,7 @@ ghost use Rattle.session_model.specs.Courses.{Course};
 ghost use Rattle.session_model.specs.Kinds.{Sound};
 ghost use Rattle.client_kinds.specs.Scores.{Score};
 ghost use Rattle.cycle_plan.specs.Plans.{Planned};
+ghost use Rattle.driver_words.specs.Feeding.{MayGet};
 ghost use Rattle.driver_laws.specs.Cycling.{MayCycle, StepsOnce};
 ghost use Rattle.driver_laws.specs.Keeping.{AreOfCalls, Fits, Keeps};
 ghost use Rattle.session_model.specs.Samples.{below, interleaved};
@@ -16,17 +17,24 @@ ghost use Rattle.cycle_laws.specs.Gears.{Gear, IsGear, driver_of};
 ghost use Rattle.cycle_laws.specs.Turnings.{Turns};
 
 use client_wiring::laws::the_device_has_its_ports;
+use disk_feeds::{
+    a_cycle_gets_one_block_of_each_ring, a_cycle_leaves_the_disks_ready,
+    a_player_is_given_what_was_got,
+};
+use driver_laws::courses::a_script_with_disks_keeps_its_period;
 use driver_laws::cycling::content_is_of_calls;
+use midi_wiring::laws::a_feedback_edge_brings_what_was_carried;
 use plan_transport::calls_have_targets;
+use play_laws::a_plan_of_a_scripts_calls_is_not_refused;
+use play_laws::laws::{a_stage_plays_its_plan, memories_never_go};
 use playback_laws::mixes::the_mix_is_played;
 use playback_laws::periods::a_period_is_what_the_capture_has;
 use script_needs::limits::{cycles_are_few, periods_are_in_range, samples_are_few};
-use stage_laws::owning::a_plan_of_a_scripts_calls_is_not_refused;
-use task_laws::scripts::old_scripts_are_plain;
 
 /// Before a cycle the blocks may be put, and the numbers of the transport have room for one cycle more.
 pub fn a_cycle_may_be_played()
     ensures sends { (sounding : Score → Sound) (gear : Gear) (freewheel : Bool) → IsGear sounding gear → MayCycle (driver_of sounding gear) freewheel → MaySend gear.rings gear.set }
+    ensures disks { (sounding : Score → Sound) (gear : Gear) (freewheel : Bool) → IsGear sounding gear → MayCycle (driver_of sounding gear) freewheel → MayGet gear.disks }
     ensures cycles { (sounding : Score → Sound) (gear : Gear) (freewheel : Bool) → IsGear sounding gear → MayCycle (driver_of sounding gear) freewheel → gear.transport.cycles < 1000000 }
     ensures frames { (sounding : Score → Sound) (gear : Gear) (freewheel : Bool) → IsGear sounding gear → MayCycle (driver_of sounding gear) freewheel → gear.transport.frames + gear.set ≤ 500000000 }
     ensures period { (sounding : Score → Sound) (gear : Gear) (freewheel : Bool) → IsGear sounding gear → MayCycle (driver_of sounding gear) freewheel → (4 ≤ gear.set) × (gear.set ≤ 4096) }
@@ -41,12 +49,19 @@ pub fn a_cycle_is_a_step()
     ensures { (sounding : Score → Sound) (freewheel : Bool) (before after : Gear) (plan : Planned) (moment : MomentValue) → IsGear sounding before → MayCycle (driver_of sounding before) freewheel → Turns sounding freewheel before plan moment after → StepsOnce (driver_of sounding before) (driver_of sounding after) }
 {
     calls_have_targets();
+    a_cycle_gets_one_block_of_each_ring();
+    a_cycle_leaves_the_disks_ready();
 }
 
 /// Behind a cycle the parts are as before it.
 pub fn a_cycle_leaves_the_parts()
     ensures { (sounding : Score → Sound) (freewheel : Bool) (before after : Gear) (plan : Planned) (moment : MomentValue) → IsGear sounding before → MayCycle (driver_of sounding before) freewheel → Turns sounding freewheel before plan moment after → IsGear sounding after }
-{}
+{
+    all_have_their_benches();
+    a_cycle_leaves_the_disks_ready();
+    a_plan_of_a_scripts_calls_is_not_refused();
+    memories_never_go();
+}
 
 /// Where the changes are calls of the script, each client has its bench.
 pub fn all_have_their_benches()
@@ -66,8 +81,11 @@ pub fn a_cycle_plays_its_own()
     all_have_their_benches();
     content_is_of_calls();
     a_period_is_what_the_capture_has();
+    a_feedback_edge_brings_what_was_carried();
+    a_player_is_given_what_was_got();
+    a_script_with_disks_keeps_its_period();
+    a_stage_plays_its_plan();
     the_device_has_its_ports();
-    old_scripts_are_plain();
 }
 
 /// What the playback mixes behind the cycle is what the definitions give it.

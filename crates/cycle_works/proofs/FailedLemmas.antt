@@ -20,7 +20,7 @@ module _ (sounding : Score → Sound) (before after : Gear) (freewheel : Bool) (
 
   pub IsGear-failed : IsGear sounding after
   IsGear-failed = subst (λ gear. IsGear sounding gear) (sym fails.same) (record {
-    served = is.served;
+    lawful = is.lawful;
     stands = is.stands;
     base = is.base;
     kinds = is.kinds;
@@ -39,8 +39,20 @@ module _ (sounding : Score → Sound) (before after : Gear) (freewheel : Bool) (
         subst (λ n. length before.rings.overruns ≤ n * length before.rings.rings) (sym more) (omega (arith, so_far, next));
     losses = is.losses;
     few = let left : length before.numbers < length (turns before.script) = may.left in omega (arith, left, more);
-    events = is.events;
-    disks = is.disks;
+    lists = is.lists;
+    carried = is.carried;
+    logs = is.logs;
+    disks = record {
+      channels = is.disks.channels;
+      as_many = is.disks.as_many;
+      period = is.disks.period;
+      misses = is.disks.misses;
+      underruns =
+          let so_far = is.disks.underruns in
+          let next : (length before.numbers + 1) * length before.disks.disks ≡ length before.numbers * length before.disks.disks + 1 * length before.disks.disks = add-mul (length before.numbers) 1 (length before.disks.disks) in
+          subst (λ n. length before.disks.underruns ≤ n * length before.disks.disks) (sym more) (omega (arith, so_far, next));
+      up_to = λ i d h. let earlier = is.disks.up_to i d h in omega (arith, earlier, more);
+    };
     in_step = λ e. absurd (true≢false e);
   })
 

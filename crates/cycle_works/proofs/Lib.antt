@@ -4,3 +4,4 @@ pub mod PlaybackLemmas
 pub mod FailedLemmas
 mod OpeningLemmas
 mod InsideLemmas
+mod EndLemmas

@@ -4,7 +4,7 @@
 --     zeros-few      nothing was put
 --     no-memories      nobody has played
 --     made-scores, made-own      the scores are those that the stage has
---     made-rings      works of these rings have those of the script
+--     made-rings, made-disks      works of these rings have those of the script
 --     parts-made     the parts of what was made
 --     IsGear-new, IsNew-gear      the parts of new works
 use Rattle.std.proofs.Common.{◌≡◌, ℕ, zero, suc, ◌*◌, ◌<◌, ◌≤◌, false, List, [], ◌∷◌, length, map, replicate, slice_get, sum_by, take, ◌++◌, All, Option, Some, None, refl, sym, ◌∙◌, ap, subst, arith}
@@ -12,12 +12,14 @@ use Rattle.std.specs.Prelude.{IfOk, MatchOption, Result, Ok, Err, slice_index, s
 use Rattle.std.specs.List.Sorted.{IsPermutation}
 use Rattle.std.proofs.lemmas.List.{length-map}
 use Rattle.std.proofs.lemmas.List.Sorted.{IsPermutation-refl}
-use Rattle.std.proofs.lemmas.Option.{get_or_from_slice_get, none-some, slice_get_within}
+use Rattle.std.proofs.lemmas.Option.{get_or_from_slice_get, slice_get_within}
 use Rattle.std.proofs.Math.ListN.{get_or-map}
 use Rattle.jack_types.specs.Recorders.{no_format}
 use Rattle.jack_types.specs.declared.files.Format.{Format}
 use Rattle.jack_types.specs.declared.kinds.Kind.{Kind}
+use Rattle.jack_types.specs.declared.replies.Underrun.{Underrun}
 use Rattle.session_model.specs.Commands.{replay}
+use Rattle.session_model.specs.Grammar.{IsScript}
 use Rattle.session_model.specs.Scripts.{Script, ScriptCycle, turns}
 use Rattle.session_model.specs.Kinds.{Sound}
 use Rattle.port_registry.specs.Registered.{open_clients}
@@ -31,13 +33,16 @@ use Rattle.client_seats.specs.Moves.{kinds_of}
 use Rattle.client_seats.specs.Owners.{Owned}
 use Rattle.client_seats.specs.Seatings.{memories, owned_memories}
 use Rattle.device_periods.specs.Captures.{Captured}
-use Rattle.driver_laws.specs.Drivers.{IsOwnRing, Remembered, frames_run, channels_on, greatest_period, turn_of}
+use Rattle.driver_laws.specs.Drivers.{IsOwnDisk, IsOwnRing, Remembered, frames_run, channels_on, greatest_period, turn_of}
 use Rattle.driver_laws.specs.Openings.{IsNew}
 use Rattle.recorder_rings.specs.Sending.{no_ring}
 use Rattle.task_laws.specs.Calls.{guests_needed, open_kinds}
-use Rattle.cycle_laws.specs.Gears.{OnStage, StandsOn, Gear, IsGear, IsServed, driver_of, no_events}
-use Rattle.driver_words.specs.Feeding.{no_disks}
-use Rattle.cycle_works.specs.Makings.{AreNewRings, IsMade, IsNewStage, IsNewTransport, IsOpeningPlan, IsUnread}
+use Rattle.driver_words.specs.Feeding.{AreForPeriods, no_ring as no_disk}
+use Rattle.driver_words.specs.Hearings.{Heard, log_at}
+use Rattle.midi_stage.specs.Standing.{quiet_heard}
+use Rattle.midi_wiring.specs.Hearings.{AreCarried}
+use Rattle.cycle_laws.specs.Gears.{OnStage, StandsOn, Gear, IsGear, driver_of}
+use Rattle.cycle_works.specs.Makings.{AreNewDisks, AreNewRings, IsMade, IsNewStage, IsNewTransport, IsOpeningPlan, IsUnread}
 use Rattle.cycle_works.specs.declared.opening.Made.{Made}
 use Rattle.cycle_works.specs.declared.parts.Parts.{Parts}
 
@@ -94,12 +99,17 @@ module _ {G : Type 0} (script : Script) (scores : List Score) (made : Made G) (i
   made-rings (Ok gear) same = subst (AreNewRings script) (sym same) is.outfit.rings
   made-rings (Err e) same = tt
 
+  pub made-disks : {E : Type 0} (result : Result Gear E) → IfOk result (λ gear. gear.disks ≡ made.outfit.disks) → IfOk result (λ gear. AreNewDisks script gear.disks)
+  made-disks (Ok gear) same = subst (AreNewDisks script) (sym same) is.outfit.disks
+  made-disks (Err e) same = tt
+
 -- the parts of what was made
 abbrev pub parts-made : {S G : Type 0} → Reading × Planned → Captured → Made G → ℕ → Parts S G
-parts-made reader capture made set = record { reader = reader; stage = made.stage; capture = capture; transport = made.outfit.transport; rings = made.outfit.rings; numbers = made.outfit.lists.numbers; moments = made.outfit.lists.moments; set = set }
+parts-made reader capture made set = record { reader = reader; stage = made.stage; midi = made.outfit.midi; capture = capture; disks = made.outfit.disks; transport = made.outfit.transport; rings = made.outfit.rings; numbers = made.outfit.lists.numbers; moments = made.outfit.lists.moments; set = set }
 
-module _ (sounding : Score → Sound) (gear : Gear) (scores : List Score) (served : IsServed gear.script) (stage : IsNewStage gear.script scores gear.stage) (guests : guests_needed gear.script ≤ length scores)
-    (transport : IsNewTransport gear.script gear.transport) (rings : AreNewRings gear.script gear.rings) (numbers : gear.numbers ≡ []) (moments : gear.moments ≡ []) (capture : IsUnread gear.script gear.capture) (events : gear.events ≡ no_events) (disks : gear.disks ≡ no_disks) where
+module _ (sounding : Score → Sound) (gear : Gear) (scores : List Score) (lawful : IsScript gear.script) (stage : IsNewStage gear.script scores gear.stage) (guests : guests_needed gear.script ≤ length scores)
+    (transport : IsNewTransport gear.script gear.transport) (rings : AreNewRings gear.script gear.rings) (numbers : gear.numbers ≡ []) (moments : gear.moments ≡ []) (capture : IsUnread gear.script gear.capture) (events : gear.events ≡ quiet_heard gear.script 0) (carried : AreCarried gear.stage.plan (quiet_heard gear.script 0))
+    (disks : AreNewDisks gear.script gear.disks) (periods : AreForPeriods gear.disks) where
   kinds-are : kinds_of gear.stage.staged.racked ≡ open_kinds gear.script
   kinds-are = ap (map (λ (bench : Seen). bench.kept.standing.kind)) stage.benches ∙ kinds-new (greatest_period gear.script) (open_kinds gear.script)
 
@@ -108,7 +118,7 @@ module _ (sounding : Score → Sound) (gear : Gear) (scores : List Score) (serve
 
   pub IsGear-new : IsGear sounding gear
   IsGear-new = record {
-    served = served;
+    lawful = lawful;
     stands = stage.stands;
     base = stage.opening.base;
     kinds = subst (IsPermutation (open_kinds gear.script)) (sym kinds-are) (IsPermutation-refl (open_kinds gear.script));
@@ -124,19 +134,33 @@ module _ (sounding : Score → Sound) (gear : Gear) (scores : List Score) (serve
     overruns = subst (λ xs. length xs ≤ length gear.numbers * length gear.rings.rings) (sym rings.overruns) (omega arith);
     losses = subst (λ n. length (turns gear.script) * n ≤ gear.rings.losses) (sym as-many) rings.losses_kept;
     few = subst (λ xs. length xs ≤ length (turns gear.script)) (sym numbers) (omega arith);
-    events = events;
-    disks = disks;
+    lists = ap (λ (e : Heard). e.lists) events;
+    carried = subst (AreCarried gear.stage.plan) (sym events) carried;
+    logs = λ of birth none. ap (λ (e : Heard). log_at e birth) events;
+    disks = record {
+      channels = disks.channels_are;
+      as_many = disks.opened.as_many;
+      period = disks.period_is;
+      misses = subst (λ n. length (turns gear.script) * n ≤ gear.disks.misses) (sym disks.opened.as_many) disks.misses_kept;
+      underruns = subst (λ xs. length xs ≤ length gear.numbers * length gear.disks.disks) (sym disks.underruns) (omega arith);
+      up_to = subst (All (λ (underrun : Underrun). underrun.cycle ≤ length gear.numbers)) (sym disks.underruns) (λ i d h. absurd (none_below h));
+    };
     in_step = λ sound. record {
       cycles = ap (λ (t : Standing). t.cycles) transport ∙ sym (ap length numbers);
       frames = ap (λ (t : Standing). t.frames) transport ∙ sym (ap (λ (xs : List ℕ). sum_by (λ (turn : ScriptCycle). turn.period) (take (length xs) (turns gear.script))) numbers);
       period = stage.period ∙ sym (ap (λ (xs : List ℕ). (turn_of gear.script (length xs)).period) numbers);
       moments = ap length moments ∙ sym (ap length numbers);
       capture = capture.sound;
+      heard = ap (λ (e : Heard). e.period) events ∙ sym (ap (λ (xs : List ℕ). (turn_of gear.script (length xs)).period) numbers);
     };
   }
 
-  no-disks : gear.script.header.disks ≡ []
-  no-disks = (served.lawful.old served.version).1
+  own-disk : (disk : ℕ) (got : Getting) → slice_get gear.disks.disks disk ≡ Some got → IsOwnDisk (driver_of sounding gear) disk got
+  own-disk disk got here =
+      let low : disk < length gear.disks.disks = slice_get_within gear.disks.disks disk got here in
+      ap (λ (g : Getting). g.samples) (sym (get_or_from_slice_get gear.disks.disks disk got no_disk here)) ∙ periods disk low
+      ∙ ap (λ n. n * slice_index gear.disks.channels disk) disks.period_is
+      ∙ ap (λ channels. greatest_period gear.script * slice_index channels disk) disks.channels_are
 
   channels-at : (recorder : ℕ) → slice_index gear.rings.channels recorder ≡ channels_on gear.script recorder
   channels-at recorder = ap (λ cs. slice_index cs recorder) rings.channels ∙ get_or-map (λ (format : Format). format.channels) gear.script.header.recorders recorder no_format
@@ -167,18 +191,18 @@ module _ (sounding : Score → Sound) (gear : Gear) (scores : List Score) (serve
     moments = moments;
     transport = ap (λ (t : Standing). t.row) transport;
     overruns = rings.overruns;
-    underruns = refl;
+    underruns = disks.underruns;
     as_many = as-many;
     rings = rings.empty;
     own_rings = own;
     sent = rings.sent;
-    as_many_disks = sym (ap length no-disks);
-    disks = λ i d h. absurd (none_below h);
-    own_disks = λ disk got here. absurd (none-some got here);
-    played = sym (ap (map (λ _. 0)) no-disks);
+    as_many_disks = disks.opened.as_many;
+    disks = disks.empty;
+    own_disks = own-disk;
+    played = disks.played;
     playback = playback;
     set = set;
     failed = failed;
     nodes = ap open_clients stage.stands.stands.nodes ∙ stage.stands.stands.planned.nodes ∙ ap (λ cs. nodes_of (replay (opening_of gear.stage.plan.base) cs)) stage.opening.changes;
-    memories = ap (λ (o : Owned). memories gear.stage.staged.racked o) stage.owned ∙ ap (λ (xs : List Remembered). xs ++ []) (no-memories (length (open_kinds gear.script)) gear.stage.staged.racked.benches);
+    memories = ap (map (λ (kept : Remembered). record kept { memory = record kept.memory { log = log_at gear.events kept.birth } })) (ap (λ (o : Owned). memories gear.stage.staged.racked o) stage.owned ∙ ap (λ (xs : List Remembered). xs ++ []) (no-memories (length (open_kinds gear.script)) gear.stage.staged.racked.benches));
   }

@@ -20,7 +20,7 @@ use Rattle.cycle_works.specs.Gears.{mixed, with_playback}
 
 pub IsGear-playback : (sounding : Score → Sound) (gear : Gear) (playback : Option Tape) → IsGear sounding gear → IsGear sounding (with_playback gear playback)
 IsGear-playback sounding gear playback is = record {
-  served = is.served;
+  lawful = is.lawful;
   stands = is.stands;
   base = is.base;
   kinds = is.kinds;
@@ -36,14 +36,24 @@ IsGear-playback sounding gear playback is = record {
   overruns = is.overruns;
   losses = is.losses;
   few = is.few;
-  events = is.events;
-  disks = is.disks;
+  lists = is.lists;
+  carried = is.carried;
+  logs = is.logs;
+  disks = record {
+    channels = is.disks.channels;
+    as_many = is.disks.as_many;
+    period = is.disks.period;
+    misses = is.disks.misses;
+    underruns = is.disks.underruns;
+    up_to = is.disks.up_to;
+  };
   in_step = λ sound. record {
     cycles = (is.in_step sound).cycles;
     frames = (is.in_step sound).frames;
     period = (is.in_step sound).period;
     moments = (is.in_step sound).moments;
     capture = (is.in_step sound).capture;
+    heard = (is.in_step sound).heard;
   };
 }
 
@@ -70,15 +80,18 @@ module _ (sounding : Score → Sound) (freewheel : Bool) (before : Gear) (plan :
     plan_is = turns.plan_is;
     period = turns.period;
     stands = turns.stands;
-    plays = turns.plays;
+    performs = turns.performs;
+    hears = turns.hears;
+    carried = turns.carried;
+    lists = turns.lists;
+    heard_period = turns.heard_period;
+    gets = turns.gets;
     kinds = turns.kinds;
     scores = turns.scores;
     room = turns.room;
     sends = turns.sends;
     script = turns.script;
     set = turns.set;
-    events = turns.events;
-    disks = turns.disks;
   }
 
   pub mixed-turned : mixed after before.script.header.playback ≡ interleaved before.set (map (channel_mix before.set after.stage.staged.racked.benches after.capture.channels after.stage.staged.wiring.heard) (below before.script.header.playback))

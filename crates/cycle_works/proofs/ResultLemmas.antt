@@ -5,6 +5,7 @@
 --     as-err      what holds of an error, of whether it is one
 --     ok-held, err-held      and what holds of a result that is no error, or one
 --     if-some      what follows from what holds where there is something
+--     either      what holds whether something is true or false
 --     last-row      the cycle of the last row of so many
 use Rattle.std.proofs.Common.{◌≡◌, ℕ, zero, suc, ◌+◌, ◌<◌, Bool, true, false, List, [], ◌∷◌, ◌++◌, map, Option, Some, None, refl, sym, ◌∙◌, ap, subst, arith, true≢false}
 use Rattle.std.specs.Prelude.{IfSome, OnErr, OnOk, Result, Ok, Err, is_err}
@@ -66,6 +67,10 @@ ok-held (Err e) P is holds = absurd (true≢false (sym is))
 pub err-held : {T E : Type 0} (result : Result T E) (P : Type 0) → true ≡ is_err result → OnErr result P → P
 err-held (Ok x) P is holds = absurd (true≢false is)
 err-held (Err e) P is holds = holds
+
+pub either : {P : Type 0} (b : Bool) → (b ≡ true → P) → (b ≡ false → P) → P
+either true holds fails = holds refl
+either false holds fails = fails refl
 
 pub if-some : {X : Type 0} (o : Option X) (P Q : X → Type 0) → ((x : X) → P x → Q x) → IfSome o P → IfSome o Q
 if-some None P Q follows holds = tt

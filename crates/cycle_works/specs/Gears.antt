@@ -1,7 +1,7 @@
 -- What contracts see of the works of a driver's cycles, as the laws of its parts have it, for those that use them.
 --     Gear      their parts
 --     driver_of sounding gear      the driver that they make, whose guests sound so by their scores
---     IsServed script      which scripts they play
+--     IsServed script      which scripts a session plays yet; the works play every lawful one
 --     IsGear sounding gear      what is true of them between two cycles
 --     Turns sounding freewheel before plan moment after      what a cycle leaves
 --     with_playback gear playback      the same, with a file that is played back

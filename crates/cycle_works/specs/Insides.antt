@@ -7,8 +7,7 @@ use Rattle.session_model.specs.Scripts.{Script, turns}
 use Rattle.session_model.specs.Kinds.{Sound}
 use Rattle.client_kinds.specs.Scores.{Score}
 use Rattle.driver_words.specs.Tapes.{Tape}
-use Rattle.driver_words.specs.Feeding.{no_disks}
-use Rattle.cycle_laws.specs.Gears.{Gear, IsGear, no_events}
+use Rattle.cycle_laws.specs.Gears.{Gear, IsGear}
 use Rattle.cycle_works.specs.declared.parts.Parts.{Parts}
 use Rattle.cycle_works.specs.declared.works.Works.TheInside.{Inside}
 
@@ -37,15 +36,17 @@ gear_of script playback failed parts = record {
   playback = playback;
   set = parts.set;
   failed = failed;
-  events = no_events;
-  disks = no_disks;
+  events = parts.midi.heard;
+  disks = parts.disks;
 }
 
 abbrev pub seen_of : {S G : Type 0} → Inside S G → Gear
 seen_of works = gear_of (script_in works.script.items) None works.failed works.parts
 
--- there is room for a number and a moment of each cycle
+-- there is room for a number and a moment of each cycle; MIDI clients are the script's, and played the plan that the stage played last
 pub record IsWhole (sounding : Score → Sound) {S G : Type 0} (works : Inside S G) : Type 0 where
   pub gear : IsGear sounding (seen_of works)
   pub numbers : length (turns (seen_of works).script) ≤ vec_capacity works.parts.numbers
   pub moments : length (turns (seen_of works).script) ≤ vec_capacity works.parts.moments
+  pub midi_script : works.parts.midi.script ≡ (seen_of works).script
+  pub midi_changes : works.parts.midi.changes ≡ works.parts.stage.plan.changes

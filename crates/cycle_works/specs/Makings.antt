@@ -1,7 +1,9 @@
 -- The parts of the works before the first cycle. No public clause cites this module.
 --     IsOpeningPlan script plan      a plan without changes
 --     IsNewStage script scores stage      the stage of the script's clients, on which nobody plays yet
+--     IsNewMidi script midi      its MIDI clients, of which none played yet
 --     AreNewRings script rings      the rings of its recorders, into which nothing was put
+--     AreNewDisks script disks      those of its disks, of which nothing was got
 --     IsNewTransport script transport      a transport before the first cycle
 --     IsRoom script items room      an empty list with room for an item of each cycle
 --     AreNewLists script lists      one for numbers and one for moments
@@ -16,6 +18,9 @@ use Rattle.client_kinds.specs.Scores.{Score}
 use Rattle.cycle_plan.specs.Plans.{Planned}
 use Rattle.transport.specs.Standings.{Standing}
 use Rattle.client_benches.specs.Seen.{new_bench}
+use Rattle.disk_feeds.specs.Openings.{IsNew as AreNewFeeds}
+use Rattle.driver_words.specs.Feeding.{Fed}
+use Rattle.midi_stage.specs.Standing.{OnMidi, quiet_heard}
 use Rattle.device_periods.specs.Captures.{Captured}
 use Rattle.driver_laws.specs.Drivers.{greatest_period}
 use Rattle.recorder_rings.specs.Openings.{IsNew}
@@ -40,9 +45,17 @@ pub record IsNewStage (script : Script) (scores : List Score) (stage : OnStage) 
   pub opening : IsOpeningPlan script stage.plan
   pub stands : StandsOn stage.staged stage.plan
 
+-- nothing was heard
+abbrev pub IsNewMidi : Script → OnMidi → Type 0
+IsNewMidi script midi = midi ≡ record { script = script; changes = []; heard = quiet_heard script 0 }
+
 -- with room for an overrun of each recorder in each cycle
 abbrev pub AreNewRings : Script → Sent → Type 0
 AreNewRings script = IsNew script.header.recorders script.header.ring (greatest_period script) (length (turns script) * length script.header.recorders)
+
+-- with room for an underrun of each disk in each cycle
+abbrev pub AreNewDisks : Script → Fed → Type 0
+AreNewDisks script = AreNewFeeds script.header.disks script.header.ring (greatest_period script) (length (turns script) * length script.header.disks)
 
 abbrev pub IsNewTransport : Script → Standing → Type 0
 IsNewTransport script transport = transport ≡ record { rate = script.header.rate; cycles = 0; frames = 0; row = first_row }
@@ -57,7 +70,9 @@ pub record AreNewLists (script : Script) (lists : Lists) : Type 0 where
 
 pub record IsNewOutfit (script : Script) (outfit : Outfit) : Type 0 where
   pub transport : IsNewTransport script outfit.transport
+  pub midi : IsNewMidi script outfit.midi
   pub rings : AreNewRings script outfit.rings
+  pub disks : AreNewDisks script outfit.disks
   pub lists : AreNewLists script outfit.lists
 
 pub record IsMade {G : Type 0} (script : Script) (scores : List Score) (made : Made G) : Type 0 where

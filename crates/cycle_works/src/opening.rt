@@ -4,8 +4,9 @@ ghost use Rattle.std.specs.Prelude.{◌≡◌, ◌<◌, ◌≤◌, IfErr, IfOk, 
 ghost use Rattle.std.specs.Vec.{vec_capacity};
 ghost use Rattle.driver_laws.specs.Openings.{IsNew};
 ghost use Rattle.task_laws.specs.Calls.{guests_needed};
-ghost use Rattle.cycle_laws.specs.Gears.{IsServed, driver_of};
-ghost use Rattle.cycle_works.specs.Makings.{AreNewLists, AreNewRings, IsMade, IsNewOutfit, IsNewStage, IsNewTransport, IsOpeningPlan, IsRoom, IsUnread};
+ghost use Rattle.session_model.specs.Grammar.{IsScript};
+ghost use Rattle.cycle_laws.specs.Gears.{driver_of};
+ghost use Rattle.cycle_works.specs.Makings.{AreNewDisks, AreNewLists, AreNewRings, IsMade, IsNewMidi, IsNewOutfit, IsNewStage, IsNewTransport, IsOpeningPlan, IsRoom, IsUnread};
 
 use crate::parts::Parts;
 use crate::works::Works;
@@ -13,9 +14,12 @@ use client_kinds::Guest;
 use client_stage::Stage;
 use cycle_plan::Plan;
 use device_periods::Capture;
+use disk_feeds::{DiskFeeds, new_disks_are_ready};
 use graph_word::Reader;
 use jack_host::Source;
 use jack_types::{Memory, Moment};
+use midi_stage::MidiStage;
+use midi_stage::laws::what_is_carried;
 use plan_transport::PlanTransport;
 use proof_notes::Log;
 use recorder_rings::RecorderRings;
@@ -36,7 +40,9 @@ struct Lists {
 #[derive(Drop)]
 struct Outfit {
     transport: PlanTransport,
+    midi: MidiStage,
     rings: RecorderRings,
+    disks: DiskFeeds,
     lists: Lists,
 }
 
@@ -92,7 +98,7 @@ fn make_stage<G: Guest>(
     seats: u32,
     steals: bool,
 ) -> Result<Stage<G>, Memory>
-    requires served { IsServed script.now }
+    requires lawful { IsScript script.now }
     requires seats { (0 < seats) × (seats ≤ 16) }
     ensures { IfOk result (IsNewStage script.now (map G.score guests.items)) }
 {
@@ -126,6 +132,29 @@ fn make_rings(alloc: Global, script: &Script) -> Result<RecorderRings, Memory>
     )
 }
 
+/// The rings of a script's disks, with room for an underrun of each in each cycle.
+fn make_disks(alloc: Global, script: &Script) -> Result<DiskFeeds, Memory>
+    ensures { IfOk result (AreNewDisks script.now) }
+{
+    let header = script.header();
+    let disks = header.disks.as_slice();
+    let underruns = cycles(script) as usize * disks.len();
+    DiskFeeds::new(
+        alloc,
+        disks,
+        header.ring,
+        greatest_period(script),
+        underruns,
+    )
+}
+
+/// The MIDI clients of a script, of which none played yet.
+fn make_midi(alloc: Global, script: &Script) -> Result<MidiStage, Memory>
+    ensures { IfOk result (IsNewMidi script.now) }
+{
+    MidiStage::new(alloc, script)
+}
+
 /// A transport of a script's rate, before the first cycle.
 fn make_transport(script: &Script) -> PlanTransport
     ensures { IsNewTransport script.now result }
@@ -137,11 +166,15 @@ fn make_transport(script: &Script) -> PlanTransport
 fn make_outfit(alloc: Global, script: &Script) -> Result<Outfit, Memory>
     ensures { IfOk result (IsNewOutfit script.now) }
 {
+    let midi = make_midi(alloc, script)?;
     let rings = make_rings(alloc, script)?;
+    let disks = make_disks(alloc, script)?;
     let lists = make_lists(alloc, script)?;
     Ok(Outfit {
         transport: make_transport(script),
+        midi,
         rings,
+        disks,
         lists,
     })
 }
@@ -154,7 +187,7 @@ fn make<G: Guest>(
     seats: u32,
     steals: bool,
 ) -> Result<Made<G>, Memory>
-    requires served { IsServed script.now }
+    requires lawful { IsScript script.now }
     requires seats { (0 < seats) × (seats ≤ 16) }
     ensures { IfOk result (IsMade script.now (map G.score guests.items)) }
 {
@@ -177,7 +210,7 @@ fn assemble<S: Source, G: Guest>(
     capture: Capture<S>,
     made: Made<G>,
 ) -> Works<S, G>
-    requires served { IsServed script.now }
+    requires lawful { IsScript script.now }
     requires rows { reader.0.rows ≡ [] }
     requires capture { IsUnread script.now capture }
     requires made { IsMade script.now made.stage.staged.owned.scores made }
@@ -186,10 +219,15 @@ fn assemble<S: Source, G: Guest>(
     ensures capture { result.capture ≡ capture }
     ensures reader { result.reading ≡ reader.0 }
     ensures rings { result.rings ≡ made.outfit.rings }
+    ensures disks { result.disks ≡ made.outfit.disks }
 {
+    new_disks_are_ready();
+    what_is_carried();
     let Outfit {
         transport,
+        midi,
         rings,
+        disks,
         lists,
     } = made.outfit;
     let Lists { numbers, moments } = lists;
@@ -198,7 +236,9 @@ fn assemble<S: Source, G: Guest>(
         parts: Parts {
             reader,
             stage: made.stage,
+            midi,
             capture,
+            disks,
             transport,
             rings,
             numbers,
@@ -217,7 +257,7 @@ fn over<S: Source, G: Guest>(
     capture: Wave<S>,
     made: Made<G>,
 ) -> Result<Works<S, G>, (Wave<S>, Memory)>
-    requires served { IsServed script.now }
+    requires lawful { IsScript script.now }
     requires rows { reader.0.rows ≡ [] }
     requires capture { (capture.format.channels ≡ script.now.header.capture) × (capture.failed ≡ false) }
     requires made { IsMade script.now made.stage.staged.owned.scores made }
@@ -226,6 +266,7 @@ fn over<S: Source, G: Guest>(
     ensures capture { IfOk result (λ works. works.capture.reading ≡ capture) }
     ensures reader { IfOk result (λ works. works.reading ≡ reader.0) }
     ensures rings { IfOk result (λ works. works.rings ≡ made.outfit.rings) }
+    ensures disks { IfOk result (λ works. works.disks ≡ made.outfit.disks) }
     ensures back { IfErr result (λ refused. refused.0 ≡ capture) }
 {
     match Capture::new(alloc, capture, greatest_period(script)) {
@@ -241,7 +282,9 @@ impl<S: Source, G: Guest> Works<S, G> {
     ghost use Rattle.driver_laws.specs.Openings.{IsNew};
     ghost use Rattle.recorder_rings.specs.Openings.{IsNew as AreNew};
     ghost use Rattle.task_laws.specs.Calls.{guests_needed};
-    ghost use Rattle.cycle_laws.specs.Gears.{IsServed, driver_of};
+    ghost use Rattle.cycle_laws.specs.Gears.{driver_of};
+    ghost use Rattle.disk_feeds.specs.Openings.{IsNew as AreNewFeeds};
+    ghost use Rattle.session_model.specs.Grammar.{IsScript};
 
     /// The works of a script's cycles, with these guests and so many seats for those who play, which take each other's clients
     /// where they steal, over a capture of the script's channels of which nothing was read. No cycle was begun by the reader
@@ -255,7 +298,7 @@ impl<S: Source, G: Guest> Works<S, G> {
         seats: u32,
         steals: bool,
     ) -> Result<Works<S, G>, (Wave<S>, Memory)>
-        requires served { IsServed script.now }
+        requires lawful { IsScript script.now }
         requires rows { reader.0.rows ≡ [] }
         requires capture { (capture.format.channels ≡ script.now.header.capture) × (capture.failed ≡ false) }
         requires guests { guests_needed script.now ≤ length guests.items }
@@ -264,6 +307,7 @@ impl<S: Source, G: Guest> Works<S, G> {
         ensures capture { IfOk result (λ works. works.capture.reading ≡ capture) }
         ensures reader { IfOk result (λ works. works.reading ≡ reader.0) }
         ensures rings { IfOk result (λ works. AreNew script.now.header.recorders script.now.header.ring (greatest_period script.now) (length (turns script.now) * length script.now.header.recorders) works.rings) }
+        ensures disks { IfOk result (λ works. AreNewFeeds script.now.header.disks script.now.header.ring (greatest_period script.now) (length (turns script.now) * length script.now.header.disks) works.disks) }
         ensures back { IfErr result (λ refused. refused.0 ≡ capture) }
     {
         match make(alloc, script, guests, seats, steals) {

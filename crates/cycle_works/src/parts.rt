@@ -4,20 +4,25 @@ use client_kinds::Guest;
 use client_stage::Stage;
 use cycle_plan::Plan;
 use device_periods::Capture;
+use disk_feeds::DiskFeeds;
 use graph_word::Reader;
 use jack_host::Source;
 use jack_types::Moment;
+use midi_stage::MidiStage;
 use plan_transport::PlanTransport;
 use recorder_rings::RecorderRings;
 use wave_pcm::Wave;
 
-/// The end of the publication that reads plans; the stage on which their clients play; the capture, the transport and the
-/// recorders' rings; of each cycle so far the number that it took, and what the transport showed; and the period of the next.
+/// The end of the publication that reads plans; the stage on which their clients play, and beside it what they play of MIDI; the
+/// capture, the rings of disks, the transport and the recorders' rings; of each cycle so far the number that it took, and what the
+/// transport showed; and the period of the next.
 #[derive(Drop)]
 pub(crate) struct Parts<S: Source, G: Guest> {
     pub reader: Reader<Plan>,
     pub stage: Stage<G>,
+    pub midi: MidiStage,
     pub capture: Capture<S>,
+    pub disks: DiskFeeds,
     pub transport: PlanTransport,
     pub rings: RecorderRings,
     pub numbers: Vec<u32>,

@@ -26,6 +26,7 @@ use cycle_plan::Plan;
 use device_periods::Capture;
 use graph_word::Reader;
 use jack_host::{Gate, ReadFailed, Source};
+use midi_stage::laws::what_is_carried;
 use plan_transport::step_by_plan;
 use std::thread::Threads;
 
@@ -80,8 +81,8 @@ fn capture_period<S: Source>(
     }
 }
 
-/// Plays a cycle: takes the newest plan and begins, steps the transport, captures, lets the clients of the plan play, and
-/// puts the blocks of the recorders. It takes no memory.
+/// Plays a cycle: takes the newest plan and begins, steps the transport, captures, gets the blocks of disks, lets the clients
+/// of the plan play, audio and MIDI, and puts the blocks of the recorders. It takes no memory.
 fn turn<S: Source, G: Guest + Send, T: Threads + Sync, K: Gate>(
     parts: &mut Parts<S, G>,
     threads: &T,
@@ -89,28 +90,41 @@ fn turn<S: Source, G: Guest + Send, T: Threads + Sync, K: Gate>(
     freewheel: bool,
 ) -> Result<(), ReadFailed>
     requires may { (script : ScriptValue) × (playback : Option Tape) × (failed : Bool) × IsGear G.sound (gear_of script playback failed parts.old) × MayCycle (driver_of G.sound (gear_of script playback failed parts.old)) freewheel
-        × (length parts.old.numbers.items < vec_capacity parts.old.numbers) × (length parts.old.moments.items < vec_capacity parts.old.moments) }
-    ensures turned { (script : ScriptValue) (playback later : Option Tape) (failed stops : Bool)
+        × (length parts.old.numbers.items < vec_capacity parts.old.numbers) × (length parts.old.moments.items < vec_capacity parts.old.moments) × (parts.old.midi.script ≡ script) }
+    requires midi { parts.old.midi.changes ≡ parts.old.stage.plan.changes }
+    ensures turned { (script : ScriptValue) (playback later : Option Tape) (failed stops : Bool) → parts.old.midi.script ≡ script
         → OnOk result ((plan : Planned) × (moment : MomentValue) × Turns G.sound freewheel (gear_of script playback failed parts.old) plan moment (gear_of script later stops parts.new)) }
     ensures failed { (script : ScriptValue) (playback : Option Tape) (failed : Bool) → OnErr result (FailsToRead (gear_of script playback failed parts.old) (gear_of script playback true parts.new)) }
     ensures same { SameReading parts.old.capture.reading parts.new.capture.reading }
     ensures cause { HasCause parts.old.capture.reading.faults parts.new.capture.reading.faults result }
     ensures numbers { vec_capacity parts.new.numbers ≡ vec_capacity parts.old.numbers }
     ensures moments { vec_capacity parts.new.moments ≡ vec_capacity parts.old.moments }
+    ensures midi_script { parts.new.midi.script ≡ parts.old.midi.script }
+    ensures midi_changes { parts.new.midi.changes ≡ parts.new.stage.plan.changes }
 {
     a_cycle_may_be_played();
+    what_is_carried();
     let (last, cycle) = begin(&mut parts.reader, &mut parts.numbers);
     let plan = parts.reader.place();
+    let nodes = plan.nodes();
     let moment = step_by_plan(&mut parts.transport, plan, last, parts.set);
     parts.moments.push_reserved(moment);
     capture_period(&mut parts.capture, freewheel, parts.set)?;
-    parts
-        .stage
-        .play(threads, gate, plan, &moment, parts.set, &parts.capture);
+    parts.disks.get_blocks(nodes, cycle);
+    parts.stage.play(
+        threads,
+        gate,
+        plan,
+        &moment,
+        parts.set,
+        &parts.capture,
+        &parts.disks,
+    );
+    parts.midi.play(plan, &moment, parts.set);
     send_blocks(
         &mut parts.rings,
         parts.stage.rack(),
-        plan.nodes(),
+        nodes,
         cycle,
         parts.set,
     );
@@ -129,8 +143,9 @@ impl<S: Source, G: Guest + Send> Works<S, G> {
     ghost use Rattle.cycle_laws.specs.Turnings.{Turns};
     ghost use Rattle.cycle_works.specs.Gears.{FailsToRead, with_playback};
 
-    /// Plays the next cycle of the script: takes the newest plan and begins, steps the transport, captures, lets the clients of
-    /// the plan play, and puts the blocks of the recorders. A freewheel cycle hears silence.
+    /// Plays the next cycle of the script: takes the newest plan and begins, steps the transport, captures, gets the blocks of
+    /// disks, lets the clients of the plan play, audio and MIDI, and puts the blocks of the recorders. A freewheel cycle hears
+    /// silence.
     ///
     /// Whether a cycle may be run is said with the playback of the owner, which may be one that tells nothing; what a cycle
     /// does is the same with any. It takes no memory. With one seat no thread is started.

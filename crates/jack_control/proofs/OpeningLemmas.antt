@@ -13,10 +13,6 @@ use Rattle.play_inputs.specs.Inputs.{Files, IfBytes, IsInput}
 use Rattle.play_inputs.specs.Openings.{GivesInput}
 use Rattle.play_inputs.proofs.InputLemmas.{if_bytes_map}
 
--- a script that is played yet has no disk
-no_disks : (script : Script) → IsServed script → script.header.disks ≡ []
-no_disks script served = (served.lawful.old served.version).1
-
 module _ (sounding : Score → Sound) (files : Option Files) (scores : List Sound) (play : Play) (script : Script) (left : Option (List ℤ)) (parts : Parts) (served : IsServed script) (script_is : parts.gear.script ≡ script)
     (scores_are : map sounding parts.gear.stage.staged.owned.scores ≡ scores) (left_is : parts.gear.capture.reading.left ≡ left) where
   abbrev Reads : List ℕ → List ℕ → Type 0
@@ -30,7 +26,7 @@ module _ (sounding : Score → Sound) (files : Option Files) (scores : List Soun
     given,
     input,
     record {
-      own = record { script = of ∙ sym script_is; scores = input.scores_are ∙ sym scores_are; channels = rw (input.no_disk) (sym (no_disks script served) ∙ ap (λ (s : Script). s.header.disks) (sym script_is)) };
+      own = record { script = of ∙ sym script_is; scores = input.scores_are ∙ sym scores_are; channels = rw (input.no_disk) (sym served.no_disks ∙ ap (λ (s : Script). s.header.disks) (sym script_is)) };
       capture = left_is ∙ samples;
       disks = rw (input.no_disk) refl;
     },

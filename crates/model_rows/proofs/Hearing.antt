@@ -1,8 +1,9 @@
 -- What the clients of a plan of three nodes hear of MIDI.
-use Rattle.std.proofs.Common.{◌≡◌, [], ◌∷◌, refl}
-use Rattle.cycle_laws.specs.Gears.{no_events}
+use Rattle.std.proofs.Common.{◌≡◌, ℕ, [], ◌∷◌, refl}
+use Rattle.session_model.specs.Scripts.{Script}
 use Rattle.midi_wiring.specs.Hearings.{heard_by}
 use Rattle.driver_words.specs.Hearings.{Heard, carried_at, log_at}
+use Rattle.midi_stage.specs.Standing.{quiet_heard}
 use Rattle.midi_wiring.specs.Wirings.{MidiWired}
 use Rattle.midi_wiring.specs.declared.joints.MidiFrom.TheVariants.{Played, Kept, Nothing}
 use Rattle.model_rows.specs.Given.{event_at}
@@ -42,8 +43,8 @@ carried_by_another : carried_at heard.carried 8 ≡ []
 carried_by_another = refl
 
 -- before the first cycle all inputs are empty, and so are the logs
-heard_of_no_events : heard_by wiring no_events 2 ≡ [] ∷ [] ∷ []
-heard_of_no_events = refl
+heard_at_first : (script : Script) (period : ℕ) → heard_by wiring (quiet_heard script period) 2 ≡ [] ∷ [] ∷ []
+heard_at_first script period = refl
 
-log_of_no_events : log_at no_events 4 ≡ []
-log_of_no_events = refl
+log_at_first : (script : Script) (period : ℕ) → log_at (quiet_heard script period) 4 ≡ []
+log_at_first script period = refl

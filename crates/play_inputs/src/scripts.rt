@@ -22,11 +22,11 @@ const MOST_READ: usize = 1_048_577;
 // The place of the version's line among those that are said.
 const VERSION_PLACE: usize = 0;
 
-// Whether a script is one that is played yet: before version 3.
+// Whether a script is one that is played yet: without a disk.
 fn is_played(script: &Script) -> bool
     ensures { IsTrue result ↔ IsPlayed script.now }
 {
-    script.header().version < 3
+    script.header().disks.as_slice().is_empty()
 }
 
 // The number of the line at a place among those that are said. Where there is none, 0.

@@ -7,25 +7,22 @@
 --     turned-on, turned-keeps      a cycle of the phase
 --     phase-fails      a cycle of it that failed
 --     phase-ends      behind its last cycle
-use Rattle.std.proofs.Common.{◌≡◌, ℕ, suc, ◌+◌, ◌<◌, ◌≤◌, length, slice_get, Bool, Option, Some, None, sym, ◌∙◌, ap, subst, arith}
+use Rattle.std.proofs.Common.{◌≡◌, ℕ, suc, ◌+◌, ◌<◌, ◌≤◌, length, Option, None, sym, ◌∙◌, ap, subst, arith}
 use Rattle.session_model.specs.Courses.{Course}
 use Rattle.session_model.specs.Explanations.{Given}
 use Rattle.session_model.specs.Kinds.{Sound}
-use Rattle.session_model.specs.Scripts.{Phase, Script, ScriptCycle, phases, turns}
+use Rattle.session_model.specs.Scripts.{Script, ScriptCycle, turns}
 use Rattle.client_kinds.specs.Scores.{Score}
-use Rattle.control_desk.specs.Desks.{IsDone, cycles_before}
+use Rattle.session_works.specs.DeskWords.{IsDone}
 use Rattle.wave_pcm.specs.Readings.{Reading, SameReading}
 use Rattle.driver_words.specs.Tapes.{Tape}
 use Rattle.driver_laws.specs.Drivers.{run, turn_of}
 use Rattle.driver_laws.specs.Keeping.{Fits}
 use Rattle.session_works.specs.Drivers.{Gear, driver_of}
-use Rattle.script_segments.specs.Segments.{segment_of, segments}
 use Rattle.script_segments.specs.declared.lines.Segment.{Segment}
 use Rattle.recorder_files.specs.Recorders.{held_or}
-use Rattle.run_laws.specs.SerialRuns.{RingSerial, SerialAt, SerialBehind, SerialKept, SerialSoFar}
-use Rattle.run_laws.specs.Sessions.{Session}
-use Rattle.serial_laws.specs.Faults.{StandsInSerial, TurnFails, told}
-use Rattle.serial_laws.specs.Steps.{AreExact, Begun, IsSound, KeepsOwn, Turned}
+use Rattle.session_works.specs.RunWords.{SerialAt, SerialBehind, SerialKept, SerialSoFar, Session}
+use Rattle.session_works.specs.SerialWords.{Begun, IsSound, StandsInSerial, Turned, TurnFails}
 use Rattle.session_works.specs.Insides.{Stays, parts_of, seen}
 use Rattle.session_works.specs.Parts.{HasOpenFiles, session_of, told_of}
 use Rattle.session_works.specs.declared.works.SessionWorks.{SessionWorks}

@@ -7,11 +7,8 @@ use Rattle.session_model.specs.Kinds.{Sound}
 use Rattle.session_model.specs.Scripts.{phases}
 use Rattle.client_kinds.specs.Scores.{Score}
 use Rattle.recorder_files.specs.Recorders.{Stored}
-use Rattle.run_laws.specs.SerialRuns.{SerialBehind, SerialKept}
-use Rattle.run_laws.specs.Sessions.{IsGiven, Session}
-use Rattle.run_laws.specs.Told.{Runs}
-use Rattle.serial_laws.specs.Faults.{StandsInSerial}
-use Rattle.serial_laws.specs.Steps.{IsSound}
+use Rattle.session_works.specs.RunWords.{IsGiven, Runs, SerialBehind, SerialKept, Session}
+use Rattle.session_works.specs.SerialWords.{IsSound, StandsInSerial}
 use Rattle.session_works.specs.Insides.{Stays, parts_of, seen}
 use Rattle.session_works.specs.Parts.{Parts, session_of, told_of}
 use Rattle.session_works.specs.Standings.{HasRun, IsReady}

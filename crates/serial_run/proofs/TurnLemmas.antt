@@ -5,8 +5,8 @@ use Rattle.std.proofs.Common.{◌≡◌, List, ◌∷◌, filter_map, map, vec_i
 use Rattle.driver_words.specs.Tapes.{Tape}
 use Rattle.session_works.specs.Drivers.{Gear}
 use Rattle.recorder_files.specs.Recorders.{Recording, Stored, held_in, held_or}
-use Rattle.run_laws.specs.Sessions.{Session}
-use Rattle.serial_laws.specs.Steps.{Met, Rounded, Turned}
+use Rattle.session_works.specs.RunWords.{Session}
+use Rattle.session_works.specs.SerialWords.{Met, Rounded, Turned}
 use Rattle.session_works.specs.Insides.{held}
 use Rattle.session_works.specs.Turnings.{Goes}
 use Rattle.session_works.specs.declared.works.SessionWorks.{SessionWorks}

@@ -8,18 +8,13 @@
 use Rattle.std.specs.Prelude.{◌≡◌, ℕ, suc, ◌+◌, ◌<◌, Bool, [], length, slice_get, Some, IsNone}
 use Rattle.session_model.specs.Explanations.{Given}
 use Rattle.session_model.specs.Scripts.{Phase, phases, turns}
-use Rattle.control_desk.specs.Desks.{cycles_before}
+use Rattle.session_works.specs.DeskWords.{cycles_before}
 use Rattle.driver_words.specs.Rings.{Getting, Sending}
 use Rattle.driver_laws.specs.Drivers.{run, turn_of}
 use Rattle.driver_laws.specs.Keeping.{HasTape}
 use Rattle.serial_lanes.specs.Lanes.{SerialDesk}
-use Rattle.run_laws.specs.Runs.{HasFiles, RanPhases}
-use Rattle.run_laws.specs.SerialRuns.{RingSerial, SerialAt, SerialBehind, SerialKept}
-use Rattle.run_laws.specs.Sessions.{IsGiven, Session}
-use Rattle.run_laws.specs.Told.{IsNew, Runs}
-use Rattle.serial_laws.specs.Faults.{StandsInSerial, TurnFails, told}
-use Rattle.serial_laws.specs.Openings.{AreFresh, bare}
-use Rattle.serial_laws.specs.Steps.{AreExact, Begun, IsSound, KeepsOwn, Turned}
+use Rattle.session_works.specs.RunWords.{HasFiles, IsGiven, IsNew, RanPhases, RingSerial, Runs, SerialAt, SerialBehind, SerialKept, Session}
+use Rattle.session_works.specs.SerialWords.{AreExact, AreFresh, bare, Begun, IsSound, KeepsOwn, StandsInSerial, told, Turned, TurnFails}
 
 abbrev pub BehindAtFirst : Type 0
 BehindAtFirst = (session : Session) → IsNew (bare session) → IsNone session.script.header.threads → session.players ≡ [] → HasFiles session → SerialBehind session 0

@@ -3,12 +3,12 @@
 ghost use Rattle.serial_run.specs.Laws.{AtFront, AtNext, BehindAtFirst, BehindLastCycle, FrontsWhereFailed, KeptAtFirst, KeptAtFront, KeptNext, RanBehind, RunsWhole, SoundBegun, SoundTurned};
 ghost use Rattle.session_works.specs.Laws.{CycleIs, CycleThere, SegmentsOfPhases, SoundAtFirst};
 
-use run_laws::serial::{a_phase_ends, all_phases_end};
-use serial_laws::cycles::{a_cycle_goes_on, a_phase_begins};
-use serial_laws::faults::a_turn_that_fails_leaves_fronts;
-use serial_laws::openings::{a_serial_run_is_whole, a_session_stands_before_its_first_phase};
-use serial_laws::parts::{a_turn_leaves_the_parts, desks_leave_the_parts};
 use session_works::laws::phases_and_cycles;
+use session_works::passed::{
+    a_cycle_goes_on, a_phase_begins, a_phase_ends, a_serial_run_is_whole,
+    a_session_stands_before_its_first_phase, a_turn_leaves_the_parts,
+    a_turn_that_fails_leaves_fronts, all_phases_end, desks_leave_the_parts,
+};
 
 /// A phase: its front, each of its cycles, one that fails, and its end.
 pub(crate) fn a_phase_by_cycles()

@@ -4,10 +4,9 @@ ghost use Rattle.std.specs.Prelude.{◌≡◌, ◌<◌, ◌≤◌, IsErrOf, OnEr
 ghost use Rattle.jack_host.specs.Causes.{Rose};
 ghost use Rattle.session_model.specs.Explanations.{Given};
 ghost use Rattle.session_model.specs.Scripts.{phases as the_phases};
-ghost use Rattle.run_laws.specs.SerialRuns.{SerialBehind, SerialKept};
+ghost use Rattle.session_works.specs.RunWords.{SerialBehind, SerialKept};
 ghost use Rattle.script_segments.specs.Segments.{segments as the_segments};
-ghost use Rattle.serial_laws.specs.Faults.{StandsInSerial};
-ghost use Rattle.serial_laws.specs.Steps.{IsSound};
+ghost use Rattle.session_works.specs.SerialWords.{IsSound, StandsInSerial};
 ghost use Rattle.session_works.specs.Insides.{Stays, held, parts_of, seen};
 ghost use Rattle.session_works.specs.Parts.{HasOpenFiles, OneRose, told_of};
 

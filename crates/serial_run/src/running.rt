@@ -3,11 +3,9 @@
 ghost use Rattle.std.specs.Prelude.{◌≡◌, IsErrOf, IsNone, OnErr, OnOk};
 ghost use Rattle.jack_host.specs.Causes.{Rose};
 ghost use Rattle.session_model.specs.Explanations.{Given};
-ghost use Rattle.run_laws.specs.SerialRuns.{SerialKept};
-ghost use Rattle.run_laws.specs.Sessions.{IsGiven};
-ghost use Rattle.run_laws.specs.Told.{Runs};
+ghost use Rattle.session_works.specs.RunWords.{IsGiven, Runs, SerialKept};
 ghost use Rattle.script_segments.specs.Segments.{segments as the_segments};
-ghost use Rattle.serial_laws.specs.Faults.{StandsInSerial};
+ghost use Rattle.session_works.specs.SerialWords.{StandsInSerial};
 ghost use Rattle.session_works.specs.Insides.{Stays};
 ghost use Rattle.session_works.specs.Parts.{OneRose, session_of, stores_in, told_of};
 ghost use Rattle.session_works.specs.Standings.{HasRun, IsReady};

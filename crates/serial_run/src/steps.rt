@@ -1,11 +1,11 @@
 //! The steps of a run in serial mode that no cycle is in: the lanes go, between two meetings of desk and driver.
 
 ghost use Rattle.std.specs.Prelude.{◌≡◌, ◌≤◌, ◌<◌, length};
-ghost use Rattle.control_desk.specs.Desks.{IsDone};
-ghost use Rattle.run_laws.specs.Sessions.{Session as SessionValue};
+ghost use Rattle.session_works.specs.DeskWords.{IsDone};
+ghost use Rattle.session_works.specs.RunWords.{Session as SessionValue};
 ghost use Rattle.serial_lanes.specs.Lanes.{BehindPhases};
 ghost use Rattle.session_model.specs.Scripts.{phases};
-ghost use Rattle.serial_laws.specs.Steps.{Begun, Met, Rounded};
+ghost use Rattle.session_works.specs.SerialWords.{Begun, Met, Rounded};
 ghost use Rattle.session_works.specs.Insides.{seen};
 
 use client_kinds::Guest;

@@ -3,11 +3,10 @@
 ghost use Rattle.std.specs.Prelude.{◌≡◌, ◌+◌, ◌<◌, ◌≤◌, IsErrOf, OnErr, OnOk, length};
 ghost use Rattle.jack_host.specs.Causes.{Rose};
 ghost use Rattle.session_model.specs.Scripts.{turns};
-ghost use Rattle.control_desk.specs.Desks.{IsDone};
+ghost use Rattle.session_works.specs.DeskWords.{IsDone};
 ghost use Rattle.driver_laws.specs.Drivers.{run, turn_of};
 ghost use Rattle.session_works.specs.Drivers.{driver_of};
-ghost use Rattle.serial_laws.specs.Faults.{TurnFails};
-ghost use Rattle.serial_laws.specs.Steps.{IsSound, Turned};
+ghost use Rattle.session_works.specs.SerialWords.{IsSound, Turned, TurnFails};
 ghost use Rattle.session_works.specs.Insides.{Stays, held, parts_of, seen};
 ghost use Rattle.session_works.specs.Parts.{HasOpenFiles, OneRose};
 ghost use Rattle.session_works.specs.declared.faults.SessionFault.{SessionFault as Fault};

@@ -86,7 +86,7 @@ module _ (sounding : Score → Sound) (script : Script) (rows : Rows) (told : Ar
 
     module _ (given : Given) (written : Written) (at : AtCycle sounding script given written (report_kept rows) passing) where
       along : GoesAlong sounding (course_in given (report_kept rows)) after
-      along = along-after sounding script rows given written passing form places underway at phase freewheel next row here changes taken after steps changes_are number_is rises few (told.lawful.old told.version).1
+      along = along-after sounding script rows given written passing form places underway at phase freewheel next row here changes taken after steps changes_are number_is rises few told.no_disks
 
       shown-is : is_shown (printed_cycle row).moment (moment (course_in given (report_kept rows)) (passing.done + 1)) ≡ answer
       shown-is = ap (is_shown (printed_cycle row).moment) (sym (seen_is (course_in given (report_kept rows)) along ∙ ap (moment (course_in given (report_kept rows))) run-after)) ∙ sym answer_is

@@ -1,13 +1,15 @@
 //! What is seen at a wrong part. It is for people: no clause rests on it.
 
+use crate::events::{is_of as is_of_log, log_in};
 use crate::listing::{is_of, meter_in};
 use crate::pass::Pass;
 use check_parts::{overrun_sight, recorder_sight};
 use check_sights::{Number, Sight};
+use check_walk::Walk;
 use client_kinds::Guest;
 use jack_host::Source;
-use jack_types::{Change, ClientName, Part, Row};
-use report_reader::MeterLine;
+use jack_types::{Change, ClientName, Logged, Part, Row};
+use report_reader::{EventLine, MeterLine};
 use script_segments::Segment;
 use session_script::Script;
 use told_reports::Told;
@@ -41,6 +43,48 @@ fn meter_sight<S: Source, G: Guest>(pass: &Pass<S, G>, rows: &[MeterLine], place
     }
 }
 
+/// The event of this place among those of all logs that the changes open, and the log's client.
+fn event_at<S: Source, G: Guest>(
+    changes: &[Change],
+    walk: &Walk<S, G>,
+    place: usize,
+) -> Option<(ClientName, Logged)> {
+    let mut left = place;
+    for at in 0..changes.len() {
+        let change = changes[at];
+        if let Some(client) = log_in(&change) {
+            let log = walk.log(change.number);
+            if left < log.len() {
+                return Some((client, log[left]));
+            }
+            left -= log.len();
+        }
+    }
+    None
+}
+
+fn event_sight<S: Source, G: Guest>(pass: &Pass<S, G>, rows: &[EventLine], place: usize) -> Sight {
+    let Some((client, logged)) = event_at(pass.calls.changes(), &pass.walk, place) else {
+        return Sight::Extra;
+    };
+    let (what, wanted, found) = match rows.get(place) {
+        Some(row) if !is_of_log(row, &client) => return Sight::Missing,
+        Some(row) if row.cycle != u64::from(logged.cycle) => {
+            (Number::Cycle, u64::from(logged.cycle), row.cycle)
+        }
+        Some(row) if row.offset != u64::from(logged.event.offset) => {
+            (Number::Offset, u64::from(logged.event.offset), row.offset)
+        }
+        Some(_) => return Sight::Nothing,
+        None => return Sight::Missing,
+    };
+    Sight::Number {
+        what,
+        wanted,
+        found,
+    }
+}
+
 /// What is seen at a wrong line behind the cycles.
 fn line_sight<S: Source, G: Guest>(
     script: &Script,
@@ -52,6 +96,7 @@ fn line_sight<S: Source, G: Guest>(
 ) -> Sight {
     match what {
         Part::Meter => meter_sight(pass, told.meters(), place),
+        Part::Midi => event_sight(pass, told.events(), place),
         Part::Recorder => match (pass.takings.get(place), told.recorders().get(place)) {
             (Some(takings), Some(row)) => recorder_sight(takings, row),
             _ => Sight::Nothing,

@@ -15,10 +15,10 @@ use Rattle.session_model.specs.Kinds.{Sound}
 use Rattle.session_model.specs.WaveFiles.{IsFormat}
 use Rattle.client_kinds.specs.Scores.{Score}
 use Rattle.graph_word.proofs.Fronts.{got_else, got_here}
-use Rattle.run_laws.proofs.PlaceLemmas.{mapped_there, some_at}
-use Rattle.run_laws.specs.Told.{IsNew}
+use Rattle.session_works.proofs.PassedLemmas.{mapped_there, some_at}
+use Rattle.session_works.specs.RunWords.{IsNew}
 use Rattle.driver_words.specs.Rings.{Getting}
-use Rattle.serial_laws.specs.Openings.{bare}
+use Rattle.session_works.specs.SerialWords.{bare}
 use Rattle.driver_words.specs.Tapes.{IsCut, Tape}
 use Rattle.session_works.specs.Drivers.{Gear, playback_format}
 use Rattle.recorder_files.specs.Recorders.{Recording, Stored, held_in, held_or, stored_of}

@@ -16,9 +16,8 @@ use Rattle.driver_words.specs.Rings.{IsPair, Sending}
 use Rattle.driver_words.specs.Tapes.{Tape}
 use Rattle.recorder_files.specs.Recorders.{BreaksOff, GivesUp, Recording, Reel, Stored, held_or, stored_of}
 use Rattle.disk_recorder.specs.Recordings.{MayWrite}
-use Rattle.run_laws.proofs.PlaceLemmas.{some_at}
-use Rattle.serial_laws.specs.Endings.{Broken, IsBroken, IsFinished, Unfinished}
-use Rattle.serial_laws.specs.Steps.{IsSound}
+use Rattle.session_works.proofs.PassedLemmas.{some_at}
+use Rattle.session_works.specs.SerialWords.{Broken, IsBroken, IsFinished, IsSound, Unfinished}
 use Rattle.session_ends.specs.Closings.{Closed, ClosesAll, CloseFails, Failed, Tried}
 use Rattle.session_works.specs.Giving.{reel_of}
 use Rattle.session_works.specs.Parts.{HasOpenFiles, IsLater, Parts, session_of}

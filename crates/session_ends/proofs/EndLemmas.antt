@@ -21,14 +21,13 @@ use Rattle.driver_words.specs.Rings.{Getting, Sending}
 use Rattle.driver_words.specs.Tapes.{Tape}
 use Rattle.wave_write.proofs.TapeLemmas.{samples-unfinished, unfinished-front}
 use Rattle.session_works.specs.Drivers.{Gear, IsServed, driver_of}
-use Rattle.control_desk.specs.Desks.{Desk}
+use Rattle.session_works.specs.DeskWords.{Desk}
 use Rattle.recorder_files.specs.Recorders.{Recording, Reel, Stored, held_in, held_or, stored_of}
 use Rattle.session_laws.proofs.ListLemmas.{slice_get-map}
 use Rattle.client_kinds.specs.Scores.{Score}
-use Rattle.run_laws.specs.Runs.{RanPhases}
-use Rattle.run_laws.proofs.PlaceLemmas.{mapped_there, some_at}
-use Rattle.serial_laws.specs.Endings.{EndFails, EndTried, EndsAll, EndsOne, Finished, IsBroken, IsFinished, Left}
-use Rattle.serial_laws.specs.Steps.{IsReel, IsSound}
+use Rattle.session_works.specs.RunWords.{RanPhases}
+use Rattle.session_works.proofs.PassedLemmas.{mapped_there, some_at}
+use Rattle.session_works.specs.SerialWords.{EndFails, EndsAll, EndsOne, EndTried, Finished, IsBroken, IsFinished, IsReel, IsSound, Left}
 use Rattle.session_ends.specs.Closings.{CloseFails, Closed, ClosesAll, Failed, PlaybackCloses, Tried}
 use Rattle.session_ends.specs.Endings.{StopsInOrder}
 use Rattle.session_works.specs.Giving.{reel_of}
@@ -170,7 +169,7 @@ end-fails sounding parts after playback files gear desk as_many tried broken = r
   history = ap (λ (d : Desk). d.history) desk;
   numbers = ap (λ (g : Gear). g.numbers) gear;
   overruns = ap (λ (g : Gear). g.rings.overruns) gear;
-  underruns = refl;
+  underruns = ap (λ (g : Gear). g.disks.underruns) gear;
   scores = ap (λ (g : Gear). (driver_of sounding g).scores) gear;
 }
 

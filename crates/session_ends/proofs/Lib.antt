@@ -4,7 +4,6 @@ pub mod AttachLemmas
 pub mod CloseLemmas
 pub mod EndLemmas
 pub mod TakeLemmas
-pub mod KindLemmas
 pub mod MeterLemmas
 pub mod ReportLemmas
 pub mod PassedLemmas

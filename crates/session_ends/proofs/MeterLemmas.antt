@@ -1,24 +1,25 @@
 -- The lines of a report as the texts of its items.
 --     text-parted      of items made from some of a list
 --     text-grouped      of items with several lines each
---     text-meters, text-recorders, text-recorder      of meters and recorders
+--     text-meters, text-logged, text-events, text-recorders, text-recorder      of meters, logs and recorders
 --     cycles-below      the cycles of numbers and moments
 use Rattle.std.proofs.Common.{◌≡◌, ℕ, ◌<◌, List, [], ◌∷◌, ◌++◌, length, map, flat_map, filter_map, get_or, Option, Some, None, refl, sym, ◌∙◌, ap, ap₂, arith, append-nil}
 use Rattle.std.specs.Prelude.{slice_index_or}
 use Rattle.std.proofs.lemmas.List.{get_or-map, map-append, same_lists}
 use Rattle.std.proofs.lemmas.List.Concat.{flat_map-append}
 use Rattle.jack_types.specs.declared.commands.Change.{Change}
+use Rattle.jack_types.specs.declared.events.Logged.{Logged}
 use Rattle.jack_types.specs.declared.replies.Entry.{Entry}
 use Rattle.jack_types.specs.declared.replies.Overrun.{Overrun}
 use Rattle.session_model.specs.Histories.{accepted, change_of}
-use Rattle.session_model.specs.Reports.{PrintedRecorder, meter_line, recorder_lines}
+use Rattle.session_model.specs.Reports.{PrintedEvent, PrintedRecorder, event_line, meter_line, recorder_lines}
 use Rattle.session_model.specs.Samples.{below}
 use Rattle.session_laws.proofs.ActivationLemmas.{get_or-map_below, length-map_below}
 use Rattle.driver_laws.specs.Drivers.{Driver, run}
-use Rattle.run_laws.specs.Told.{cycle_in, meters_from, no_moment}
+use Rattle.session_works.specs.RunWords.{cycle_in, events_from, meters_from, no_moment}
 use Rattle.recorder_files.specs.Recorders.{Recording}
 use Rattle.report_lines.specs.Outputs.{cycles_of, overruns_on, text_of}
-use Rattle.report_lines.proofs.PutLemmas.{cycles-at, length-cycles, same-at}
+use Rattle.report_lines.proofs.PutLemmas.{cycles-at, length-cycles, same-at, text-mapped}
 
 -- what is made from the items of a list, where something is
 pub text-parted : {X Y Z : Type 0} (part : X → Option Y) (f : Y → List Z) (line : Z → List ℕ) (xs : List X)
@@ -45,6 +46,23 @@ meter_text driver entry = text_of (map meter_line (flat_map (λ (change : Change
 
 pub text-meters : (driver : Driver) (history : List Entry) → text_of (map meter_line (flat_map (λ (change : Change). meters_from driver change.number change.command) (accepted history))) ≡ flat_map (meter_text driver) history
 text-meters driver history = text-parted change_of (λ (change : Change). meters_from driver change.number change.command) meter_line history
+
+-- an event's item in the report, which a client of this name logged
+abbrev pub event_item : List ℕ → Logged → PrintedEvent
+event_item client logged = record { client = client; logged = logged }
+
+abbrev pub logged_text : List ℕ → Logged → List ℕ
+logged_text client logged = event_line (event_item client logged)
+
+pub text-logged : (client : List ℕ) (log : List Logged) → text_of (map event_line (map (event_item client) log)) ≡ flat_map (logged_text client) log
+text-logged client log = text-mapped event_line (event_item client) log
+
+-- the lines that the log of a call prints
+abbrev pub event_text : Driver → Entry → List ℕ
+event_text driver entry = text_of (map event_line (flat_map (λ (change : Change). events_from driver change.number change.command) (accepted (entry ∷ []))))
+
+pub text-events : (driver : Driver) (history : List Entry) → text_of (map event_line (flat_map (λ (change : Change). events_from driver change.number change.command) (accepted history))) ≡ flat_map (event_text driver) history
+text-events driver history = text-parted change_of (λ (change : Change). events_from driver change.number change.command) event_line history
 
 -- a recorder's item in the report, and its lines
 abbrev pub recorder_item : List Recording → List Overrun → ℕ → PrintedRecorder

@@ -15,15 +15,15 @@ use Rattle.graph_word.specs.declared.view.TakenRow.{TakenRow}
 use Rattle.graph_word.specs.Publications.{IsOpening as IsPublication, Publishing, Reading}
 use Rattle.driver_words.specs.Rings.{Getting, IsOpening, IsPair, Sending}
 use Rattle.driver_words.specs.Tapes.{Tape}
-use Rattle.control_desk.specs.Desks.{Desk, IsDesk, IsNewDesk, base_of}
+use Rattle.session_works.specs.DeskWords.{Desk, IsDesk, IsNewDesk, base_of}
 use Rattle.driver_laws.specs.Drivers.{Driver, HasOwnRings, HasOwnRows, IsOwnRing, last_content}
 use Rattle.driver_laws.specs.Openings.{IsNew as IsNewDriver}
 use Rattle.recorder_rings.specs.Openings.{IsNew as AreNew}
 use Rattle.recorder_rings.specs.Sending.{no_ring, ring_at}
 use Rattle.recorder_files.specs.Recorders.{Recording, Stored, held_in, held_or}
 use Rattle.session_works.specs.Drivers.{Gear, IsServed, driver_of}
-use Rattle.run_laws.specs.Sessions.{IsOne}
-use Rattle.serial_laws.specs.Openings.{bare}
+use Rattle.session_works.specs.RunWords.{IsOne}
+use Rattle.session_works.specs.SerialWords.{bare}
 use Rattle.session_works.specs.Parts.{Parts, session_of, stores_in}
 use Rattle.session_works.specs.Standings.{IsAttaching}
 use Rattle.session_ends.proofs.PairLemmas.{IsBare, IsOver, opened-at}
@@ -100,7 +100,7 @@ module _ (sounding : Score → Sound) (scores : List Sound) (desk : Desk) (gear 
     recorders = is.new.as_many;
     disks = is.new.as_many_disks;
     puts = zeros (λ (ring : Sending). length ring.put) gear.rings.rings gear.script.header.recorders is.new.as_many (λ i d h. ap length (is.new.rings i d h).put) ∙ sym is.new.sent;
-    gets = refl;
+    gets = zeros (λ (got : Getting). length got.got) gear.disks.disks gear.script.header.disks is.new.as_many_disks (λ i d h. ap length (is.new.disks i d h).blocks) ∙ sym is.new.played;
     own_disks = is.new.own_disks;
     own = own_ring;
   }
@@ -148,11 +148,11 @@ module _ (sounding : Score → Sound) (scores : List Sound) (desk : Desk) (gear 
     rows = own_rows;
     rings = own_rings;
     own_recorders = subst (All (λ overrun. overrun.recorder < length gear.script.header.recorders)) (sym is.new.overruns) (λ i d h. absurd (none_below h));
-    own_disks = λ i d h. absurd (none_below h);
+    own_disks = subst (All (λ underrun. underrun.disk < length gear.script.header.disks)) (sym is.new.underruns) (λ i d h. absurd (none_below h));
     capacity = λ i d h. (is.new.rings i d h).capacity_is;
     recorder_ends = length-map made (λ (r : Recording). r.getting) ∙ as-many;
     recorder_pairs = λ i ring got here there. pair ring got (over-ring i ring got here there);
-    disk_ends = is.new.as_many_disks;
+    disk_ends = ap length (sym is.served.no_disks);
     disk_pairs = λ i ring got here there. absurd cc;
   }
 

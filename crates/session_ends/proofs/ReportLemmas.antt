@@ -1,9 +1,10 @@
 -- The pieces of a report.
---     title, calls_text, cycles_text, meters_text, recorders_text, last      what is put one after the other
+--     title, calls_text, cycles_text, meters_text, events_text, recorders_text, last      what is put one after the other
 --     text-put      what is put behind the first line
---     calls-put, cycles-put, meters-put, recorders-put      what is put of the desk's and the driver's lists and of the recorders is what the report says
+--     took-calls      what the last cycle took is of the script's calls
+--     calls-put, cycles-put, meters-put, events-put, recorders-put      what is put of the desk's and the driver's lists and of the recorders is what the report says
 --     cause-later, cause-cut      what failed behind earlier calls has its cause behind them
-use Rattle.std.proofs.Common.{◌≡◌, ℕ, List, [], ◌∷◌, ◌++◌, ◌<◌, codes, length, map, flat_map, All, subst, sym, ◌∙◌, ap, ap₂, append_assoc, append-nil, Option, refl, true≢false}
+use Rattle.std.proofs.Common.{◌≡◌, ℕ, List, [], ◌∷◌, ◌++◌, ◌<◌, codes, length, map, flat_map, take, subst, sym, ◌∙◌, ap, ap₂, append_assoc, append-nil, Option, refl, true≢false}
 use Rattle.std.specs.Prelude.{Result, Ok, Err, IsErr}
 use Rattle.std.proofs.lemmas.List.{length-map}
 use Rattle.std.proofs.lemmas.List.Concat.{flat_map-append}
@@ -13,24 +14,22 @@ use Rattle.jack_types.specs.declared.commands.Change.{Change}
 use Rattle.jack_types.specs.declared.moments.Moment.{Moment}
 use Rattle.jack_types.specs.declared.replies.Entry.{Entry}
 use Rattle.jack_types.specs.declared.replies.Overrun.{Overrun}
-use Rattle.session_model.specs.Grammar.{IsScript}
 use Rattle.session_model.specs.Histories.{accepted}
 use Rattle.session_model.specs.Kinds.{Sound}
-use Rattle.session_model.specs.Reports.{Report, PrintedCycle, PrintedDisk, PrintedEvent, call_line, cycle_line, disk_lines, event_line, line, meter_line, printed_call, recorder_lines, report_lines}
+use Rattle.session_model.specs.Reports.{Report, PrintedCycle, PrintedDisk, call_line, cycle_line, disk_lines, event_line, line, meter_line, printed_call, recorder_lines, report_lines}
 use Rattle.session_model.specs.Samples.{below}
 use Rattle.session_model.specs.Scripts.{Script}
 use Rattle.client_kinds.specs.Scores.{Score}
-use Rattle.control_desk.specs.Laws.{AreOfCalls, OfCallsAccepted}
+use Rattle.session_works.specs.DeskWords.{OfCallsAccepted}
+use Rattle.driver_laws.specs.Keeping.{AreOfCalls}
 use Rattle.session_works.specs.Drivers.{IsServed, driver_of}
-use Rattle.run_laws.specs.Sessions.{IsOne, Session}
-use Rattle.run_laws.specs.Told.{disk_in, meters_from, recorder_in, report_in, text_in}
-use Rattle.task_laws.specs.Calls.{IsOldKind, open_kinds}
+use Rattle.session_works.specs.RunWords.{disk_in, events_from, IsMet, IsOne, meters_from, recorder_in, report_in, Session, text_in}
 use Rattle.report_lines.specs.Outputs.{cycles_of, text_of}
 use Rattle.report_lines.proofs.PutLemmas.{first_last}
 use Rattle.recorder_files.specs.Recorders.{Recording}
 use Rattle.session_works.specs.Insides.{seen}
+use Rattle.session_works.proofs.PassedLemmas.{AreOfCalls-kept, AreOfCalls-last}
 use Rattle.session_works.specs.declared.works.SessionWorks.{SessionWorks}
-use Rattle.session_ends.proofs.KindLemmas.{no-events}
 use Rattle.session_ends.proofs.MeterLemmas.{cycles-below, recorder_item}
 
 abbrev pub title : List ℕ
@@ -48,12 +47,18 @@ cycles_text report = text_of (map cycle_line report.cycles)
 abbrev pub meters_text : Report → List ℕ
 meters_text report = text_of (map meter_line report.meters)
 
+abbrev pub events_text : Report → List ℕ
+events_text report = text_of (map event_line report.events)
+
 abbrev pub recorders_text : Report → List ℕ
 recorders_text report = text_of (flat_map recorder_lines report.recorders)
 
 -- what stands behind each
+abbrev pub behind_events : Report → List ℕ
+behind_events report = recorders_text report ++ last
+
 abbrev pub behind_meters : Report → List ℕ
-behind_meters report = recorders_text report ++ last
+behind_meters report = events_text report ++ behind_events report
 
 abbrev pub behind_cycles : Report → List ℕ
 behind_cycles report = meters_text report ++ behind_meters report
@@ -76,28 +81,30 @@ text-pieces a b c d e f g =
     ∙ text-behind (a ++ b) c (text_of d ++ (text_of e ++ (text_of f ++ text_of g)))
     ∙ text-behind a b (text_of c ++ (text_of d ++ (text_of e ++ (text_of f ++ text_of g))))
 
--- a report without events and disks
-text-report : (report : Report) → report.events ≡ [] → report.disks ≡ [] → text_of (report_lines report) ≡ title ++ behind_title report
-text-report report no_events no_disks =
+-- a report without disks
+text-report : (report : Report) → report.disks ≡ [] → text_of (report_lines report) ≡ title ++ behind_title report
+text-report report no_disks =
     ap (λ (t : List ℕ). title ++ t)
     (text-pieces (map call_line report.calls) (map cycle_line report.cycles) (map meter_line report.meters) (map event_line report.events) (flat_map recorder_lines report.recorders) (flat_map disk_lines report.disks) (last ∷ [])
-    ∙ ap (λ (events : List PrintedEvent). calls_text report ++ (cycles_text report ++ (meters_text report ++ (text_of (map event_line events) ++ (recorders_text report ++ (text_of (flat_map disk_lines report.disks) ++ text_of (last ∷ []))))))) no_events
-    ∙ ap (λ (disks : List PrintedDisk). calls_text report ++ (cycles_text report ++ (meters_text report ++ (recorders_text report ++ (text_of (flat_map disk_lines disks) ++ text_of (last ∷ [])))))) no_disks
-    ∙ ap (λ (ending : List ℕ). calls_text report ++ (cycles_text report ++ (meters_text report ++ (recorders_text report ++ ending)))) (append-nil last))
+    ∙ ap (λ (disks : List PrintedDisk). calls_text report ++ (cycles_text report ++ (meters_text report ++ (events_text report ++ (recorders_text report ++ (text_of (flat_map disk_lines disks) ++ text_of (last ∷ []))))))) no_disks
+    ∙ ap (λ (ending : List ℕ). calls_text report ++ (cycles_text report ++ (meters_text report ++ (events_text report ++ (recorders_text report ++ ending))))) (append-nil last))
 
--- the report of a session of a script before version 3
-text-served : (session : Session) → IsOne session → IsServed session.script → OfCallsAccepted → All IsOldKind (open_kinds session.script) → text_in session ≡ title ++ behind_title (report_in session)
-text-served session one served of_calls old =
-    let calls : AreOfCalls session.script (accepted session.desk.history) = subst (λ script. AreOfCalls script (accepted session.desk.history)) one.desk_script (of_calls session.desk.script session.desk.history one.desk.legal) in
-    let none : session.script.header.disks ≡ [] = (served.lawful.old served.version).1 in
-    text-report (report_in session) (no-events session.script session.driver (accepted session.desk.history) calls old) (ap (λ (disks : List ℕ). map (disk_in session) (below (length disks))) none)
+-- the report of a session of a script that is served
+text-served : (session : Session) → IsServed session.script → text_in session ≡ title ++ behind_title (report_in session)
+text-served session served = text-report (report_in session) (ap (λ (disks : List ℕ). map (disk_in session) (below (length disks))) served.no_disks)
 
 -- the first line, and what is put behind it
-pub text-put : (sounding : Score → Sound) {S W G T E : Type 0} (works : SessionWorks S W G) (whole : Result T E) (a b c : Option (List ℕ)) → IsOne (seen sounding works) → IsServed works.driver.script → OfCallsAccepted
-    → ((script : Script) → IsScript script → script.header.version < 3 → All IsOldKind (open_kinds script)) → Gains a b title → Puts b c whole (behind_title (report_in (seen sounding works))) → Puts a c whole (text_in (seen sounding works))
-text-put sounding {T = T} {E = E} works whole a b c one served of_calls old first rest =
-    subst (λ (t : List ℕ). Puts {T = T} {E = E} a c whole t) (sym (text-served (seen sounding works) one served of_calls (old works.driver.script served.lawful served.version)))
+pub text-put : (sounding : Score → Sound) {S W G T E : Type 0} (works : SessionWorks S W G) (whole : Result T E) (a b c : Option (List ℕ)) → IsServed works.driver.script → Gains a b title
+    → Puts b c whole (behind_title (report_in (seen sounding works))) → Puts a c whole (text_in (seen sounding works))
+text-put sounding {T = T} {E = E} works whole a b c served first rest =
+    subst (λ (t : List ℕ). Puts {T = T} {E = E} a c whole t) (sym (text-served (seen sounding works) served))
     (first_last whole a b c title title (behind_title (report_in (seen sounding works))) refl first rest)
+
+-- what the last cycle took is a front of what was accepted
+pub took-calls : (sounding : Score → Sound) {S W G : Type 0} (works : SessionWorks S W G) → IsOne (seen sounding works) → IsMet (seen sounding works) → OfCallsAccepted → AreOfCalls works.driver.script works.driver.stage.plan.changes
+took-calls sounding works one met of_calls =
+    AreOfCalls-last works.driver.script works.driver.stage.plan.changes works.driver.reading.held (accepted works.desk.history) one.rows.place (met.met.held ∙ ap (take (length works.driver.reading.held)) one.desk.published)
+    (subst (λ (script : Script). AreOfCalls script (accepted works.desk.history)) one.desk_script (AreOfCalls-kept works.desk.script (accepted works.desk.history) (of_calls works.desk.script works.desk.history one.desk.legal)))
 
 pub calls-put : (sounding : Score → Sound) {S W G : Type 0} (works : SessionWorks S W G) (history : List Entry) → history ≡ works.desk.history → text_of (map call_line (map printed_call history)) ≡ calls_text (report_in (seen sounding works))
 calls-put sounding works history own = ap (λ (h : List Entry). text_of (map call_line (map printed_call h))) own
@@ -105,6 +112,10 @@ calls-put sounding works history own = ap (λ (h : List Entry). text_of (map cal
 pub meters-put : (sounding : Score → Sound) {S W G : Type 0} (works : SessionWorks S W G) (history : List Entry) → history ≡ works.desk.history
     → text_of (map meter_line (flat_map (λ (change : Change). meters_from (driver_of sounding works.driver) change.number change.command) (accepted history))) ≡ meters_text (report_in (seen sounding works))
 meters-put sounding works history own = ap (λ (h : List Entry). text_of (map meter_line (flat_map (λ (change : Change). meters_from (driver_of sounding works.driver) change.number change.command) (accepted h)))) own
+
+pub events-put : (sounding : Score → Sound) {S W G : Type 0} (works : SessionWorks S W G) (history : List Entry) → history ≡ works.desk.history
+    → text_of (map event_line (flat_map (λ (change : Change). events_from (driver_of sounding works.driver) change.number change.command) (accepted history))) ≡ events_text (report_in (seen sounding works))
+events-put sounding works history own = ap (λ (h : List Entry). text_of (map event_line (flat_map (λ (change : Change). events_from (driver_of sounding works.driver) change.number change.command) (accepted h)))) own
 
 pub cycles-put : (sounding : Score → Sound) {S W G : Type 0} (works : SessionWorks S W G) (numbers : List ℕ) (moments : List Moment) → numbers ≡ works.driver.numbers → moments ≡ works.driver.moments → length works.driver.moments ≡ length works.driver.numbers
     → text_of (map cycle_line (cycles_of numbers moments)) ≡ cycles_text (report_in (seen sounding works))

@@ -26,13 +26,11 @@ use Rattle.session_laws.proofs.ListLemmas.{flat_map-same}
 use Rattle.client_kinds.specs.Scores.{Score}
 use Rattle.driver_words.specs.Rings.{Getting}
 use Rattle.driver_words.specs.Tapes.{Tape}
-use Rattle.control_desk.specs.Desks.{Desk}
+use Rattle.session_works.specs.DeskWords.{Desk}
 use Rattle.driver_laws.specs.Drivers.{Driver}
 use Rattle.session_works.specs.Drivers.{Gear, driver_of}
 use Rattle.recorder_files.specs.Recorders.{Recording, Stored, held_in, held_or, stored_of}
-use Rattle.run_laws.specs.Runs.{RanPhases}
-use Rattle.run_laws.specs.Sessions.{IsOne, Session}
-use Rattle.run_laws.specs.Told.{events_from, meters_from, report_in, text_in}
+use Rattle.session_works.specs.RunWords.{events_from, IsOne, meters_from, RanPhases, report_in, Session, text_in}
 use Rattle.session_works.specs.Parts.{Parts, session_of, stores_in}
 use Rattle.session_works.specs.Standings.{HasEnded}
 use Rattle.session_ends.specs.Takings.{stores_of}

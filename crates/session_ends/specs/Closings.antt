@@ -9,7 +9,7 @@ use Rattle.jack_host.specs.Causes.{Rose}
 use Rattle.driver_words.specs.Rings.{Sending}
 use Rattle.driver_words.specs.Tapes.{Tape}
 use Rattle.recorder_files.specs.Recorders.{Recording, Stored, held_in, stored_of}
-use Rattle.serial_laws.specs.Endings.{EndTried, IsBroken, IsFinished}
+use Rattle.session_works.specs.SerialWords.{EndTried, IsBroken, IsFinished}
 use Rattle.session_ends.specs.Endings.{FinishesOne}
 use Rattle.session_works.specs.Giving.{reel_of}
 use Rattle.session_works.specs.Parts.{IsLater, Parts}

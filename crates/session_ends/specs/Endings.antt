@@ -5,7 +5,7 @@ use Rattle.std.specs.Prelude.{◌≡◌, ℕ, ◌<◌, ◌≤◌, length, slice_
 use Rattle.driver_words.specs.Rings.{Sending}
 use Rattle.driver_words.specs.Tapes.{Tape}
 use Rattle.recorder_files.specs.Recorders.{Recording, Stored}
-use Rattle.serial_laws.specs.Endings.{EndsOne}
+use Rattle.session_works.specs.SerialWords.{EndsOne}
 use Rattle.session_works.specs.Parts.{Parts}
 
 pub record FinishesOne (capacity : ℕ) (ring : Sending) (recording : Recording) (ring_after : Sending) (after : Recording) : Type 0 where

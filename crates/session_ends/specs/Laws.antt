@@ -4,13 +4,8 @@
 use Rattle.std.specs.Prelude.{length}
 use Rattle.session_model.specs.Explanations.{Given}
 use Rattle.session_model.specs.Scripts.{phases}
-use Rattle.run_laws.specs.Runs.{AtPhase, RanPhases}
-use Rattle.run_laws.specs.SerialRuns.{SerialBehind, SerialKept}
-use Rattle.run_laws.specs.Sessions.{Session}
-use Rattle.run_laws.specs.Told.{Ends}
-use Rattle.serial_laws.specs.Endings.{EndFails, EndsAll}
-use Rattle.serial_laws.specs.Faults.{StandsInSerial}
-use Rattle.serial_laws.specs.Steps.{IsSound}
+use Rattle.session_works.specs.RunWords.{AtPhase, Ends, RanPhases, SerialBehind, SerialKept, Session}
+use Rattle.session_works.specs.SerialWords.{EndFails, EndsAll, IsSound, StandsInSerial}
 
 abbrev pub EndsWhole : Type 0
 EndsWhole = (given : Given) (session after : Session) → IsSound session → AtPhase session given (length (phases session.script)) → EndsAll session after → Ends given session after

@@ -5,7 +5,7 @@ ghost use Rattle.disk_recorder.specs.Recordings.{MayWrite};
 ghost use Rattle.driver_words.specs.Rings.{IsPair};
 ghost use Rattle.driver_words.specs.Tapes.{Tape};
 ghost use Rattle.recorder_files.specs.Recorders.{Stored};
-ghost use Rattle.serial_laws.specs.Steps.{IsSound};
+ghost use Rattle.session_works.specs.SerialWords.{IsSound};
 ghost use Rattle.session_works.specs.Insides.{parts_of, seen};
 ghost use Rattle.session_works.specs.Parts.{HasOpenFiles};
 ghost use Rattle.session_ends.specs.Closings.{CloseFails, Closed, ClosesAll, Failed, PlaybackCloses};

@@ -4,10 +4,8 @@ ghost use Rattle.std.specs.Prelude.{◌≡◌, Err, IsNone, IsSome, OnErr, OnOk,
 ghost use Rattle.session_model.specs.Explanations.{Given};
 ghost use Rattle.session_model.specs.Scripts.{phases};
 ghost use Rattle.driver_laws.specs.Drivers.{run};
-ghost use Rattle.run_laws.specs.Runs.{AtPhase};
-ghost use Rattle.run_laws.specs.SerialRuns.{SerialKept};
-ghost use Rattle.run_laws.specs.Told.{Ends, StandsSoFar};
-ghost use Rattle.serial_laws.specs.Faults.{StandsInSerial};
+ghost use Rattle.session_works.specs.RunWords.{AtPhase, Ends, SerialKept, StandsSoFar};
+ghost use Rattle.session_works.specs.SerialWords.{StandsInSerial};
 ghost use Rattle.session_works.specs.Drivers.{driver_of};
 ghost use Rattle.session_works.specs.Parts.{AreLater, OneRose, session_of, stores_in, told_of};
 ghost use Rattle.session_works.specs.Standings.{HasEnded, HasRun};

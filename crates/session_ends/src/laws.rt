@@ -3,8 +3,7 @@
 ghost use Rattle.session_ends.specs.Laws.{EndsWhole, RanBehindEnd, SerialEndStands};
 ghost use Rattle.thread_laws.specs.FaultLaws.{EndStands};
 
-use serial_laws::endings::an_end_is_whole;
-use serial_laws::faults::an_end_that_fails_leaves_fronts;
+use session_works::passed::{an_end_is_whole, an_end_that_fails_leaves_fronts};
 
 /// An end that is whole leaves the finished files, and one that fails fronts of them, in either mode.
 pub(crate) fn an_end_in_either_mode()

@@ -13,5 +13,5 @@ pub use attaching::attach;
 pub use ending::end;
 pub use opening::open;
 pub use reporting::report;
-pub use session_works::{Driver, RingLimits, SessionFault, SessionParts};
+pub use session_works::{Desk, Driver, RingLimits, SessionFault, SessionParts};
 pub use taking::take_store;

@@ -4,7 +4,7 @@ ghost use Rattle.std.specs.Prelude.{◌≡◌, ◌*◌, ◌≤◌, ℕ, All, IfE
 ghost use Rattle.session_model.specs.Scripts.{turns};
 ghost use Rattle.graph_word.specs.Publications.{IsOpening as IsPublication};
 ghost use Rattle.driver_words.specs.Rings.{IsOpening};
-ghost use Rattle.control_desk.specs.Desks.{IsDesk, IsNewDesk, base_of};
+ghost use Rattle.session_works.specs.DeskWords.{IsDesk, IsNewDesk, base_of};
 ghost use Rattle.driver_laws.specs.Drivers.{greatest_period as the_greatest_period};
 ghost use Rattle.recorder_files.specs.Recorders.{Recording};
 ghost use Rattle.recorder_rings.specs.Openings.{IsNew as AreNew};
@@ -15,7 +15,6 @@ ghost use Rattle.session_works.specs.Parts.{stores_in};
 ghost use Rattle.session_works.specs.Standings.{IsAttaching};
 
 use client_kinds::Guest;
-use control_desk::Desk;
 use cycle_plan::Plan;
 use graph_word::{Publisher, Reader, publication};
 use jack_host::{Source, Store};
@@ -23,7 +22,7 @@ use jack_types::{Header, Memory};
 use recorder_files::Recorder;
 use script_needs::greatest_period;
 use session_script::Script;
-use session_works::{Driver, SessionParts, SessionWorks, kept_by_type};
+use session_works::{Desk, Driver, SessionParts, SessionWorks, kept_by_type};
 use std::alloc::Global;
 use wave_pcm::Wave;
 

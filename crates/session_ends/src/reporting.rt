@@ -1,29 +1,30 @@
 //! The report of a session.
 
-ghost use Rattle.std.specs.Prelude.{◌≡◌, ◌≤◌, ◌∷◌, [], false, flat_map, length, map, slice_index_or};
+ghost use Rattle.std.specs.Prelude.{◌≡◌, ◌≤◌, ◌∷◌, [], All, false, flat_map, length, map, slice_index_or};
 ghost use Rattle.jack_host.specs.Bytes.{Puts};
 ghost use Rattle.jack_host.specs.Causes.{HasCause};
+ghost use Rattle.jack_types.specs.Events.{IsEvent};
 ghost use Rattle.jack_types.specs.declared.commands.Change.{Change as ChangeValue};
+ghost use Rattle.jack_types.specs.declared.events.Logged.{Logged as LoggedValue};
 ghost use Rattle.session_model.specs.Histories.{accepted};
-ghost use Rattle.session_model.specs.Reports.{meter_line, recorder_lines};
+ghost use Rattle.session_model.specs.Reports.{event_line, meter_line, recorder_lines};
 ghost use Rattle.session_model.specs.Samples.{below};
 ghost use Rattle.report_lines.specs.Outputs.{overruns_on, text_of};
 ghost use Rattle.recorder_files.specs.Recorders.{Recording};
-ghost use Rattle.run_laws.specs.Sessions.{IsOne};
-ghost use Rattle.run_laws.specs.Told.{meters_from, text_in};
+ghost use Rattle.driver_laws.specs.Keeping.{AreOfCalls};
+ghost use Rattle.session_works.specs.RunWords.{events_from, IsMet, IsOne, meters_from, text_in};
 ghost use Rattle.session_works.specs.Drivers.{IsServed, driver_of};
 ghost use Rattle.session_works.specs.Insides.{seen};
 ghost use Rattle.session_works.specs.Parts.{session_of};
 ghost use Rattle.session_works.specs.Standings.{HasEnded};
 
 use client_kinds::Guest;
-use control_desk::laws::accepted_of_legal;
 use jack_host::{Failed, Sink, Source, Store, WriteFailed};
-use jack_types::{Command, Entry, Kind, Overrun, Reply};
+use jack_types::{ClientName, Command, Entry, Kind, Logged, Overrun, Reply};
 use recorder_files::Recorder;
-use report_lines::{put_calls, put_cycles, put_end, put_meter, put_recorder, put_title};
+use report_lines::{put_calls, put_cycles, put_end, put_event, put_meter, put_recorder, put_title};
+use session_works::passed::accepted_of_legal;
 use session_works::{Driver, SessionParts, SessionWorks};
-use task_laws::scripts::kinds_are_of_the_script;
 
 /// Puts the line of the meter that a call opened, if it opened one.
 fn put_meter_of<K: Sink, S: Source, W: Store, G: Guest>(
@@ -61,6 +62,56 @@ fn put_meters<K: Sink, S: Source, W: Store, G: Guest>(
     Ok(())
 }
 
+/// Puts a line for each event that a client logged, in the order of logging.
+fn put_log<K: Sink>(out: &mut K, client: &ClientName, log: &[Logged]) -> Result<(), Failed>
+    requires { All (λ (logged : LoggedValue). IsEvent logged.event) log.now }
+    ensures puts { Puts (K.content out.old) (K.content out.new) result (text_of (map event_line (map (λ (logged : LoggedValue). record { client = client.now; logged = logged }) log.now))) }
+    ensures cause { HasCause (K.faults out.old) (K.faults out.new) result }
+{
+    for logged in log {
+        put_event(out, client, logged)?;
+    }
+    Ok(())
+}
+
+/// Puts the lines of the log that a call opened, if it opened one.
+fn put_event_of<K: Sink, S: Source, W: Store, G: Guest>(
+    out: &mut K,
+    entry: &Entry,
+    driver: &Driver<S, W, G>,
+) -> Result<(), Failed>
+    requires { AreOfCalls driver.now.script driver.now.stage.plan.changes }
+    ensures puts { Puts (K.content out.old) (K.content out.new) result (text_of (map event_line (flat_map (λ (change : ChangeValue). events_from (driver_of G.sound driver.now) change.number change.command) (accepted (entry.now ∷ []))))) }
+    ensures cause { HasCause (K.faults out.old) (K.faults out.new) result }
+{
+    let Reply::Accepted(number) = entry.reply else {
+        return Ok(());
+    };
+    match &entry.call.command {
+        Command::Open {
+            client,
+            kind: Kind::Midilog,
+        } => { put_log(out, client, driver.log(number)) }
+        _ => Ok(()),
+    }
+}
+
+/// Puts the lines of all logs that were opened, in the order of opening.
+fn put_events<K: Sink, S: Source, W: Store, G: Guest>(
+    out: &mut K,
+    history: &[Entry],
+    driver: &Driver<S, W, G>,
+) -> Result<(), Failed>
+    requires { AreOfCalls driver.now.script driver.now.stage.plan.changes }
+    ensures puts { Puts (K.content out.old) (K.content out.new) result (text_of (map event_line (flat_map (λ (change : ChangeValue). events_from (driver_of G.sound driver.now) change.number change.command) (accepted history.now)))) }
+    ensures cause { HasCause (K.faults out.old) (K.faults out.new) result }
+{
+    for entry in history {
+        put_event_of(out, entry, driver)?;
+    }
+    Ok(())
+}
+
 /// Puts the lines of all recorders.
 fn put_recorders<K: Sink, W: Store>(
     out: &mut K,
@@ -84,24 +135,25 @@ fn put_report<K: Sink, S: Source, W: Store, G: Guest>(
 ) -> Result<(), Failed>
     requires served { IsServed works.now.driver.script }
     requires one { IsOne (seen G.sound works.now) }
+    requires met { IsMet (seen G.sound works.now) }
     requires sound { works.now.driver.failed ≡ false }
     ensures puts { Puts (K.content out.old) (K.content out.new) result (text_in (seen G.sound works.now)) }
     ensures cause { HasCause (K.faults out.old) (K.faults out.new) result }
 {
     accepted_of_legal();
-    kinds_are_of_the_script();
     let driver = &works.driver;
     let history = works.desk.history();
     put_title(out)?;
     put_calls(out, history)?;
     put_cycles(out, driver.numbers(), driver.moments())?;
     put_meters(out, history, driver)?;
+    put_events(out, history, driver)?;
     put_recorders(out, works.recorders.as_slice(), driver.overruns())?;
     put_end(out)
 }
 
 /// Puts the report: the calls with their replies, the cycles with the number of changes that each used and the transport, the
-/// meters with their peaks, and the recorders with their overruns.
+/// meters with their peaks, the events that were logged, and the recorders with their overruns.
 pub fn report<K: Sink, S: Source, W: Store, G: Guest>(
     out: &mut K,
     parts: &SessionParts<S, W, G>,

@@ -2,7 +2,7 @@
 
 ghost use Rattle.std.specs.Prelude.{◌≡◌, ◌∷◌, [], IfNone, IfSome, None, map};
 ghost use Rattle.recorder_files.specs.Recorders.{Recording};
-ghost use Rattle.run_laws.specs.Told.{text_in};
+ghost use Rattle.session_works.specs.RunWords.{text_in};
 ghost use Rattle.session_works.specs.Parts.{session_of, stores_in};
 ghost use Rattle.session_works.specs.Standings.{HasEnded};
 ghost use Rattle.session_ends.specs.Takings.{stores_of};

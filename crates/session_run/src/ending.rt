@@ -2,9 +2,8 @@
 
 use crate::session::Session;
 use client_kinds::Guest;
-use control_desk::Desk;
 use jack_host::{Sink, Source, Store, WriteFailed};
-use session_ends::{Driver, SessionFault, end, report, take_store};
+use session_ends::{Desk, Driver, SessionFault, end, report, take_store};
 use wave_pcm::Wave;
 
 impl<S: Source, W: Store, G: Guest> Session<S, W, G> {
@@ -14,12 +13,8 @@ impl<S: Source, W: Store, G: Guest> Session<S, W, G> {
     ghost use Rattle.session_model.specs.Explanations.{Given};
     ghost use Rattle.session_model.specs.Scripts.{phases};
     ghost use Rattle.driver_laws.specs.Drivers.{run};
-    ghost use Rattle.run_laws.specs.Runs.{AtPhase};
-    ghost use Rattle.run_laws.specs.SerialRuns.{SerialKept};
-    ghost use Rattle.run_laws.specs.Told.{Ends, StandsSoFar, text_in};
-    ghost use Rattle.serial_laws.specs.Faults.{StandsInSerial};
     ghost use Rattle.session_ends.specs.Endings.{StopsInOrder};
-    ghost use Rattle.session_ends.specs.Seen.{AreLater, HasEnded, HasRun, OneRose, Write, driver_of, session_of, stores_in, told_of};
+    ghost use Rattle.session_ends.specs.Seen.{AreLater, AtPhase, Ends, HasEnded, HasRun, OneRose, SerialKept, StandsInSerial, StandsSoFar, Write, driver_of, session_of, stores_in, text_in, told_of};
 
     /// Empties the rings and finishes the files: the recorders' in order, and then the playback's. Behind a fault, which is
     /// always `Write`, each store has a front of its file, and only `take_store` and `into_capture` may be called.
@@ -58,7 +53,7 @@ impl<S: Source, W: Store, G: Guest> Session<S, W, G> {
     }
 
     /// Puts the report: the calls with their replies, the cycles with the number of changes that each used and the transport,
-    /// the meters with their peaks, and the recorders with their overruns.
+    /// the meters with their peaks, the events that were logged, and the recorders with their overruns.
     pub fn report<K: Sink>(&self, out: &mut K) -> Result<(), WriteFailed>
         requires { HasEnded G.sound self.now }
         ensures puts { Puts (K.content out.old) (K.content out.new) result (text_in (session_of G.sound self.now)) }

@@ -27,10 +27,9 @@ impl<S: Source, W: Store, G: Guest> Session<S, W, G> {
     ghost use Rattle.std.specs.Prelude.{◌≡◌, ◌≤◌, ◌++◌, ◌∷◌, [], Err, IfErr, IfOk, IfSome, OnErr, OnOk, false, is_some, length, map, suc};
     ghost use Rattle.std.specs.Option.{ForSome};
     ghost use Rattle.jack_host.specs.Causes.{Rose};
-    ghost use Rattle.task_laws.specs.Calls.{guests_needed};
     ghost use Rattle.recorder_files.specs.Recorders.{Stored};
     ghost use Rattle.driver_words.specs.Tapes.{IsCut};
-    ghost use Rattle.session_ends.specs.Seen.{IsAttaching, IsServed, driver_of, format_next, stores_in};
+    ghost use Rattle.session_ends.specs.Seen.{IsAttaching, IsServed, driver_of, format_next, guests_needed, stores_in};
 
     /// A session of a script, with these guests, over a capture of the script's channels of which nothing was
     /// read. All memory is taken here; where it lacks, the capture comes back.

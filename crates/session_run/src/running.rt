@@ -14,19 +14,16 @@ impl<S: Source, W: Store + Send, G: Guest + Send> Session<S, W, G> {
     ghost use Rattle.jack_host.specs.Causes.{Rose};
     ghost use Rattle.session_model.specs.Explanations.{Given};
     ghost use Rattle.wave_pcm.specs.Readings.{SameReading};
-    ghost use Rattle.run_laws.specs.Sessions.{IsGiven};
-    ghost use Rattle.run_laws.specs.SerialRuns.{SerialKept};
-    ghost use Rattle.run_laws.specs.Told.{Runs, StandsSoFar};
-    ghost use Rattle.serial_laws.specs.Faults.{StandsInSerial};
-    ghost use Rattle.session_ends.specs.Seen.{AreLater, HasRun, IsReady, OneRose, session_of, stores_in, told_of};
+    ghost use Rattle.session_ends.specs.Seen.{AreLater, HasRun, IsGiven, IsReady, OneRose, Runs, SerialKept, StandsInSerial, StandsSoFar, session_of, stores_in, told_of};
     ghost use Rattle.session_threads.specs.Running.{HasCome};
 
     /// Runs all phases of the script, in order. In serial mode these are the `do` calls of each, and then its cycles with the
     /// calls of the lanes before the first and behind each. In threads mode the lanes make their calls, and the recorders fill
     /// their files, while the cycles run; then it may wait for ever.
     ///
-    /// It takes no memory. A fault is answered only where a count of faults rose: `Read` that of the capture, `Write` that of
-    /// a store. Behind it each store has a front of its file, and only `take_store` and `into_capture` may be called.
+    /// It takes no memory but for a push in `mode steal`. A fault is answered only where a count of faults rose: `Read` that
+    /// of the capture, `Write` that of a store. Behind it each store has a front of its file, and only `take_store` and
+    /// `into_capture` may be called.
     pub fn run<T: Threads + Sync, R: Wait + Sync, K: Gate>(
         self,
         threads: &T,

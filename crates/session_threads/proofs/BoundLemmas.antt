@@ -17,16 +17,15 @@ use Rattle.client_kinds.specs.Scores.{Score}
 use Rattle.driver_words.specs.Rings.{IsPair, Sending}
 use Rattle.wave_pcm.specs.Readings.{SameReading}
 use Rattle.driver_words.specs.Tapes.{Tape}
-use Rattle.control_desk.specs.Desks.{Desk, GoesOn, IsDesk, IsDone}
-use Rattle.control_desk.specs.Laws.{DoneGoesOn}
+use Rattle.session_works.specs.DeskWords.{Desk, DoneGoesOn, GoesOn, IsDesk, IsDone}
 use Rattle.driver_laws.specs.Cycling.{CyclesMany, FailsAtRead}
 use Rattle.driver_laws.specs.Drivers.{Driver, run}
 use Rattle.session_works.specs.Drivers.{Gear, driver_of}
 use Rattle.session_works.specs.Cycles.{BreaksAtWrite, IsGoing, RunsInto, StaysInRun, with_end}
 use Rattle.recorder_files.specs.Recorders.{Recording, held_or, stored_of}
-use Rattle.run_laws.specs.Sessions.{Session}
-use Rattle.run_laws.proofs.PlaceLemmas.{mapped_there, some_at}
-use Rattle.serial_laws.specs.Steps.{IsSound}
+use Rattle.session_works.specs.RunWords.{Session}
+use Rattle.session_works.proofs.PassedLemmas.{mapped_there, some_at}
+use Rattle.session_works.specs.SerialWords.{IsSound}
 use Rattle.thread_laws.specs.Faults.{AtCapture, AtPlayback, Drove, DroveAll, InRun}
 use Rattle.thread_laws.specs.Segments.{RingsEnded, Runs, WentOn}
 use Rattle.turn_word.specs.Turns.{Caller, Handle, IsCaller, Lock}

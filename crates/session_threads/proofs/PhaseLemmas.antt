@@ -16,16 +16,13 @@ use Rattle.session_model.specs.Explanations.{Given}
 use Rattle.session_model.specs.Kinds.{Sound}
 use Rattle.session_model.specs.Scripts.{Phase, Script, phases, turns}
 use Rattle.client_kinds.specs.Scores.{Score}
-use Rattle.control_desk.specs.Desks.{MayBegin, cycles_before}
+use Rattle.session_works.specs.DeskWords.{MayBegin, cycles_before}
 use Rattle.driver_laws.specs.Drivers.{Driver, run, turn_of}
 use Rattle.session_works.specs.Cycles.{AreNext}
-use Rattle.run_laws.specs.Runs.{AtPhase, RanPhases}
-use Rattle.run_laws.specs.Sessions.{Session}
-use Rattle.run_laws.specs.Told.{StandsSoFar}
+use Rattle.session_works.specs.RunWords.{AtPhase, RanPhases, Session, StandsSoFar}
 use Rattle.script_segments.specs.declared.lines.Segment.{Segment}
-use Rattle.serial_laws.specs.Faults.{told}
-use Rattle.serial_laws.specs.Steps.{IsSound}
-use Rattle.serial_laws.proofs.MeetLemmas.{IsSound-met}
+use Rattle.session_works.specs.SerialWords.{IsSound, told}
+use Rattle.session_works.proofs.PassedLemmas.{IsSound-met}
 use Rattle.thread_laws.specs.Coming.{ComeBehindFault, HasCome}
 use Rattle.thread_laws.specs.Faults.{StandsUnfinished, ThreadFault}
 use Rattle.thread_laws.specs.Segments.{Rests, ThreadSegment}

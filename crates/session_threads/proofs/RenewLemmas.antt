@@ -15,8 +15,8 @@ use Rattle.client_kinds.specs.Scores.{Score}
 use Rattle.driver_words.specs.Rings.{Getting, IsPair, Renews, Sending}
 use Rattle.driver_words.specs.Tapes.{Tape}
 use Rattle.recorder_files.specs.Recorders.{Recording}
-use Rattle.run_laws.proofs.PlaceLemmas.{mapped_there, some_at}
-use Rattle.run_laws.specs.Sessions.{Session}
+use Rattle.session_works.proofs.PassedLemmas.{mapped_there, some_at}
+use Rattle.session_works.specs.RunWords.{Session}
 use Rattle.thread_laws.specs.Segments.{Renewed}
 use Rattle.session_works.specs.Drivers.{Gear}
 use Rattle.session_works.specs.Insides.{ArePaired}

@@ -7,10 +7,8 @@ use Rattle.session_model.specs.Kinds.{Sound}
 use Rattle.session_model.specs.Scripts.{Script, phases}
 use Rattle.client_kinds.specs.Scores.{Score}
 use Rattle.recorder_files.specs.Recorders.{Stored}
-use Rattle.run_laws.specs.Runs.{AtPhase, RanPhases}
-use Rattle.run_laws.specs.Sessions.{IsGiven, Session}
-use Rattle.run_laws.specs.Told.{Runs, StandsSoFar}
-use Rattle.serial_laws.specs.Steps.{IsSound}
+use Rattle.session_works.specs.RunWords.{AtPhase, IsGiven, RanPhases, Runs, Session, StandsSoFar}
+use Rattle.session_works.specs.SerialWords.{IsSound}
 use Rattle.session_works.specs.Insides.{Stays, parts_of, seen}
 use Rattle.session_works.specs.Parts.{Parts, session_of, told_of}
 use Rattle.session_works.specs.Standings.{HasRun, IsReady}

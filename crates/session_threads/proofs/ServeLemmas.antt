@@ -14,7 +14,7 @@ use Rattle.driver_words.specs.Rings.{Sending}
 use Rattle.driver_words.specs.Tapes.{Tape}
 use Rattle.disk_recorder.specs.Recordings.{Serves}
 use Rattle.recorder_files.specs.Recorders.{Recording, Reel, Tears}
-use Rattle.serial_laws.specs.Steps.{IsReel}
+use Rattle.session_works.specs.SerialWords.{IsReel}
 use Rattle.thread_laws.specs.Faults.{Got, ReelEnds, ServedSome, Torn}
 use Rattle.thread_laws.specs.Segments.{Served, ServesReel}
 use Rattle.session_works.specs.Giving.{reel_of}

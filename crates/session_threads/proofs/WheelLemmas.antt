@@ -11,8 +11,8 @@ use Rattle.client_kinds.specs.Scores.{Score}
 use Rattle.driver_laws.specs.Drivers.{run, turn_of}
 use Rattle.session_works.specs.Drivers.{Gear, driver_of}
 use Rattle.session_works.specs.Cycles.{AreNext}
-use Rattle.run_laws.specs.Sessions.{Session}
-use Rattle.serial_laws.specs.Steps.{IsSound}
+use Rattle.session_works.specs.RunWords.{Session}
+use Rattle.session_works.specs.SerialWords.{IsSound}
 use Rattle.thread_laws.specs.Faults.{AtDraining as FailsAtDraining, AtEmptying as FailsAtEmptying, AtWheelCapture, AtWheelPlayback, WheelFailed}
 use Rattle.thread_laws.specs.Segments.{WheeledOnce}
 use Rattle.session_works.specs.Turnings.{AtDraining, AtEmptying, AtRead, AtWrite, Fails, Goes}

@@ -2,7 +2,7 @@
 --     IsOfTurn turn caller      it is of this turn
 --     HasKept caller after ran      behind the work it is the same one, and was used only where the work failed
 use Rattle.std.specs.Prelude.{◌≡◌, Option, OnOk, Result}
-use Rattle.control_desk.specs.Desks.{Desk}
+use Rattle.session_works.specs.DeskWords.{Desk}
 use Rattle.turn_word.specs.Turns.{Caller, IsCaller, Lock}
 
 abbrev pub IsOfTurn : Lock → Caller Desk → Type 0

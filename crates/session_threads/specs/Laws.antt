@@ -9,12 +9,8 @@ use Rattle.session_model.specs.Explanations.{Given}
 use Rattle.session_model.specs.Scripts.{Phase, Script, phases}
 use Rattle.script_segments.specs.Segments.{segments}
 use Rattle.driver_laws.specs.Keeping.{HasTape}
-use Rattle.run_laws.specs.Runs.{AtPhase, HasFiles, RanPhases}
-use Rattle.run_laws.specs.Sessions.{IsGiven, Session}
-use Rattle.run_laws.specs.Told.{IsNew, Runs, StandsSoFar}
-use Rattle.serial_laws.specs.Faults.{told}
-use Rattle.serial_laws.specs.Openings.{AreFresh, bare}
-use Rattle.serial_laws.specs.Steps.{IsSound}
+use Rattle.session_works.specs.RunWords.{AtPhase, HasFiles, IsGiven, IsNew, RanPhases, Runs, Session, StandsSoFar}
+use Rattle.session_works.specs.SerialWords.{AreFresh, bare, IsSound, told}
 use Rattle.thread_laws.specs.Faults.{StandsUnfinished, ThreadFault}
 use Rattle.thread_laws.specs.Segments.{ThreadSegment}
 

@@ -5,9 +5,9 @@
 --     HaveMade desk      no lane has a call left
 --     Settles session after, Stops session after      what comes behind the one and behind the other
 use Rattle.std.specs.Prelude.{ℕ, ◌≤◌, Bool}
-use Rattle.control_desk.specs.Desks.{Desk, IsDone}
-use Rattle.run_laws.specs.Sessions.{Session}
-use Rattle.serial_laws.specs.Steps.{Met, Rounded}
+use Rattle.session_works.specs.DeskWords.{Desk, IsDone}
+use Rattle.session_works.specs.RunWords.{Session}
+use Rattle.session_works.specs.SerialWords.{Met, Rounded}
 use Rattle.thread_laws.specs.Segments.{Grouped, Joined, Paced, Renewed, WentOn}
 use Rattle.thread_laws.specs.Faults.{JoinFailed}
 

@@ -4,11 +4,11 @@ use Rattle.std.specs.Prelude.{◌≡◌, ℕ, ◌<◌, IsErrOf, List, OnErr, OnO
 use Rattle.jack_host.specs.Causes.{Rose}
 use Rattle.session_model.specs.Kinds.{Sound}
 use Rattle.client_kinds.specs.Scores.{Score}
-use Rattle.control_desk.specs.Desks.{Desk}
+use Rattle.session_works.specs.DeskWords.{Desk}
 use Rattle.session_works.specs.Drivers.{Gear}
 use Rattle.recorder_files.specs.Recorders.{Recording}
-use Rattle.run_laws.specs.Sessions.{Session}
-use Rattle.serial_laws.specs.Steps.{IsSound}
+use Rattle.session_works.specs.RunWords.{Session}
+use Rattle.session_works.specs.SerialWords.{IsSound}
 use Rattle.thread_laws.specs.Faults.{WheelFailed}
 use Rattle.thread_laws.specs.Segments.{WheeledMany}
 use Rattle.session_works.specs.Insides.{ArePaired, Stays, parts_with, seen_with}

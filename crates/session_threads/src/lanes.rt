@@ -1,13 +1,12 @@
 //! The turn of a session's desk.
 
 ghost use Rattle.std.specs.Prelude.{◌≡◌, All, None, Some, false};
-ghost use Rattle.control_desk.specs.Desks.{Desk as DeskValue, GoesOn, IsDesk};
+ghost use Rattle.session_works.specs.DeskWords.{Desk as DeskValue, GoesOn, IsDesk};
 ghost use Rattle.turn_word.specs.Turns.{AreAll, IsCaller};
 
-use control_desk::Desk;
 use desk_turn::TurnDesk;
 use jack_types::Memory;
-use session_works::kept_by_type;
+use session_works::{Desk, kept_by_type};
 use std::alloc::Global;
 use std::marker::Model;
 use turn_word::{Caller, Pass, Turn};

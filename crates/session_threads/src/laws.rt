@@ -5,8 +5,8 @@ ghost use Rattle.session_works.specs.Laws.{SegmentsOfPhases, SoundAtFirst};
 ghost use Rattle.thread_laws.specs.Coming.{ComeBehindFault};
 
 use script_segments::laws::segments_are_the_phases;
-use serial_laws::openings::a_session_stands_before_its_first_phase;
 use session_works::laws::phases_and_cycles;
+use session_works::passed::a_session_stands_before_its_first_phase;
 use thread_laws::faults::{
     a_phase_that_fails_leaves_fronts, a_session_comes_up_to_its_fault, unfinished_files_have_fronts,
 };

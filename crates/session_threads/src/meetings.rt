@@ -1,11 +1,11 @@
 //! How a phase begins, and how the lanes finish it.
 
 ghost use Rattle.std.specs.Prelude.{◌≡◌, ◌≤◌, suc};
-ghost use Rattle.control_desk.specs.Desks.{IsDone, MayBegin};
-ghost use Rattle.serial_laws.specs.Steps.{Met, Rounded};
+ghost use Rattle.session_works.specs.DeskWords.{IsDone, MayBegin};
+ghost use Rattle.session_works.specs.SerialWords.{Met, Rounded};
 ghost use Rattle.session_works.specs.Insides.{seen};
 ghost use Rattle.session_threads.specs.Phases.{Opens};
-ghost use Rattle.run_laws.specs.Sessions.{Session as SessionValue};
+ghost use Rattle.session_works.specs.RunWords.{Session as SessionValue};
 
 use client_kinds::Guest;
 use jack_host::{Source, Store};

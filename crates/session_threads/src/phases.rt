@@ -4,11 +4,10 @@ ghost use Rattle.std.specs.Prelude.{◌≡◌, ◌≤◌, ℕ, IsErrOf, IsSome, 
 ghost use Rattle.jack_host.specs.Causes.{Rose};
 ghost use Rattle.session_model.specs.Explanations.{Given};
 ghost use Rattle.session_model.specs.Scripts.{phases as the_phases};
-ghost use Rattle.control_desk.specs.Desks.{IsDone};
-ghost use Rattle.run_laws.specs.Runs.{AtPhase, RanPhases};
-ghost use Rattle.run_laws.specs.Told.{StandsSoFar};
+ghost use Rattle.session_works.specs.DeskWords.{IsDone};
+ghost use Rattle.session_works.specs.RunWords.{AtPhase, RanPhases, StandsSoFar};
 ghost use Rattle.script_segments.specs.Segments.{segments as the_segments};
-ghost use Rattle.serial_laws.specs.Steps.{IsSound};
+ghost use Rattle.session_works.specs.SerialWords.{IsSound};
 ghost use Rattle.thread_laws.specs.Coming.{HasCome};
 ghost use Rattle.thread_laws.specs.Faults.{ThreadFault};
 ghost use Rattle.thread_laws.specs.Segments.{ThreadSegment};

@@ -1,7 +1,7 @@
 //! How the ends of the recorders' rings learn how far the other has come.
 
 ghost use Rattle.std.specs.Prelude.{◌≡◌, ◌<◌, length, slice_set};
-ghost use Rattle.control_desk.specs.Desks.{Desk as DeskValue};
+ghost use Rattle.session_works.specs.DeskWords.{Desk as DeskValue};
 ghost use Rattle.driver_words.specs.Rings.{IsPair, Renews};
 ghost use Rattle.recorder_rings.specs.Sending.{ring_at};
 ghost use Rattle.session_works.specs.Insides.{ArePaired, Stays, parts_with, seen_with};

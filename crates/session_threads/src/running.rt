@@ -3,8 +3,7 @@
 ghost use Rattle.std.specs.Prelude.{◌≡◌, ℕ, IsErrOf, IsSome, OnErr, OnOk};
 ghost use Rattle.jack_host.specs.Causes.{Rose};
 ghost use Rattle.session_model.specs.Explanations.{Given};
-ghost use Rattle.run_laws.specs.Sessions.{IsGiven};
-ghost use Rattle.run_laws.specs.Told.{Runs, StandsSoFar};
+ghost use Rattle.session_works.specs.RunWords.{IsGiven, Runs, StandsSoFar};
 ghost use Rattle.script_segments.specs.Segments.{segments as the_segments};
 ghost use Rattle.thread_laws.specs.Coming.{HasCome};
 ghost use Rattle.session_works.specs.Insides.{Stays};
@@ -25,7 +24,7 @@ use std::thread::Threads;
 /// Runs all phases of a session in threads mode: the lanes make their calls beside the cycles, and in a segment that is bound
 /// to the device each recorder's file is filled beside them.
 ///
-/// It may wait for ever. It takes no memory.
+/// It may wait for ever. It takes no memory but for a push in `mode steal`.
 pub fn run_threads<
     S: Source,
     W: Store + Send,

@@ -2,10 +2,10 @@
 
 ghost use Rattle.std.specs.Prelude.{◌≡◌, ◌<◌, ◌≤◌, ◌⊎◌, ℕ, All, IsErrOf, IsOk, OnErr, OnOk, false, true};
 ghost use Rattle.jack_host.specs.Causes.{Rose};
-ghost use Rattle.control_desk.specs.Desks.{IsDone};
+ghost use Rattle.session_works.specs.DeskWords.{IsDone};
 ghost use Rattle.session_works.specs.Cycles.{CycleFault as DriverFault, AreNext};
 ghost use Rattle.session_works.specs.Drivers.{driver_of};
-ghost use Rattle.serial_laws.specs.Steps.{IsSound};
+ghost use Rattle.session_works.specs.SerialWords.{IsSound};
 ghost use Rattle.session_works.specs.Insides.{ArePaired, Stays, held, parts_of, seen};
 ghost use Rattle.session_works.specs.Parts.{HasOpenFiles, OneRose};
 ghost use Rattle.session_threads.specs.Phases.{HaveMade, SegmentFails, Segmented};
@@ -17,12 +17,12 @@ use crate::lanes::Lanes;
 use crate::rig::{Deck, Rig};
 use crate::serving::has_failed;
 use client_kinds::Guest;
-use control_desk::laws::goes_on;
 use desk_turn::calls_made;
 use desk_turn::laws::behind_the_lanes;
 use jack_host::{Gate, Source, Store};
 use recorder_files::Recorder;
 use script_segments::Segment;
+use session_works::passed::goes_on;
 use session_works::{CycleFault, RingLimits, SessionFault, SessionWorks};
 use std::sync::Wait;
 use std::thread::Threads;

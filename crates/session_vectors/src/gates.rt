@@ -20,27 +20,38 @@ pub enum Held {
     Recorder,
     /// Each client, until two of a cycle are about to play.
     Clients,
+    /// The clients at the places 0 and 2, which are of one worker's share where there are two, until both are about to play.
+    Pair,
 }
 
 /// Holds threads at one of its calls until others of its calls came, and tells how often it gave that up.
 #[derive(Drop)]
 pub struct HoldingGate {
     held: Held,
+    turns: u64,
     cycles: AtomicU64,
     calls: AtomicU64,
     blocks: AtomicU64,
     clients: AtomicU64,
+    pair: AtomicU64,
     given_up: AtomicU64,
 }
 
 impl HoldingGate {
     pub fn new(held: Held) -> HoldingGate {
+        HoldingGate::with_turns(held, MOST_TURNS)
+    }
+
+    /// A gate that holds a thread for so many turns at most.
+    pub fn with_turns(held: Held, turns: u64) -> HoldingGate {
         HoldingGate {
             held,
+            turns,
             cycles: AtomicU64::new(0),
             calls: AtomicU64::new(0),
             blocks: AtomicU64::new(0),
             clients: AtomicU64::new(0),
+            pair: AtomicU64::new(0),
             given_up: AtomicU64::new(0),
         }
     }
@@ -52,7 +63,7 @@ impl HoldingGate {
 
     // Holds this thread until a count has come so far.
     fn hold(&self, count: &AtomicU64, least: u64) {
-        for _ in 0..MOST_TURNS {
+        for _ in 0..self.turns {
             if count.load(Ordering::SeqCst) >= least {
                 return;
             }
@@ -85,10 +96,15 @@ impl Gate for HoldingGate {
         self.calls.fetch_add(1, Ordering::SeqCst);
     }
 
-    fn before_client(&self, _worker: u32, _node: u32) {
+    fn before_client(&self, _worker: u32, node: u32) {
         self.clients.fetch_add(1, Ordering::SeqCst);
-        if self.held == Held::Clients {
-            self.hold(&self.clients, 2);
+        match self.held {
+            Held::Clients => self.hold(&self.clients, 2),
+            Held::Pair if node == 0 || node == 2 => {
+                self.pair.fetch_add(1, Ordering::SeqCst);
+                self.hold(&self.pair, 2);
+            }
+            _ => (),
         }
     }
 

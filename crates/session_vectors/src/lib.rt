@@ -24,6 +24,8 @@ mod scores;
 #[cfg(test)]
 mod sharing;
 #[cfg(test)]
+mod stealing;
+#[cfg(test)]
 mod threads;
 #[cfg(test)]
 mod told_cycles;

@@ -10,3 +10,4 @@ pub mod TellLemmas
 pub mod BesideLemmas
 pub mod SegmentLemmas
 pub mod ReadyLemmas
+pub mod PassedLemmas

@@ -9,7 +9,7 @@
 --     keeps-gave, keeps-broken      so it is behind these calls
 --     files-keep, recorders_later, record_files-keep      and then the files, the stores and what came back stay
 --     give-up, break-up      blocks left the rings of a session
-use Rattle.std.proofs.Common.{◌≡◌, ℕ, zero, suc, ◌<◌, ◌≤◌, ◌⊎◌, inl, inr, List, [], ◌∷◌, length, map, get_or, filter_map, slice_get, Option, Some, None, All, Result, Ok, Err, OnOk, OnErr, refl, sym, ◌∙◌, ap, ap₂, subst, arith}
+use Rattle.std.proofs.Common.{◌≡◌, ℕ, zero, suc, ◌<◌, ◌≤◌, ◌⊎◌, inl, inr, List, [], ◌∷◌, length, map, get_or, filter_map, slice_get, Option, Some, None, All, Result, Ok, Err, OnErr, refl, sym, ◌∙◌, ap, ap₂, subst, arith}
 use Rattle.std.specs.List.{cons_option}
 use Rattle.std.proofs.lemmas.Bool.{cases_lt}
 use Rattle.std.proofs.lemmas.List.{length-map}

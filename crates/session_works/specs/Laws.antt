@@ -4,7 +4,7 @@
 --     SegmentsOfPhases      the segments of a script are its phases
 --     CycleThere, CycleIs      the cycles of a phase
 --     SoundAtFirst      a session whose files are begun
-use Rattle.std.specs.Prelude.{◌≡◌, ℕ, ◌+◌, ◌<◌, Bool, true, List, [], length, slice_get, Some}
+use Rattle.std.specs.Prelude.{◌≡◌, ℕ, ◌+◌, ◌<◌, Bool, true, [], length, slice_get, Some}
 use Rattle.session_model.specs.Scripts.{Phase, Script, phases, turns}
 use Rattle.control_desk.specs.Desks.{cycles_before}
 use Rattle.driver_laws.specs.Cycling.{MayCycle}

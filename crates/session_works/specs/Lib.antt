@@ -6,3 +6,6 @@ pub mod Standings
 pub mod Laws
 pub mod Drivers
 pub mod Cycles
+pub mod SerialWords
+pub mod RunWords
+pub mod DeskWords

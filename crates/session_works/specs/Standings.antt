@@ -3,7 +3,7 @@
 --     IsReady sounding parts      all are attached
 --     HasRun sounding parts      it was run, with Ok
 --     HasEnded sounding parts      it was ended, with Ok
-use Rattle.std.specs.Prelude.{◌≡◌, ℕ, suc, ◌<◌, ◌≤◌, false, List, [], length, map, slice_get, slice_index_or, zero, All, Option, None, Some, IsNone}
+use Rattle.std.specs.Prelude.{◌≡◌, ℕ, suc, ◌<◌, ◌≤◌, false, [], length, map, slice_get, slice_index_or, zero, All, Option, None, Some, IsNone}
 use Rattle.jack_types.specs.Recorders.{no_format}
 use Rattle.jack_types.specs.declared.files.Format.{Format}
 use Rattle.session_model.specs.Kinds.{Sound}
@@ -14,7 +14,6 @@ use Rattle.session_works.specs.Drivers.{playback_format, IsServed}
 use Rattle.recorder_files.specs.Recorders.{Recording}
 use Rattle.run_laws.specs.Runs.{RanPhases}
 use Rattle.run_laws.specs.SerialRuns.{SerialBehind}
-use Rattle.run_laws.specs.Sessions.{Session}
 use Rattle.run_laws.specs.Told.{IsNew}
 use Rattle.serial_laws.specs.Openings.{AreFresh, bare}
 use Rattle.serial_laws.specs.Steps.{IsSound}

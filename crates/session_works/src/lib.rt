@@ -9,8 +9,10 @@ pub mod laws;
 mod limits;
 mod meetings;
 mod parts;
+pub mod passed;
 mod works;
 
+pub use control_desk::Desk;
 pub use cycle_driver::{CycleFault, Driver, end_rings, run_cycles};
 pub use cycles::cycle;
 pub use desks::kept_by_type;

@@ -1,11 +1,6 @@
-pub mod SourceLemmas
 pub mod KeepLemmas
-pub mod QuietLemmas
-pub mod PlayLemmas
-pub mod BoundLemmas
 pub mod WholeLemmas
 pub mod GoingLemmas
-pub mod ReadyLemmas
 pub mod OpenLemmas
 pub mod BirthLemmas
 pub mod KnownLemmas

@@ -1,7 +1,5 @@
 pub mod Stages
 pub mod Casts
-pub mod Plays
+pub mod Performances
 pub mod Standing
-pub mod Sources
-pub mod Quiet
 pub mod Known

@@ -1,7 +1,6 @@
 -- What contracts see of a stage.
 --     Staged      what is seen of it
---     bench_of staged n      the bench of a node, without MIDI
---     bench_on plan staged n      the bench of a node of a plan as the definitions see it
+--     bench_of sounding staged n      the bench of a node, without MIDI
 --     IsStaffed staged plan      each client of a plan has its bench, which is set for it
 use Rattle.std.specs.Prelude.{◌≡◌, ℕ, ◌<◌, Bool, List, length, ℤ, Option, map}
 use Rattle.jack_types.specs.declared.moments.Moment.{Moment}
@@ -10,7 +9,7 @@ use Rattle.session_model.specs.Benches.{Bench}
 use Rattle.session_model.specs.Kinds.{Sound}
 use Rattle.client_kinds.specs.Scores.{Score}
 use Rattle.port_registry.specs.Registered.{open_clients}
-use Rattle.cycle_plan.specs.Plans.{Planned, state_of_plan}
+use Rattle.cycle_plan.specs.Plans.{Planned}
 use Rattle.client_benches.specs.Seen.{bench_in}
 use Rattle.client_wiring.specs.Wirings.{Wired}
 use Rattle.bench_rack.specs.Racks.{Racked, bench_at}
@@ -18,7 +17,6 @@ use Rattle.client_tasks.specs.Fillings.{AreJoints}
 use Rattle.client_tasks.specs.Tasks.{AreSet, HasRooms, widths_at}
 use Rattle.client_seats.specs.Owners.{Owned}
 use Rattle.client_seats.specs.Seatings.{HasBench}
-use Rattle.stage_laws.specs.Quiet.{quiet}
 
 -- the benches and who owns them; how many nodes the crew has, and the greatest period; how the clients of the last plan are wired, and at which
 -- places its kept outputs stood in the cycle before; the nodes that played last, and that cycle's period, 0 before the first; whether each of their
@@ -36,10 +34,6 @@ pub record Staged : Type 0 where
 
 abbrev pub bench_of : (sounding : Score → Sound) → Staged → ℕ → Bench
 bench_of sounding staged n = bench_in (map sounding staged.owned.scores) (bench_at staged.racked n).kept
-
--- at the MIDI ports of the node's client no event comes in, and none goes out
-abbrev pub bench_on : (sounding : Score → Sound) → Planned → Staged → ℕ → Bench
-bench_on sounding plan staged n = quiet (state_of_plan plan) (open_clients plan.nodes) plan.links n ((bench_of sounding) staged n)
 
 -- the benches of the plan's nodes are their clients' and set for the cycle that was played, with as many outputs as their clients
 pub record IsStaffed (staged : Staged) (plan : Planned) : Type 0 where

@@ -107,6 +107,7 @@ fn wrong_otherwise(part: Part) -> &'static str {
     match part {
         Part::Call => "no call that the script makes next, or another reply",
         Part::Cycle => "another transport, or a number that can't be",
+        Part::Midi => "an event of other bytes is expected",
         Part::Overrun => "no block can have been lost so",
         Part::Underrun => "no block can have been missed so",
         _ => "another line is expected",
@@ -171,6 +172,8 @@ fn name_of_number(what: What) -> &'static str {
         What::Beat => "the beat",
         What::Tick => "the tick",
         What::Peak => "the peak",
+        What::Cycle => "the cycle",
+        What::Offset => "the offset",
         What::Blocks => "the number of blocks",
         What::Sent => "the number of blocks sent",
         What::Taken => "the number of blocks taken",

@@ -13,17 +13,18 @@ pub const HEADER: [&str; 6] = [
     "mode MODE",
 ];
 
-/// The lines behind those: of the body, and those that a header may have besides.
+/// The lines behind those: of the body, and those that a header may have besides. The eighth is of version 2 on, and the last
+/// three of version 3.
 pub const LINES: [&str; 11] = [
     "do COMMAND",
     "run CYCLES",
     "freewheel CYCLES",
     "lane LANE at CYCLE COMMAND",
-    "period FRAMES",
     "ring PLACES",
     "drain BLOCKS",
-    "fill BLOCKS",
     "recorder CHANNELS BITS",
+    "period FRAMES",
+    "fill BLOCKS",
     "disk CHANNELS",
     "event LIST FRAME HEX",
 ];

@@ -11,6 +11,7 @@ use crate::walking::{Choice, Departure, departure_of};
 use jack_types::{Cause, Many, NameFault, ScriptFault};
 use reason_text::Piece::{Number, Quoted, Shown, Signed, Text};
 use reason_text::Reason;
+use script_words::Lines;
 use std::alloc::{AllocError, Global};
 
 // What stands before a text of another encoding, or of this one by some programs.
@@ -28,6 +29,8 @@ struct Faulty<'a> {
     number: u32,
     // How many lines that say something stand before it.
     place: usize,
+    // The script's version, or 3 where none is said.
+    version: u64,
     is_marked: bool,
 }
 
@@ -46,6 +49,7 @@ pub fn of_script(
         line: line_at(text, fault.line),
         number: fault.line,
         place: said_before(text, fault.line),
+        version: version_of(text),
         is_marked: is_marked(text),
     };
     let before = if fault.line > 0 { "{0}:{1}: " } else { "{0}: " };
@@ -61,6 +65,15 @@ pub fn of_script(
     }
     reason.end_line()?;
     Ok(reason)
+}
+
+fn version_of(text: &[u8]) -> u64 {
+    let Some(line) = Lines::of(readable(text)).take() else {
+        return 3;
+    };
+    let mut words = line.words;
+    words.skip();
+    words.any_number().unwrap_or(3)
 }
 
 fn is_marked(text: &[u8]) -> bool {
@@ -134,15 +147,31 @@ fn say_names(reason: &mut Reason, forms: &[&str]) -> Result<(), AllocError> {
     reason.say(" is expected")
 }
 
+// Those of the forms that are of a version.
+fn of_version(
+    choice: Choice,
+    forms: &'static [&'static str],
+    version: u64,
+) -> &'static [&'static str] {
+    match (choice, version) {
+        (Choice::Line, 1) => &LINES[..7],
+        (Choice::Line, 2) => &LINES[..8],
+        (Choice::Kind, 1 | 2) => &KINDS[..9],
+        (Choice::Mode, 1 | 2) => &MODES[..2],
+        _ => forms,
+    }
+}
+
 // A word is none of those that may stand there.
 fn say_unknown(alloc: Global, reason: &mut Reason, faulty: &Faulty<'_>) -> Result<(), AllocError> {
     let Departure::Unknown(choice, word, known) = departure_of(faulty.line, faulty.place) else {
         return say_elsewhere(reason, faulty);
     };
     fill(reason, unknown(choice), &[Quoted(word)])?;
-    match nearest(alloc, word, known)? {
+    let forms = of_version(choice, known, faulty.version);
+    match nearest(alloc, word, forms)? {
         Some(name) => fill(reason, "; is {0} meant?", &[Quoted(name)]),
-        None => say_names(reason, known),
+        None => say_names(reason, forms),
     }
 }
 
@@ -151,14 +180,14 @@ fn say_elsewhere(reason: &mut Reason, faulty: &Faulty<'_>) -> Result<(), AllocEr
     let name = word_at(faulty.line, 0);
     let (sentence, word) = if faulty.place < HEADER.len() {
         new_mode(word_at(faulty.line, 1))
-    } else if is_optional(name) {
-        (
-            "{0} is a line of the header, and not in this place or version",
-            name,
-        )
     } else if name == b"period".as_slice() {
         (
             "\"period\" stands in the body from version 2 on, without disks",
+            name,
+        )
+    } else if is_optional(name) {
+        (
+            "{0} is a line of the header, and not in this place or version",
             name,
         )
     } else {
@@ -168,7 +197,7 @@ fn say_elsewhere(reason: &mut Reason, faulty: &Faulty<'_>) -> Result<(), AllocEr
 }
 
 fn is_optional(name: &[u8]) -> bool {
-    for form in &LINES[5..] {
+    for form in &LINES[4..] {
         if name_of(form) == name {
             return true;
         }
@@ -259,7 +288,7 @@ fn wrong_name(faulty: &Faulty<'_>, fault: NameFault) -> &'static str {
 fn wrong_choice(faulty: &Faulty<'_>, given: u64) -> &'static str {
     let name = word_at(faulty.line, 0);
     if name == b"jackd".as_slice() && given == 3 {
-        "version {0} is not played yet; 1 and 2 are"
+        "disk files are not played yet"
     } else if name == b"jackd".as_slice() {
         "version {0} is none; 1, 2 and 3 are"
     } else if name == b"period".as_slice() {

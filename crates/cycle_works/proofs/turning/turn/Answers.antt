@@ -1,14 +1,20 @@
-use Rattle.std.proofs.Common.{◌≡◌, ◌+◌, List, length, All, drop, refl, ◌∙◌, ap, subst, arith}
+use Rattle.std.proofs.Common.{◌≡◌, ◌+◌, List, length, All, drop, refl, sym, ◌∙◌, ap, subst, arith}
 use Rattle.jack_types.specs.declared.ports.Client.{Client}
 use Rattle.session_model.specs.Transport.{next_row, slow_numbers, timeout_of}
 use Rattle.port_registry.specs.Registered.{open_clients}
-use Rattle.cycle_plan.specs.Plans.{state_of_plan}
-use Rattle.graph_word.specs.Publications.{Reading}
+use Rattle.cycle_plan.specs.Plans.{Planned, state_of_plan}
+use Rattle.graph_word.specs.Publications.{IsFront, Reading}
+use Rattle.session_model.specs.Scripts.{Script}
+use Rattle.disk_feeds.specs.Cycling.{GetsAll}
+use Rattle.driver_words.specs.Feeding.{Fed}
+use Rattle.driver_laws.specs.Keeping.{AreOfCalls}
+use Rattle.midi_stage.specs.Standing.{device_of}
 use Rattle.transport.specs.Standings.{HasTarget}
 use Rattle.cycle_laws.specs.Gears.{StandsOn}
 use Rattle.cycle_blocks.specs.Blocks.{Sends}
 use Rattle.cycle_works.specs.Insides.{gear_of}
-use Rattle.cycle_works.proofs.ResultLemmas.{any-err, last-row}
+use Rattle.cycle_laws.proofs.FrontLemmas.{front-front}
+use Rattle.cycle_works.proofs.ResultLemmas.{any-err, either, last-row}
 use Rattle.cycle_works.proofs.turning.turn.Goals as goal
 
 pub begin-last-requires-clause-later : goal.begin-last-requires-clause-later
@@ -49,6 +55,23 @@ returns-in_err-capture_period-clause-failed g c script playback failed = any-err
   same = refl;
 }
 
+pub get_blocks-requires : goal.get_blocks-requires
+get_blocks-requires g c = c.a_cycle_may_be_played.ensures.disks g.G.Guest.sound (gear_of {S = g.row.S.Denot} {G = g.row.G.Denot} c.requires.may.0 c.requires.may.1 c.requires.may.2 c.args.parts.now) c.args.freewheel c.requires.may.3 c.requires.may.4
+
+pub play-requires-clause-periods : goal.play-requires-clause-periods
+play-requires-clause-periods g c κs within some = ap (λ (disks : Fed). disks.period) c.get_blocks.ensures.same ∙ c.requires.may.3.disks.period ∙ sym c.requires.may.3.room
+
+pub play-requires-2-clause-base : goal.play-requires-2-clause-base
+play-requires-2-clause-base g c =
+    c.place-plan.ensures.base ∙ ap (λ (r : Reading). r.base) c.begin-last.ensures.begun.3.after_is ∙ ap (λ (r : Reading). r.base) c.begin-last.ensures.begun.2.same
+    ∙ c.requires.may.4.rows.base ∙ ap device_of (sym c.requires.may.7)
+
+pub play-requires-2-clause-front : goal.play-requires-2-clause-front
+play-requires-2-clause-front g c =
+    subst (λ changes. IsFront changes c.place-plan.result.now.changes) (sym c.requires.midi)
+    (subst (IsFront c.args.parts.now.stage.plan.changes) (sym (c.place-plan.ensures.content ∙ ap (λ (r : Reading). r.held) c.begin-last.ensures.begun.3.after_is))
+    (front-front c.args.parts.now.stage.plan.changes c.args.parts.now.reader.0.held c.begin-last.ensures.begun.1.held c.requires.may.4.rows.place c.begin-last.ensures.begun.2.front))
+
 pub play-requires-clause-period : goal.play-requires-clause-period
 play-requires-clause-period g c =
     let within = (c.a_cycle_may_be_played.ensures.sends g.G.Guest.sound (gear_of {S = g.row.S.Denot} {G = g.row.G.Denot} c.requires.may.0 c.requires.may.1 c.requires.may.2 c.args.parts.now) c.args.freewheel c.requires.may.3 c.requires.may.4).period in
@@ -58,7 +81,7 @@ pub send_blocks-requires : goal.send_blocks-requires
 send_blocks-requires g c = c.a_cycle_may_be_played.ensures.sends g.G.Guest.sound (gear_of {S = g.row.S.Denot} {G = g.row.G.Denot} c.requires.may.0 c.requires.may.1 c.requires.may.2 c.args.parts.now) c.args.freewheel c.requires.may.3 c.requires.may.4
 
 pub returns-clause-turned : goal.returns-clause-turned
-returns-clause-turned g c script playback later failed stops = (
+returns-clause-turned g c script playback later failed stops of_script = (
   c.place-plan.result.now,
   c.step_by_plan-moment.result,
   record {
@@ -68,7 +91,7 @@ returns-clause-turned g c script playback later failed stops = (
     begins = c.begin-last.ensures.begun.3;
     content = c.place-plan.ensures.content ∙ ap (λ (r : Reading). r.held) c.begin-last.ensures.begun.3.after_is;
     base = c.place-plan.ensures.base ∙ ap (λ (r : Reading). r.base) c.begin-last.ensures.begun.3.after_is;
-    planned = c.nodes.ensures.planned;
+    planned = c.nodes-nodes.ensures.planned;
     numbers = c.begin-last.ensures.begun.4;
     moments = c.push_reserved.ensures.items;
     standing =
@@ -87,17 +110,25 @@ returns-clause-turned g c script playback later failed stops = (
     plan_is = c.play.ensures.plan;
     period = c.play.ensures.period;
     stands = subst (StandsOn c.play.new.self.staged) c.play.ensures.plan c.play.ensures.stands;
-    plays = λ course at was now. c.play.ensures.plays course at was (c.play.ensures.answer ∙ now);
+    performs = λ was now. c.play.ensures.performs was (c.play.ensures.answer ∙ now);
+    hears = λ of. c.play-2.ensures.hears (c.play-2.ensures.all (subst (λ (s : Script). AreOfCalls s c.place-plan.result.now.changes) (sym of_script) of));
+    carried = either c.play-2.result (λ all. (c.play-2.ensures.hears all).carried) (λ none. c.what_is_carried.ensures.nobody c.args.parts.now.midi.heard c.play-2.new.self.heard c.place-plan.result.now c.args.parts.now.set (c.play-2.ensures.nobody none));
+    lists = either c.play-2.result (λ all. (c.play-2.ensures.hears all).lists) (λ none. (c.play-2.ensures.nobody none).lists);
+    heard_period = either c.play-2.result (λ all. (c.play-2.ensures.hears all).period_is) (λ none. (c.play-2.ensures.nobody none).period_is);
+    gets =
+        subst (λ (nodes : List Client). GetsAll (open_clients nodes) (length c.args.parts.now.numbers.items + 1) c.args.parts.now.disks c.get_blocks.new.self) c.nodes-nodes.ensures.value
+        (subst (λ cycle. GetsAll (open_clients c.nodes-nodes.result.now) cycle c.args.parts.now.disks c.get_blocks.new.self) c.begin-last.ensures.cycle c.get_blocks.ensures);
     kinds = c.play.ensures.kinds;
     scores = c.play.ensures.scores;
     room = c.play.ensures.room;
     sends =
         subst (λ rack. Sends rack (open_clients c.place-plan.result.now.nodes) (length c.args.parts.now.numbers.items + 1) c.args.parts.now.set c.args.parts.now.rings c.send_blocks.new.rings) c.rack.ensures
-        (subst (λ (nodes : List Client). Sends c.rack.result.now (open_clients nodes) (length c.args.parts.now.numbers.items + 1) c.args.parts.now.set c.args.parts.now.rings c.send_blocks.new.rings) c.nodes.ensures.value
-        (subst (λ cycle. Sends c.rack.result.now (open_clients c.nodes.result.now) cycle c.args.parts.now.set c.args.parts.now.rings c.send_blocks.new.rings) c.begin-last.ensures.cycle c.send_blocks.ensures));
+        (subst (λ (nodes : List Client). Sends c.rack.result.now (open_clients nodes) (length c.args.parts.now.numbers.items + 1) c.args.parts.now.set c.args.parts.now.rings c.send_blocks.new.rings) c.nodes-nodes.ensures.value
+        (subst (λ cycle. Sends c.rack.result.now (open_clients c.nodes-nodes.result.now) cycle c.args.parts.now.set c.args.parts.now.rings c.send_blocks.new.rings) c.begin-last.ensures.cycle c.send_blocks.ensures));
     script = refl;
     set = refl;
-    events = refl;
-    disks = refl;
   },
 )
+
+pub returns-clause-midi_changes : goal.returns-clause-midi_changes
+returns-clause-midi_changes g c = c.play-2.ensures.changes ∙ ap (λ (plan : Planned). plan.changes) (sym c.play.ensures.plan)

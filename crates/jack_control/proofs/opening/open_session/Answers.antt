@@ -29,6 +29,6 @@ returns-in-Ok-clause-opened g c =
       no_stores = c.in-Ok.ensures.new.2;
       recorders = c.in-Ok.ensures.recorders ∙ c.in_ok-script.ensures.fits.1;
       given = session-told g.G.Guest.sound (g.H.Host.files c.args.host.now) (map g.G.Guest.sound (map g.G.Guest.score c.args.guests.items)) c.args.names.now c.in_ok-script.field-0.script c.in_ok-script.field-0.capture.left c.in-Ok.session
-          (record { lawful = c.in_ok-script.ensures.played.0; version = c.in_ok-script.ensures.played.1 }) c.in-Ok.ensures.script c.in-Ok.ensures.scores
+          (record { lawful = c.in_ok-script.ensures.played.0; no_disks = c.in_ok-script.ensures.played.1 }) c.in-Ok.ensures.script c.in-Ok.ensures.scores
           (ap (λ (reading : Reading). reading.left) c.in-Ok.ensures.capture) (c.in_ok-script.ensures.opened (map g.G.Guest.sound (map g.G.Guest.score c.args.guests.items)) many);
     }

@@ -1,6 +1,6 @@
 use Rattle.std.proofs.Common.{◌≤◌}
 use Rattle.session_model.specs.Explanations.{Given}
-use Rattle.run_laws.specs.SerialRuns.{SerialKept}
+use Rattle.session_works.specs.RunWords.{SerialKept}
 use Rattle.session_works.specs.Insides.{Stays, parts_of, seen}
 use Rattle.serial_run.proofs.PhaseLemmas.{InPhase}
 use Rattle.serial_run.proofs.phases.run_phase.Given as goal

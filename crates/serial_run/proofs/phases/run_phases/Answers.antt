@@ -1,7 +1,5 @@
-use Rattle.std.proofs.Common.{◌≡◌, ◌+◌, suc, false, Err, sym, ◌∙◌, ap, subst, arith}
-use Rattle.control_desk.specs.Desks.{cycles_before}
-use Rattle.session_model.specs.Scripts.{Script}
-use Rattle.run_laws.specs.SerialRuns.{SerialBehind}
+use Rattle.std.proofs.Common.{◌≡◌, ◌+◌, suc, false, Err, ◌∙◌, ap, subst, arith}
+use Rattle.session_works.specs.RunWords.{SerialBehind}
 use Rattle.session_works.proofs.SegmentLemmas.{place_fits, segment_there}
 use Rattle.session_works.proofs.StayLemmas.{stays-trans}
 use Rattle.session_works.proofs.StoreLemmas.{rose-behind}

@@ -1,7 +1,7 @@
-use Rattle.std.proofs.Common.{◌≡◌, ◌≤◌}
+use Rattle.std.proofs.Common.{◌≤◌}
 use Rattle.session_model.specs.Explanations.{Given}
-use Rattle.run_laws.specs.SerialRuns.{SerialBehind, SerialKept}
-use Rattle.serial_laws.specs.Steps.{IsSound}
+use Rattle.session_works.specs.RunWords.{SerialBehind, SerialKept}
+use Rattle.session_works.specs.SerialWords.{IsSound}
 use Rattle.session_works.specs.Insides.{Stays, parts_of, seen}
 use Rattle.serial_run.proofs.phases.run_phases.Given as goal
 

@@ -3,7 +3,7 @@ use Rattle.std.specs.Option.{option_map}
 use Rattle.jack_host.specs.Causes.{Rose}
 use Rattle.session_works.specs.Drivers.{Gear}
 use Rattle.recorder_files.specs.Recorders.{Stored}
-use Rattle.serial_laws.specs.Endings.{EndsAll, IsBroken, IsFinished}
+use Rattle.session_works.specs.SerialWords.{EndsAll, IsBroken, IsFinished}
 use Rattle.session_ends.specs.Closings.{CloseFails, ClosesAll}
 use Rattle.session_works.specs.Insides.{parts_of}
 use Rattle.session_works.specs.Parts.{Parts, session_of, told_of}

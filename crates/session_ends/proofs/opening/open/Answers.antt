@@ -1,7 +1,7 @@
 use Rattle.std.proofs.Common.{◌≡◌, [], map, None, refl, sym, subst}
 use Rattle.graph_word.specs.Publications.{IsOpening as IsPublication, Reading}
 use Rattle.session_model.specs.Scripts.{Script}
-use Rattle.control_desk.specs.Desks.{base_of}
+use Rattle.session_works.specs.DeskWords.{base_of}
 use Rattle.session_works.specs.Drivers.{Gear}
 use Rattle.session_works.specs.Parts.{stores_in}
 use Rattle.session_works.specs.Standings.{IsAttaching}

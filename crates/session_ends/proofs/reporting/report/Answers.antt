@@ -1,6 +1,6 @@
 use Rattle.std.proofs.Common.{ℕ, ◌≤◌, length, subst, take}
 use Rattle.jack_host.specs.Bytes.{Gains}
-use Rattle.run_laws.specs.Told.{text_in}
+use Rattle.session_works.specs.RunWords.{text_in}
 use Rattle.session_works.specs.Parts.{Parts, session_of}
 use Rattle.session_ends.proofs.reporting.report.Goals as goal
 

@@ -1,5 +1,5 @@
 use Rattle.std.proofs.Common.{List, sym, ◌∙◌, subst, take_at}
-use Rattle.control_desk.specs.Desks.{Desk}
+use Rattle.session_works.specs.DeskWords.{Desk}
 use Rattle.turn_word.specs.Turns.{Handle}
 use Rattle.desk_turn.specs.Lanes.{HaveRun}
 use Rattle.session_threads.proofs.joins.wait_alone.Goals as goal

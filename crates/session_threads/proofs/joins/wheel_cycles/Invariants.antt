@@ -1,8 +1,8 @@
 use Rattle.std.proofs.Common.{◌≡◌, ◌+◌, ◌≤◌}
-use Rattle.control_desk.specs.Desks.{Desk}
+use Rattle.session_works.specs.DeskWords.{Desk}
 use Rattle.session_works.specs.Drivers.{driver_of}
 use Rattle.driver_laws.specs.Drivers.{run}
-use Rattle.serial_laws.specs.Steps.{IsSound}
+use Rattle.session_works.specs.SerialWords.{IsSound}
 use Rattle.thread_laws.specs.Segments.{WheeledMany}
 use Rattle.session_works.specs.Insides.{ArePaired, Stays, parts_with, seen_with}
 use Rattle.session_threads.proofs.joins.wheel_cycles.Given as goal

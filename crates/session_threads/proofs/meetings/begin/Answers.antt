@@ -1,5 +1,5 @@
 use Rattle.std.proofs.Common.{ap}
-use Rattle.control_desk.specs.Desks.{Desk}
+use Rattle.session_works.specs.DeskWords.{Desk}
 use Rattle.session_works.specs.Drivers.{Gear}
 use Rattle.session_works.specs.Insides.{seen, seen_with}
 use Rattle.session_threads.proofs.meetings.begin.Goals as goal

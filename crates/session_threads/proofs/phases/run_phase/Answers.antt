@@ -1,5 +1,5 @@
 use Rattle.std.proofs.Common.{◌≡◌, refl, sym, ◌∙◌, ap, subst, arith, vec_items}
-use Rattle.control_desk.specs.Desks.{cycles_before}
+use Rattle.session_works.specs.DeskWords.{cycles_before}
 use Rattle.driver_laws.specs.Drivers.{run}
 use Rattle.session_works.specs.Drivers.{Gear, driver_of}
 use Rattle.session_works.specs.Insides.{seen}

@@ -1,7 +1,7 @@
 use Rattle.std.proofs.Common.{◌≡◌, ◌+◌, false, IsSome, get_or, length, refl, sym, ◌∙◌, ap, subst, arith}
 use Rattle.session_model.specs.Scripts.{Script, phases}
-use Rattle.control_desk.specs.Desks.{cycles_before}
-use Rattle.run_laws.specs.Runs.{AtPhase, RanPhases}
+use Rattle.session_works.specs.DeskWords.{cycles_before}
+use Rattle.session_works.specs.RunWords.{AtPhase, RanPhases}
 use Rattle.thread_laws.specs.Coming.{HasCome}
 use Rattle.session_works.specs.Insides.{held, parts_of, seen}
 use Rattle.session_threads.proofs.PhaseLemmas.{come-failed, ran-at, ran-on, stands-failed}

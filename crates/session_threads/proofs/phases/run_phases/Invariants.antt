@@ -1,7 +1,7 @@
 use Rattle.std.proofs.Common.{◌≡◌, ◌≤◌, length}
 use Rattle.session_model.specs.Explanations.{Given}
-use Rattle.run_laws.specs.Runs.{AtPhase, RanPhases}
-use Rattle.serial_laws.specs.Steps.{IsSound}
+use Rattle.session_works.specs.RunWords.{AtPhase, RanPhases}
+use Rattle.session_works.specs.SerialWords.{IsSound}
 use Rattle.session_works.specs.Insides.{Stays, parts_of, seen}
 use Rattle.session_threads.proofs.phases.run_phases.Given as goal
 

@@ -2,7 +2,7 @@ use Rattle.std.proofs.Common.{All, List, arith, ◌≡◌, ℕ, false, OnErr, On
 use Rattle.std.proofs.lemmas.Option.{slice_get-get_or}
 use Rattle.std.proofs.lemmas.Result.{on_ok_weaker}
 use Rattle.jack_host.specs.Causes.{Rose}
-use Rattle.control_desk.specs.Desks.{Desk, GoesOn}
+use Rattle.session_works.specs.DeskWords.{Desk, GoesOn}
 use Rattle.session_works.specs.Drivers.{Gear}
 use Rattle.recorder_files.specs.Recorders.{Recording}
 use Rattle.turn_word.specs.Turns.{Handle, pass_of}

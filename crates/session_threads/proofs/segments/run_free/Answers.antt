@@ -1,6 +1,6 @@
 use Rattle.std.proofs.Common.{arith, ◌≡◌, Some, get_or, refl, sym, ◌∙◌, subst}
 use Rattle.std.proofs.lemmas.Option.{slice_get-get_or}
-use Rattle.control_desk.specs.Desks.{Desk}
+use Rattle.session_works.specs.DeskWords.{Desk}
 use Rattle.turn_word.specs.Turns.{Handle, pass_of}
 use Rattle.desk_turn.specs.Lanes.{IsOpen}
 use Rattle.thread_laws.specs.Faults.{InWheel}

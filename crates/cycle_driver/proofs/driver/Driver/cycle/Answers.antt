@@ -3,6 +3,7 @@ use Rattle.std.specs.Prelude.{IfSome}
 use Rattle.jack_host.specs.Causes.{Rose}
 use Rattle.jack_types.specs.declared.moments.Moment.{Moment}
 use Rattle.session_model.specs.Courses.{Course}
+use Rattle.session_model.specs.Grammar.{IsScript}
 use Rattle.session_model.specs.Samples.{width}
 use Rattle.session_model.specs.Scripts.{Script}
 use Rattle.cycle_plan.specs.Plans.{Planned}
@@ -11,7 +12,7 @@ use Rattle.driver_laws.specs.Cycling.{CyclesOnce, FailsAtRead, FailsAtWrite, May
 use Rattle.driver_laws.specs.Drivers.{frames_run, greatest_period}
 use Rattle.driver_laws.specs.Keeping.{Fits, HasTape, Keeps}
 use Rattle.driver_laws.specs.Playing.{PlaysOwn, played_now}
-use Rattle.cycle_works.specs.Gears.{FailsToRead, Gear, IsGear, IsServed, Turns, driver_of, mixed, with_playback}
+use Rattle.cycle_works.specs.Gears.{FailsToRead, Gear, IsGear, Turns, driver_of, mixed, with_playback}
 use Rattle.cycle_works.proofs.CycleLemmas.{frames-is, later}
 use Rattle.cycle_works.proofs.FailedLemmas.{failed-at-read}
 use Rattle.cycle_works.proofs.PlaybackLemmas.{IsGear-playback, Turns-playback, mixed-turned}
@@ -25,7 +26,7 @@ use Rattle.cycle_driver.proofs.driver.Driver.cycle.Goals as goal
 
 pub invariant_of-self : goal.invariant_of-self
 invariant_of-self g c = record {
-  served = subst (λ (gear : Gear). IsServed gear.script) (sym fails.same) c.self.invariant.served;
+  lawful = subst (λ (gear : Gear). IsScript gear.script) (sym fails.same) c.self.invariant.lawful;
   channels = c.self.invariant.channels ∙ ap (λ (gear : Gear). gear.script.header.playback) (sym fails.same);
   room = c.self.invariant.room ∙ ap (λ (gear : Gear). greatest_period gear.script) (sym fails.same);
   format = c.self.invariant.format ∙ ap (λ (gear : Gear). playback_format gear.script) (sym fails.same);
@@ -47,7 +48,7 @@ returns-then-is_err-clause-read_cause g c is_read = subst (λ (gear : Gear). Ros
 
 pub invariant_of-self-then-freewheel : goal.invariant_of-self-then-freewheel
 invariant_of-self-then-freewheel g c = record {
-  served = subst IsServed (sym turned.2.script) c.self.invariant.served;
+  lawful = subst IsScript (sym turned.2.script) c.self.invariant.lawful;
   channels = c.self.invariant.channels ∙ ap (λ (s : Script). s.header.playback) (sym turned.2.script);
   room = c.self.invariant.room ∙ ap greatest_period (sym turned.2.script);
   format = c.self.invariant.format ∙ ap playback_format (sym turned.2.script);
@@ -114,7 +115,7 @@ pub play_back-requires-clause-room : goal.play_back-requires-clause-room
 play_back-requires-clause-room g c =
     subst (λ set. c.in-Some.file.written + set * c.self.inside.mix.channels * width c.in-Some.file.format.bits ≤ 4294967000) (sym turned.2.set)
     (subst (λ channels. c.in-Some.file.written + c.self.inside.works.set * channels * width c.in-Some.file.format.bits ≤ 4294967000) (sym c.self.invariant.channels)
-    (file-fits g.G.Guest.sound (with_playback c.self.inside.works c.self.inside.playback) c.args.freewheel may c.in-Some.file own (wide-of c.self.inside.works.script.header.bits is.served.lawful.header.bits) (c.samples_are_few.ensures.playback (later g.G.Guest.sound (with_playback c.self.inside.works c.self.inside.playback)) is.served.lawful)))
+    (file-fits g.G.Guest.sound (with_playback c.self.inside.works c.self.inside.playback) c.args.freewheel may c.in-Some.file own (wide-of c.self.inside.works.script.header.bits is.lawful.header.bits) (c.samples_are_few.ensures.playback (later g.G.Guest.sound (with_playback c.self.inside.works c.self.inside.playback)) is.lawful)))
   where
     may : MayCycle (driver_of g.G.Guest.sound (with_playback c.self.inside.works c.self.inside.playback)) c.args.freewheel
     may = subst (λ gear. MayCycle (driver_of g.G.Guest.sound gear) c.args.freewheel) (sym c.self.view_is) c.requires
@@ -133,7 +134,7 @@ play_back-requires-clause-room g c =
 
 pub invariant_of-self-then-is_err-2 : goal.invariant_of-self-then-is_err-2
 invariant_of-self-then-is_err-2 g c = record {
-  served = subst (λ (gear : Gear). IsServed gear.script) (sym c.fail.ensures) (subst IsServed (sym turned.2.script) c.self.invariant.served);
+  lawful = subst (λ (gear : Gear). IsScript gear.script) (sym c.fail.ensures) (subst IsScript (sym turned.2.script) c.self.invariant.lawful);
   channels = c.play_back.ensures.room.0 ∙ c.self.invariant.channels ∙ ap (λ (s : Script). s.header.playback) (sym turned.2.script) ∙ ap (λ (gear : Gear). gear.script.header.playback) (sym c.fail.ensures);
   room = c.play_back.ensures.room.1 ∙ c.self.invariant.room ∙ ap greatest_period (sym turned.2.script) ∙ ap (λ (gear : Gear). greatest_period gear.script) (sym c.fail.ensures);
   format = c.self.invariant.format ∙ ap playback_format (sym turned.2.script) ∙ ap (λ (gear : Gear). playback_format gear.script) (sym c.fail.ensures);
@@ -195,7 +196,7 @@ returns-then-is_err-2-clause-write_cause g c is_write = (
 
 pub invariant_of-self-else-is_err-2 : goal.invariant_of-self-else-is_err-2
 invariant_of-self-else-is_err-2 g c = record {
-  served = subst IsServed (sym turned.2.script) c.self.invariant.served;
+  lawful = subst IsScript (sym turned.2.script) c.self.invariant.lawful;
   channels = c.play_back.ensures.room.0 ∙ c.self.invariant.channels ∙ ap (λ (s : Script). s.header.playback) (sym turned.2.script);
   room = c.play_back.ensures.room.1 ∙ c.self.invariant.room ∙ ap greatest_period (sym turned.2.script);
   format = c.self.invariant.format ∙ ap playback_format (sym turned.2.script);

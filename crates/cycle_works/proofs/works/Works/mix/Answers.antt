@@ -1,9 +1,8 @@
-use Rattle.std.proofs.Common.{◌≡◌, ◌≤◌, List, map, sym, ◌∙◌, ap, subst}
+use Rattle.std.proofs.Common.{List, map, ◌∙◌, ap}
 use Rattle.session_model.specs.Samples.{below, interleaved}
 use Rattle.client_wiring.specs.declared.joints.Heard.{Heard}
 use Rattle.bench_rack.specs.Racks.{Racked}
 use Rattle.playback_mix.specs.Mixes.{channel_mix}
-use Rattle.cycle_laws.specs.Gears.{Gear}
 use Rattle.cycle_works.specs.Gears.{mixed}
 use Rattle.cycle_works.proofs.works.Works.mix.Goals as goal
 

@@ -4,7 +4,7 @@ use Rattle.std.proofs.lemmas.List.{length-map}
 use Rattle.driver_laws.specs.Openings.{IsNew}
 use Rattle.task_laws.specs.Calls.{guests_needed}
 use Rattle.cycle_laws.specs.Gears.{Gear, driver_of}
-use Rattle.cycle_works.proofs.OpeningLemmas.{made-own, made-rings, made-scores}
+use Rattle.cycle_works.proofs.OpeningLemmas.{made-disks, made-own, made-rings, made-scores}
 use Rattle.cycle_works.proofs.works.Works.new.Goals as goal
 
 pub over-requires-clause-made : goal.over-requires-clause-made
@@ -21,3 +21,6 @@ returns-in-Ok-clause-new g c =
 
 pub returns-in-Ok-clause-rings : goal.returns-in-Ok-clause-rings
 returns-in-Ok-clause-rings g c = made-rings c.args.script.now (map g.G.Guest.score c.args.guests.items) c.in-Ok.made c.in-Ok.ensures c.over.result c.over.ensures.rings
+
+pub returns-in-Ok-clause-disks : goal.returns-in-Ok-clause-disks
+returns-in-Ok-clause-disks g c = made-disks c.args.script.now (map g.G.Guest.score c.args.guests.items) c.in-Ok.made c.in-Ok.ensures c.over.result c.over.ensures.disks

@@ -6,7 +6,7 @@ use Rattle.session_model.specs.Scripts.{Script, turns}
 use Rattle.cycle_plan.specs.Plans.{Planned}
 use Rattle.driver_words.specs.Tapes.{Tape}
 use Rattle.driver_laws.specs.Cycling.{MayCycle}
-use Rattle.cycle_laws.specs.Gears.{Gear, IsGear, driver_of}
+use Rattle.cycle_laws.specs.Gears.{IsGear, driver_of}
 use Rattle.cycle_laws.specs.Turnings.{Turns}
 use Rattle.cycle_works.specs.Gears.{FailsToRead, with_playback}
 use Rattle.cycle_works.specs.Insides.{gear_of, script_in, seen_of}
@@ -34,14 +34,16 @@ turn-turned-requires-clause-may g c κs within = asked
         omega (arith, left, room, same)
 
     asked : (script : Script) × (playback : Option Tape) × (failed : Bool) × IsGear g.G.Guest.sound (gear_of {S = g.row.S.Denot} {G = g.row.G.Denot} script playback failed c.self.inside.parts) × MayCycle (driver_of g.G.Guest.sound (gear_of {S = g.row.S.Denot} {G = g.row.G.Denot} script playback failed c.self.inside.parts)) c.args.freewheel
-        × (length c.self.inside.parts.numbers.items < vec_capacity c.self.inside.parts.numbers) × (length c.self.inside.parts.moments.items < vec_capacity c.self.inside.parts.moments)
-    asked = (script_in c.self.inside.script.items, c.requires.may.0, c.self.inside.failed, IsGear-playback g.G.Guest.sound (seen_of {S = g.row.S.Denot} {G = g.row.G.Denot} c.self.inside) c.requires.may.0 c.self.invariant.gear, may, numbers, moments)
+        × (length c.self.inside.parts.numbers.items < vec_capacity c.self.inside.parts.numbers) × (length c.self.inside.parts.moments.items < vec_capacity c.self.inside.parts.moments) × (c.self.inside.parts.midi.script ≡ script)
+    asked = (script_in c.self.inside.script.items, c.requires.may.0, c.self.inside.failed, IsGear-playback g.G.Guest.sound (seen_of {S = g.row.S.Denot} {G = g.row.G.Denot} c.self.inside) c.requires.may.0 c.self.invariant.gear, may, numbers, moments, c.self.invariant.midi_script)
 
 pub invariant_of-self : goal.invariant_of-self
 invariant_of-self g c = record {
   gear = behind;
   numbers = subst (λ n. length (turns (script_in c.self.inside.script.items)) ≤ n) (sym c.turn-turned.ensures.numbers) c.self.invariant.numbers;
   moments = subst (λ n. length (turns (script_in c.self.inside.script.items)) ≤ n) (sym c.turn-turned.ensures.moments) c.self.invariant.moments;
+  midi_script = c.turn-turned.ensures.midi_script ∙ c.self.invariant.midi_script;
+  midi_changes = c.turn-turned.ensures.midi_changes;
 }
   where
     may : MayCycle (driver_of g.G.Guest.sound (with_playback (seen_of {S = g.row.S.Denot} {G = g.row.G.Denot} c.self.inside) c.requires.may.0)) c.args.freewheel
@@ -51,14 +53,14 @@ invariant_of-self g c = record {
     behind = on-both c.turn-turned.result (λ failed. IsGear g.G.Guest.sound (gear_of {S = g.row.S.Denot} {G = g.row.G.Denot} (script_in c.self.inside.script.items) None failed c.turn-turned.new.parts)) c.is_err-self-inside.result c.is_err-self-inside.ensures.value
         (on-ok c.turn-turned.result ((plan : Planned) × (moment : Moment) × Turns g.G.Guest.sound c.args.freewheel (with_playback (seen_of {S = g.row.S.Denot} {G = g.row.G.Denot} c.self.inside) c.requires.may.0) plan moment (gear_of {S = g.row.S.Denot} {G = g.row.G.Denot} (script_in c.self.inside.script.items) None false c.turn-turned.new.parts)) (IsGear g.G.Guest.sound (gear_of {S = g.row.S.Denot} {G = g.row.G.Denot} (script_in c.self.inside.script.items) None false c.turn-turned.new.parts))
         (λ turned. c.a_cycle_leaves_the_parts.ensures g.G.Guest.sound c.args.freewheel (with_playback (seen_of {S = g.row.S.Denot} {G = g.row.G.Denot} c.self.inside) c.requires.may.0) (gear_of {S = g.row.S.Denot} {G = g.row.G.Denot} (script_in c.self.inside.script.items) None false c.turn-turned.new.parts) turned.0 turned.1 (IsGear-playback g.G.Guest.sound (seen_of {S = g.row.S.Denot} {G = g.row.G.Denot} c.self.inside) c.requires.may.0 c.self.invariant.gear) may turned.2)
-        (c.turn-turned.ensures.turned (script_in c.self.inside.script.items) c.requires.may.0 None c.self.inside.failed false))
+        (c.turn-turned.ensures.turned (script_in c.self.inside.script.items) c.requires.may.0 None c.self.inside.failed false c.self.invariant.midi_script))
         (on-err c.turn-turned.result (FailsToRead (seen_of {S = g.row.S.Denot} {G = g.row.G.Denot} c.self.inside) (gear_of {S = g.row.S.Denot} {G = g.row.G.Denot} (script_in c.self.inside.script.items) None true c.turn-turned.new.parts)) (IsGear g.G.Guest.sound (gear_of {S = g.row.S.Denot} {G = g.row.G.Denot} (script_in c.self.inside.script.items) None true c.turn-turned.new.parts))
         (λ fails. IsGear-failed g.G.Guest.sound (seen_of {S = g.row.S.Denot} {G = g.row.G.Denot} c.self.inside) (gear_of {S = g.row.S.Denot} {G = g.row.G.Denot} (script_in c.self.inside.script.items) None true c.turn-turned.new.parts) c.args.freewheel c.requires.may.0 c.self.invariant.gear may fails c.turn-turned.ensures.same)
         (c.turn-turned.ensures.failed (script_in c.self.inside.script.items) None c.self.inside.failed))
 
 pub returns-clause-turned : goal.returns-clause-turned
 returns-clause-turned g c = subst (λ gear. OnOk c.turn-turned.result ((plan : Planned) × (moment : Moment) × Turns g.G.Guest.sound c.args.freewheel gear plan moment (gear_of {S = g.row.S.Denot} {G = g.row.G.Denot} (script_in c.self.inside.script.items) None c.is_err-self-inside.result c.turn-turned.new.parts))) c.self.view_is
-    (c.turn-turned.ensures.turned (script_in c.self.inside.script.items) None None c.self.inside.failed c.is_err-self-inside.result)
+    (c.turn-turned.ensures.turned (script_in c.self.inside.script.items) None None c.self.inside.failed c.is_err-self-inside.result c.self.invariant.midi_script)
 
 pub returns-clause-failed : goal.returns-clause-failed
 returns-clause-failed g c = subst (λ gear. OnErr c.turn-turned.result (FailsToRead gear (gear_of {S = g.row.S.Denot} {G = g.row.G.Denot} (script_in c.self.inside.script.items) None c.is_err-self-inside.result c.turn-turned.new.parts))) c.self.view_is
@@ -74,7 +76,7 @@ returns-clause-stands g c = (subst (λ gear. IsGear g.G.Guest.sound gear) c.self
     behind = on-both c.turn-turned.result (λ failed. IsGear g.G.Guest.sound (gear_of {S = g.row.S.Denot} {G = g.row.G.Denot} (script_in c.self.inside.script.items) None failed c.turn-turned.new.parts)) c.is_err-self-inside.result c.is_err-self-inside.ensures.value
         (on-ok c.turn-turned.result ((plan : Planned) × (moment : Moment) × Turns g.G.Guest.sound c.args.freewheel (with_playback (seen_of {S = g.row.S.Denot} {G = g.row.G.Denot} c.self.inside) c.requires.may.0) plan moment (gear_of {S = g.row.S.Denot} {G = g.row.G.Denot} (script_in c.self.inside.script.items) None false c.turn-turned.new.parts)) (IsGear g.G.Guest.sound (gear_of {S = g.row.S.Denot} {G = g.row.G.Denot} (script_in c.self.inside.script.items) None false c.turn-turned.new.parts))
         (λ turned. c.a_cycle_leaves_the_parts.ensures g.G.Guest.sound c.args.freewheel (with_playback (seen_of {S = g.row.S.Denot} {G = g.row.G.Denot} c.self.inside) c.requires.may.0) (gear_of {S = g.row.S.Denot} {G = g.row.G.Denot} (script_in c.self.inside.script.items) None false c.turn-turned.new.parts) turned.0 turned.1 (IsGear-playback g.G.Guest.sound (seen_of {S = g.row.S.Denot} {G = g.row.G.Denot} c.self.inside) c.requires.may.0 c.self.invariant.gear) may turned.2)
-        (c.turn-turned.ensures.turned (script_in c.self.inside.script.items) c.requires.may.0 None c.self.inside.failed false))
+        (c.turn-turned.ensures.turned (script_in c.self.inside.script.items) c.requires.may.0 None c.self.inside.failed false c.self.invariant.midi_script))
         (on-err c.turn-turned.result (FailsToRead (seen_of {S = g.row.S.Denot} {G = g.row.G.Denot} c.self.inside) (gear_of {S = g.row.S.Denot} {G = g.row.G.Denot} (script_in c.self.inside.script.items) None true c.turn-turned.new.parts)) (IsGear g.G.Guest.sound (gear_of {S = g.row.S.Denot} {G = g.row.G.Denot} (script_in c.self.inside.script.items) None true c.turn-turned.new.parts))
         (λ fails. IsGear-failed g.G.Guest.sound (seen_of {S = g.row.S.Denot} {G = g.row.G.Denot} c.self.inside) (gear_of {S = g.row.S.Denot} {G = g.row.G.Denot} (script_in c.self.inside.script.items) None true c.turn-turned.new.parts) c.args.freewheel c.requires.may.0 c.self.invariant.gear may fails c.turn-turned.ensures.same)
         (c.turn-turned.ensures.failed (script_in c.self.inside.script.items) None c.self.inside.failed))

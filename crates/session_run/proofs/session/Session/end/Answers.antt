@@ -3,9 +3,7 @@ use Rattle.std.specs.Prelude.{IsSome, OnErr}
 use Rattle.session_model.specs.Explanations.{Given}
 use Rattle.session_model.specs.Scripts.{phases}
 use Rattle.driver_laws.specs.Drivers.{run}
-use Rattle.run_laws.specs.Runs.{AtPhase}
-use Rattle.run_laws.specs.Told.{StandsSoFar}
-use Rattle.session_ends.specs.Seen.{Parts, driver_of, session_of, told_of}
+use Rattle.session_ends.specs.Seen.{AtPhase, Parts, StandsSoFar, driver_of, session_of, told_of}
 use Rattle.session_run.proofs.session.Session.end.Goals as goal
 
 pub returns-clause-so_far : goal.returns-clause-so_far

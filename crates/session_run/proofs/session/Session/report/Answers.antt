@@ -1,7 +1,6 @@
 use Rattle.std.proofs.Common.{subst}
 use Rattle.jack_host.specs.Bytes.{Puts}
-use Rattle.run_laws.specs.Told.{text_in}
-use Rattle.session_ends.specs.Seen.{Parts, session_of}
+use Rattle.session_ends.specs.Seen.{Parts, session_of, text_in}
 use Rattle.session_run.proofs.session.Session.report.Goals as goal
 
 pub returns-clause-puts : goal.returns-clause-puts

@@ -1,9 +1,7 @@
 use Rattle.std.proofs.Common.{ℕ, subst}
 use Rattle.std.specs.Prelude.{IsErrOf, OnErr}
 use Rattle.session_model.specs.Explanations.{Given}
-use Rattle.run_laws.specs.Sessions.{IsGiven}
-use Rattle.run_laws.specs.Told.{StandsSoFar}
-use Rattle.session_ends.specs.Seen.{OneRose, Parts, Write, session_of, stores_in, told_of}
+use Rattle.session_ends.specs.Seen.{IsGiven, OneRose, Parts, StandsSoFar, Write, session_of, stores_in, told_of}
 use Rattle.session_run.proofs.ModeLemmas.{has-threads, is-serial}
 use Rattle.session_run.proofs.session.Session.run.Goals as goal
 

@@ -2,8 +2,7 @@ use Rattle.std.proofs.Common.{◌≡◌, ◌∙◌, sym, ap}
 use Rattle.std.specs.Prelude.{is_none}
 use Rattle.session_model.specs.Scripts.{Script}
 use Rattle.script_segments.specs.Segments.{segments}
-use Rattle.run_laws.specs.Told.{text_in}
-use Rattle.session_ends.specs.Seen.{Gear, Parts, session_of}
+use Rattle.session_ends.specs.Seen.{Gear, Parts, session_of, text_in}
 use Rattle.session_run.proofs.session.Session.take_store.Goals as goal
 
 pub invariant_of-self : goal.invariant_of-self

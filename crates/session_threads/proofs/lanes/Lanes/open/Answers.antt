@@ -1,5 +1,5 @@
 use Rattle.std.proofs.Common.{◌≡◌, List, Some, length, sym, ◌∙◌, ap, subst, take_at}
-use Rattle.control_desk.specs.Desks.{Desk}
+use Rattle.session_works.specs.DeskWords.{Desk}
 use Rattle.turn_word.specs.Turns.{AreAll, Handle}
 use Rattle.session_threads.proofs.lanes.Lanes.open.Goals as goal
 

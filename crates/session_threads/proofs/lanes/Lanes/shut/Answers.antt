@@ -1,5 +1,5 @@
 use Rattle.std.proofs.Common.{◌≡◌, All, List, Some, None, length, sym, ◌∙◌, ap, subst, take_at}
-use Rattle.control_desk.specs.Desks.{Desk, GoesOn}
+use Rattle.session_works.specs.DeskWords.{Desk, GoesOn}
 use Rattle.turn_word.specs.Turns.{AreAll, Caller, Handle, IsCaller}
 use Rattle.session_threads.proofs.lanes.Lanes.shut.Goals as goal
 

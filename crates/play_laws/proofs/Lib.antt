@@ -1,0 +1,4 @@
+mod BoundLemmas
+mod SourceLemmas
+mod ReadyLemmas
+pub mod PlayLemmas
