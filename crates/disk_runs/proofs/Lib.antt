@@ -1,0 +1,11 @@
+pub mod PlaceLemmas
+pub mod StepLemmas
+pub mod PartLemmas
+pub mod FileLemmas
+pub mod RoomLemmas
+pub mod MissLemmas
+pub mod NewLemmas
+pub mod AloneLemmas
+pub mod SerialLemmas
+pub mod CountLemmas
+pub mod SegmentLemmas
