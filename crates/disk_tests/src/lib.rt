@@ -8,8 +8,8 @@ mod feeds;
 #[cfg(test)]
 mod files;
 #[cfg(test)]
-mod players;
+mod opened;
 #[cfg(test)]
-mod readers;
+mod played;
 #[cfg(test)]
-mod tests;
+mod turned;

@@ -1,70 +1,163 @@
-//! For the tests: benches that tell which values they were given, and in which order.
-ghost use Rattle.std.specs.Prelude.{◌≡◌, ◌≤◌, length, true, All, replicate, IfOk};
+//! Benches of four nodes, of which the first has a wave.
+ghost use Rattle.std.specs.Prelude.{◌≡◌, length, true};
+ghost use Rattle.client_kinds.specs.Standings.{IsPlayable};
+ghost use Rattle.client_benches.specs.Seen.{has_room_at, new_bench};
+ghost use Rattle.bench_crew.specs.Ensembles.{bench_of};
 
-use activation::Work;
-use std::alloc::{AllocError, Global};
+use client_benches::{ClientBench, Rooms};
+use client_kinds::{Guest, Shape};
+use guests::HoldGuest;
+use jack_types::{Kind, Moment, Score, TransportState};
+use std::alloc::Global;
+use std::process::Abort;
 
-/// Hashes what it is given into its memory, and hands the hash and the place of each link.
+pub type Bench = ClientBench<Busy>;
+
+const MOMENT: Moment = Moment {
+    cycle: 1,
+    state: TransportState::Stopped,
+    frame: 0,
+    rate: 48_000,
+    bbt: None,
+};
+
+/// A guest that plays the last sample of the cycle before, and tells so much work.
 #[derive(Drop)]
-pub(crate) struct Hasher {
-    pub(crate) hash: u64,
-    pub(crate) room: [bool; 64],
+pub struct Busy {
+    guest: HoldGuest,
+    work: u32,
 }
 
-impl Work for Hasher {
-    type Value = u64;
+impl Guest for Busy {
+    ghost use Rattle.std.specs.Prelude.{None};
+    ghost use Rattle.guests.specs.Sounds.{sound_by};
 
-    type Memory = u64;
+    ghost score = { λ busy. busy.guest.score };
 
-    ghost use Rattle.std.specs.Prelude.{slice_index_or, false, ◌+◌, ◌%◌, ◌^◌};
-    ghost use Rattle.worker_tests.specs.Hashes.{hashed};
+    ghost sound = { sound_by };
 
-    ghost memory = { λ b. b.hash };
+    ghost numbers = { λ busy. busy.guest.numbers };
 
-    ghost has_room = { λ b place. slice_index_or b.room place false };
+    ghost told = { λ _. None };
 
-    ghost value_at = { λ b place. (b.hash + place) % 2 ^ 64 };
-
-    ghost after = { λ m given. hashed m given };
-
-    ghost gives = { λ m given place. (hashed m given + place) % 2 ^ 64 };
-
-    fn play(&mut self, given: &[Option<u64>]) {
-        for value in given {
-            self.hash = self.hash.wrapping_mul(31).wrapping_add(value.unwrap_or(0));
-        }
+    fn process(&mut self, moment: &Moment, ports: Shape, input: &[i32], output: &mut [i32]) -> i32 {
+        self.guest.process(moment, ports, input, output)
     }
 
-    fn hand(&mut self, place: u32) -> u64 {
-        self.room[place as usize] = false;
-        self.hash.wrapping_add(u64::from(place))
+    fn work(&self, _ports: Shape) -> u32 {
+        self.work
     }
 
-    fn back(&mut self, place: u32, _value: u64) {
-        self.room[place as usize] = true;
+    fn reset(&mut self) {
+        self.guest.reset();
     }
 }
 
-/// Benches with all their room, of which the one of node n begins with `first` + n.
-pub(crate) fn hashers(alloc: Global, nodes: u32, first: u32) -> Result<Vec<Hasher>, AllocError>
-    requires { nodes ≤ 64 }
-    ensures { IfOk result (λ all. (length all.items ≡ nodes) × All (λ b. b.room ≡ replicate 64 true) all.items) }
+// The rooms of a link.
+fn rooms(rt: &impl Abort, alloc: Global) -> Rooms {
+    match Rooms::new(alloc) {
+        Ok(rooms) => rooms,
+        Err(_) => panic!(rt; "rooms"),
+    }
+}
+
+// A bench as it is opened, for four frames.
+fn opened(rt: &impl Abort, alloc: Global, kind: Kind) -> Bench
+    requires { IsPlayable kind }
+    ensures { result ≡ new_bench kind 4 }
 {
-    let mut all = Vec::with_capacity(alloc, nodes as usize)?;
-    for node in 0..nodes {
-        all.push_reserved(Hasher {
-            hash: u64::from(first) + u64::from(node),
-            room: [true; 64],
-        });
+    match ClientBench::new(alloc, kind, 4) {
+        Ok(bench) => bench,
+        Err(_) => panic!(rt; "a bench"),
     }
-    Ok(all)
 }
 
-/// What the benches remember, in their order.
-pub(crate) fn hashes_of(alloc: Global, benches: &[Hasher]) -> Result<Vec<u64>, AllocError> {
-    let mut hashes = Vec::with_capacity(alloc, benches.len())?;
-    for bench in benches {
-        hashes.push(bench.hash)?;
+fn hold(rt: &impl Abort, alloc: Global) -> HoldGuest {
+    match HoldGuest::new(alloc, Score::Hold) {
+        Ok(guest) => guest,
+        Err(_) => panic!(rt; "a guest"),
     }
-    Ok(hashes)
+}
+
+// A wave of four frames, which is handed on over the two links that go out from its node.
+fn wave(rt: &impl Abort, alloc: Global) -> Bench
+    ensures { (has_room_at result 0 ≡ true) × (has_room_at result 1 ≡ true) }
+{
+    let kind = Kind::Tone {
+        half: 2,
+        level: 1000,
+    };
+    let mut bench = opened(rt, alloc, kind);
+    let ports = Shape {
+        inputs: 0,
+        outputs: 1,
+        period: 4,
+    };
+    bench.begin(&MOMENT, ports, 2);
+    bench.carry(0, Some(0));
+    bench.carry(1, Some(0));
+    bench.link(0, rooms(rt, alloc));
+    bench.link(1, rooms(rt, alloc));
+    bench
+}
+
+/// What comes over the first incoming link, so many times.
+pub fn times(rt: &impl Abort, alloc: Global, factor: i32) -> Bench {
+    let kind = Kind::Gain { factor, shift: 0 };
+    let mut bench = opened(rt, alloc, kind);
+    let ports = Shape {
+        inputs: 1,
+        outputs: 1,
+        period: 4,
+    };
+    bench.begin(&MOMENT, ports, 0);
+    bench.hear_carried(0, 0, 0);
+    bench
+}
+
+/// A bench with a guest that tells so much work. It hears nothing.
+pub fn seated(rt: &impl Abort, alloc: Global, work: u32) -> Bench {
+    let kind = Kind::Guest { guest: 0 };
+    let mut bench = opened(rt, alloc, kind);
+    let guest = hold(rt, alloc);
+    bench.lend(Busy { guest, work });
+    let ports = Shape {
+        inputs: 1,
+        outputs: 1,
+        period: 4,
+    };
+    bench.begin(&MOMENT, ports, 0);
+    bench
+}
+
+/// A wave, what is twice and three times as loud, and another bench.
+pub fn with_last(rt: &impl Abort, alloc: Global, last: Bench) -> Vec<Bench>
+    ensures count { length result.items ≡ 4 }
+    ensures rooms { (has_room_at (bench_of result.items 0) 0 ≡ true) × (has_room_at (bench_of result.items 0) 1 ≡ true) }
+{
+    match Vec::with_capacity(alloc, 4) {
+        Ok(mut benches) => {
+            benches.push_reserved(wave(rt, alloc));
+            benches.push_reserved(times(rt, alloc, 2));
+            benches.push_reserved(times(rt, alloc, 3));
+            benches.push_reserved(last);
+            benches
+        }
+        Err(_) => panic!(rt; "four benches"),
+    }
+}
+
+/// The first and the last sample that each bench gave in its last cycle.
+pub fn given(benches: &[Bench]) -> [(Option<i32>, Option<i32>); 4] {
+    let mut ends = [(None, None); 4];
+    for (place, bench) in benches.iter().take(4).enumerate() {
+        let samples = bench.output(0);
+        ends[place] = (samples.first().copied(), samples.last().copied());
+    }
+    ends
+}
+
+/// Such samples of a wave.
+pub fn ends(sample: i32) -> (Option<i32>, Option<i32>) {
+    (Some(sample), Some(sample.wrapping_neg()))
 }

@@ -1,16 +1,11 @@
-//! Tests of crews, whose nodes are played by threads or step by step.
+//! Tests of crews over clients' benches, and of the machine of a cycle as plain data.
 #![tactic(auto)]
 
+#[cfg(test)]
 mod benches;
 #[cfg(test)]
-mod diamonds;
+mod cores;
 #[cfg(test)]
-mod ensembles;
+mod crews;
 #[cfg(test)]
-mod graphs;
-#[cfg(test)]
-mod meetings;
-#[cfg(test)]
-mod tests;
-#[cfg(test)]
-mod thefts;
+mod gates;

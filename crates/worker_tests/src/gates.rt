@@ -1,24 +1,62 @@
-//! For the tests: gates that hold threads, and that keep what they saw.
+//! Gates that hold threads, and that keep what they saw.
+
 use jack_host::Gate;
 use std::sync::atomic::{AtomicU64, Ordering};
 
+/// Counts how many clients were played by other seats than the first.
+#[derive(Drop)]
+pub struct Others {
+    played: AtomicU64,
+}
+
+impl Others {
+    pub fn new() -> Others {
+        Others {
+            played: AtomicU64::new(0),
+        }
+    }
+
+    /// Whether there was one.
+    pub fn took_part(&self) -> bool {
+        self.played.load(Ordering::SeqCst) > 0
+    }
+}
+
+impl Gate for Others {
+    fn before_cycle(&self, _cycle: u32) {}
+
+    fn before_call(&self, _lane: u8, _index: u32) {}
+
+    fn after_call(&self, _lane: u8, _index: u32) {}
+
+    fn before_client(&self, worker: u32, _node: u32) {
+        if worker != 0 {
+            self.played.fetch_add(1, Ordering::SeqCst);
+        }
+    }
+
+    fn before_block(&self, _recorder: u8) {}
+
+    fn before_turn(&self, _disk: u8) {}
+}
+
 /// Lets no client play until two have arrived.
 #[derive(Drop)]
-pub(crate) struct Meeting {
+pub struct Meeting {
     arrived: AtomicU64,
     met: AtomicU64,
 }
 
 impl Meeting {
-    pub(crate) fn new() -> Meeting {
+    pub fn new() -> Meeting {
         Meeting {
             arrived: AtomicU64::new(0),
             met: AtomicU64::new(0),
         }
     }
 
-    /// How many clients met the other one.
-    pub(crate) fn met(&self) -> u64 {
+    /// How many clients met another one.
+    pub fn met(&self) -> u64 {
         self.met.load(Ordering::SeqCst)
     }
 }
@@ -45,14 +83,14 @@ impl Gate for Meeting {
 /// Lets two seats share the nodes that one of them took: node 0 waits for node 3, node 3 for node 1 or 2, and these for each
 /// other.
 #[derive(Drop)]
-pub(crate) struct Handover {
+pub struct Handover {
     last: AtomicU64,
     shared: AtomicU64,
     met: AtomicU64,
 }
 
 impl Handover {
-    pub(crate) fn new() -> Handover {
+    pub fn new() -> Handover {
         Handover {
             last: AtomicU64::new(0),
             shared: AtomicU64::new(0),
@@ -61,7 +99,7 @@ impl Handover {
     }
 
     /// How many of nodes 1 and 2 met the other one.
-    pub(crate) fn met(&self) -> u64 {
+    pub fn met(&self) -> u64 {
         self.met.load(Ordering::SeqCst)
     }
 }

@@ -1,2 +1,0 @@
-mod Hashing
-mod Stepping

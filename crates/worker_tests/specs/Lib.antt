@@ -1,2 +1,0 @@
-pub mod Diamonds
-pub mod Hashes
