@@ -57,7 +57,7 @@ fn program<'a>(alloc: Global) -> Result<Command<'a>, AllocError> {
         .action(ArgAction::SetTrue)
         .help("Print the version");
     Command::new(alloc, "jackd")
-        .version("0.3.0")
+        .version("0.4.0")
         .about(
             "An audio server whose output is proved: it plays a session's script over WAVE files",
         )
