@@ -33,7 +33,7 @@ struct client {
     enum kind kind;
     long number, shift;
     jack_client_t *jack;
-    jack_port_t *in[PORTS], *out[PORTS];
+    jack_port_t *in[PORTS], *out[PORTS], *turn;
     atomic_int ins, outs;
     float *late[PORTS]; // of a delay: the last `number` samples of each input
     long at;
@@ -141,7 +141,8 @@ static int process(jack_nframes_t n, void *argument)
                         sum += x[k][i] * factor;
                 y[j][i] = sum;
             }
-    for (int j = 0; it->kind == METER && j < ins; j++)
+    // Behind the last cycle a delay still gives what it has.
+    for (int j = 0; it->kind == METER && cycle >= 1 && cycle <= cycles && j < ins; j++)
         for (jack_nframes_t i = 0; i < n; i++)
             it->peak = fmaxf(it->peak, fabsf(x[j][i]));
     return 0;
@@ -197,6 +198,19 @@ static void register_port(struct client *it, const char *name, int out)
     ++*count;
 }
 
+// Activates a client. A connection of silence puts its cycle behind that of "system in", whatever the session connects, so that
+// all clients agree on which cycle it is. It closes no loop, since "system in" has no input.
+static int activate(struct client *it)
+{
+    if (jack_activate(it->jack))
+        return -1;
+    if (it->kind == IN)
+        return 0;
+    if (!it->turn)
+        it->turn = jack_port_register(it->jack, "its turn", JACK_DEFAULT_AUDIO_TYPE, JackPortIsInput, 0);
+    return it->turn ? jack_connect(clients[0].jack, "system in:turn", jack_port_name(it->turn)) : -1;
+}
+
 static struct client *client_of(const char *name)
 {
     size_t length = strcspn(name, ":");
@@ -238,7 +252,7 @@ static void call(long line, int count, char **word)
         register_port(client_of(word[2]), strchr(word[2], ':') + 1, !strcmp(word[3], "out"));
         answer = 0;
     } else if (!strcmp(verb, "activate") && count == 3) {
-        answer = jack_activate(client_of(word[2])->jack);
+        answer = activate(client_of(word[2])) ? -1 : 0;
     } else if (!strcmp(verb, "deactivate") && count == 3) {
         answer = jack_deactivate(client_of(word[2])->jack);
     } else if (!strcmp(verb, "connect") && count == 4) {
@@ -343,13 +357,11 @@ static void open_system(void)
         sprintf(name, "playback_%d", c);
         register_port(out, name, 0);
     }
-    // By this connection of silence each cycle of "system out" stands behind that of "system in", whatever the session connects.
-    register_port(in, "first", 1);
-    register_port(out, "last", 0);
+    register_port(in, "turn", 1);
     jack_set_freewheel_callback(in->jack, on_freewheel, NULL);
     if ((long)jack_get_sample_rate(in->jack) != rate || (long)jack_get_buffer_size(in->jack) != period)
         stop("JACK has another rate or period than the session");
-    if (jack_activate(in->jack) || jack_activate(out->jack) || jack_connect(in->jack, "system in:first", "system out:last"))
+    if (activate(in) || activate(out))
         stop("JACK activates no client");
 }
 

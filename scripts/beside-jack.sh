@@ -78,7 +78,7 @@ LOUD = 2**22
 def write(name, lines, channels, rate, frames):
     """A session, and a capture of noise, of 16 bits and no louder than 1,024."""
     open(f'{folder}/{name}.session', 'w').write(''.join(f'{it}\n' for it in lines))
-    data = b''.join(struct.pack('<h', draw.randint(-1024, 1024)) for _ in range(frames * channels))
+    data = struct.pack(f'<{frames * channels}h', *draw.choices(range(-1024, 1025), k=frames * channels))
     head = struct.pack('<4sI4s4sIHHIIHH4sI', b'RIFF', 36 + len(data), b'WAVE', b'fmt ', 16, 1, channels, rate, 2 * rate * channels, 2 * channels, 16, b'data', len(data))
     open(f'{folder}/{name}.wav', 'wb').write(head + data)
 
@@ -139,7 +139,7 @@ for number in range(count):
                 loud += source[2]
                 connects.append(f'do connect {source[0]} system:playback_{c}')
     draw.shuffle(connects)
-    cycles = draw.randint(20, 400)
+    cycles = draw.randint(20, max(40, 20000 // period))
     write(f'drawn{number}', [*lines, *connects, f'run {cycles}'], channels, rate, max(0, cycles * period - draw.randint(-50, 50)))
 PY
 
