@@ -2,8 +2,8 @@
 use Rattle.std.proofs.Common.{◌≡◌, ℕ, ◌+◌, ◌<◌, ◌≤◌, ◌%◌, ◌^◌, ◌-◌, true, false, List, [], ◌∷◌, length, All, sym, refl, subst}
 use mathlib.Core.Option.{none}
 use Rattle.atomic_table.specs.Table.{Me, step, Allows}
-use Rattle.jack_types.specs.declared.ports.Link.{Link}
-use Rattle.session_model.specs.Activation.{link_at, outgoing}
+use Rattle.session_laws.specs.jack_types.specs.declared.ports.Link.{Link}
+use Rattle.session_laws.specs.session_model.specs.Activation.{link_at, outgoing}
 use Rattle.activation.specs.declared.views.View.{View}
 use Rattle.activation.specs.Rule.{has, Rule}
 use Rattle.activation.specs.Plays.{Owns, out_after, taken, opened, filled, refilled, started_by, released_by, came_home, left_node, picked}

@@ -3,7 +3,7 @@ use Rattle.std.proofs.Common.{◌≡◌, ℕ, suc, ◌<◌, true, List, [], ◌�
 use Rattle.std.proofs.Math.Seq.{set-append_seam}
 use mathlib.Core.Option.{none}
 use Rattle.atomic_table.specs.Table.{Me, step, Allows}
-use Rattle.jack_types.specs.declared.ports.Link.{Link}
+use Rattle.session_laws.specs.jack_types.specs.declared.ports.Link.{Link}
 use Rattle.activation.specs.declared.views.View.{View}
 use Rattle.activation.specs.Rule.{has, Rule}
 use Rattle.activation.specs.Plays.{lifted, laid_down, stored, unlinked, linked, entered}

@@ -5,9 +5,9 @@ use mathlib.Core.Option.{none, some}
 use lib.ListN.{get_elem?}
 use Rattle.atomic_table.specs.Table.{State, keeps, step, Allows}
 use Rattle.atomic_table.proofs.Lists.{at_set}
-use Rattle.jack_types.specs.declared.ports.Link.{Link}
-use Rattle.session_model.specs.Activation.{AreLinks, Waiting, Held, Left, Machine, is_started, is_released, place_of, fresh}
-use Rattle.session_model.specs.Samples.{below}
+use Rattle.session_laws.specs.jack_types.specs.declared.ports.Link.{Link}
+use Rattle.session_laws.specs.session_model.specs.Activation.{AreLinks, Waiting, Held, Left, Machine, is_started, is_released, place_of, fresh}
+use Rattle.session_laws.specs.session_model.specs.Samples.{below}
 use Rattle.session_laws.proofs.ActivationLemmas.{IsConsistent-fresh, length-map_below}
 use Rattle.activation.specs.declared.views.View.{View}
 use Rattle.activation.specs.Rule.{has, IsUsual, left_word, node_of, Knows, Lies, laid, Rule}

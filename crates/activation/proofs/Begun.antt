@@ -10,9 +10,9 @@ use mathlib.Core.Option.{none, some, some-injective, some-ne-none}
 use native.Mathlib.Decide.{ℕ_discrete}
 use lib.ListN.{get_elem?}
 use Rattle.atomic_table.specs.Table.{Me, step, Allows, opening}
-use Rattle.jack_types.specs.declared.ports.Link.{Link}
-use Rattle.session_model.specs.Activation.{AreLinks, incoming}
-use Rattle.session_model.specs.Samples.{below}
+use Rattle.session_laws.specs.jack_types.specs.declared.ports.Link.{Link}
+use Rattle.session_laws.specs.session_model.specs.Activation.{AreLinks, incoming}
+use Rattle.session_laws.specs.session_model.specs.Samples.{below}
 use Rattle.activation.specs.declared.views.Tray.{Tray}
 use Rattle.activation.specs.declared.views.View.{View}
 use Rattle.activation.specs.declared.views.Item.{Item}

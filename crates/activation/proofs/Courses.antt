@@ -2,10 +2,10 @@
 use Rattle.std.proofs.Common.{◌≡◌, ℕ, zero, suc, ◌+◌, ◌-◌, ◌<◌, ◌≤◌, Bool, true, false, cond, ◌==◌, List, [], ◌∷◌, length, map, set, get_or, slice_index, Some, None, refl, sym, ◌∙◌, ap, subst, arith, length-set, get_or-set_same, replicate, if◌then◌else◌}
 use Rattle.std.proofs.lemmas.Bool.Decides.{nat_tests}
 use Rattle.std.proofs.lemmas.List.{map-set, length-map}
-use Rattle.jack_types.specs.declared.ports.Link.{Link}
-use Rattle.session_model.specs.Activation.{AreLinks, Waiting, Held, Machine, fresh, incoming, StartNode, ReleaseLink, HomeNode, PlayNode, no_link, link_at, IsConsistent, node_at_zero, with_fallen}
+use Rattle.session_laws.specs.jack_types.specs.declared.ports.Link.{Link}
+use Rattle.session_laws.specs.session_model.specs.Activation.{AreLinks, Waiting, Held, Machine, fresh, incoming, StartNode, ReleaseLink, HomeNode, PlayNode, no_link, link_at, IsConsistent, node_at_zero, with_fallen}
 use Rattle.session_laws.proofs.ActivationLemmas.{IsConsistent-moved, length-moved, length-below, length-map_below, IsConsistent-fresh}
-use Rattle.session_model.specs.Samples.{below}
+use Rattle.session_laws.specs.session_model.specs.Samples.{below}
 use Rattle.activation.specs.declared.stands.Stand.{Stand}
 use Rattle.activation.specs.declared.stands.Stand.TheVariants as stand
 use Rattle.activation.specs.declared.stands.Step.{Step}

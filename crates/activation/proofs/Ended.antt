@@ -3,8 +3,8 @@ use Rattle.std.proofs.Common.{◌≡◌, ℕ, ◌%◌, ◌<◌, Bool, true, List
 use mathlib.Core.Option.{some, some-injective}
 use lib.ListN.{get_elem?}
 use Rattle.atomic_table.specs.Seated.{TableId}
-use Rattle.jack_types.specs.declared.ports.Link.{Link}
-use Rattle.session_model.specs.Activation.{Held, Left, AtHome, place_of, is_started, IsQuiet}
+use Rattle.session_laws.specs.jack_types.specs.declared.ports.Link.{Link}
+use Rattle.session_laws.specs.session_model.specs.Activation.{Held, Left, AtHome, place_of, is_started, IsQuiet}
 use Rattle.session_laws.proofs.ActivationLemmas.{AllHome-quiet, AllReleased-quiet}
 use Rattle.activation.specs.declared.takens.Seat.{Seat}
 use Rattle.activation.specs.declared.views.Item.{Item}

@@ -6,9 +6,9 @@ use mathlib.Core.Option.{none, some, some-injective}
 use native.Mathlib.Decide.{ℕ_discrete, dec_lt}
 use lib.ListN.{get_elem?}
 use Rattle.atomic_table.specs.Table.{State, keeps, step, Allows}
-use Rattle.jack_types.specs.declared.ports.Link.{Link}
-use Rattle.session_model.specs.Activation.{Place, Waiting, Held, Left, AtHome, no_link, link_at, is_started, is_released, place_of, fresh, open_links, incoming, outgoing, IsQuiet, IsDone}
-use Rattle.session_model.specs.Samples.{below}
+use Rattle.session_laws.specs.jack_types.specs.declared.ports.Link.{Link}
+use Rattle.session_laws.specs.session_model.specs.Activation.{Place, Waiting, Held, Left, AtHome, no_link, link_at, is_started, is_released, place_of, fresh, open_links, incoming, outgoing, IsQuiet, IsDone}
+use Rattle.session_laws.specs.session_model.specs.Samples.{below}
 use Rattle.session_laws.proofs.ActivationLemmas.{AllHome-quiet, AllReleased-quiet, length-map_below, get_or-map_below, below-contains}
 use Rattle.session_laws.proofs.ListLemmas.{Contains-kept, Each-weaker}
 use Rattle.std.proofs.lemmas.List.Elements.{All-contains}

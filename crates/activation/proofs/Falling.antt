@@ -7,8 +7,8 @@ use native.Mathlib.Decide.{ℕ_discrete}
 use lib.ListN.{get_elem?}
 use Rattle.atomic_table.specs.Table.{State, keeps, gives, step, stepped, Allows}
 use Rattle.atomic_table.proofs.Lists.{set_here, set_else}
-use Rattle.jack_types.specs.declared.ports.Link.{Link}
-use Rattle.session_model.specs.Activation.{Place, Waiting, Held, Machine, StartNode, ReleaseLink, no_link, link_at, is_started, is_released, place_of, IsConsistent, IsDone}
+use Rattle.session_laws.specs.jack_types.specs.declared.ports.Link.{Link}
+use Rattle.session_laws.specs.session_model.specs.Activation.{Place, Waiting, Held, Machine, StartNode, ReleaseLink, no_link, link_at, is_started, is_released, place_of, IsConsistent, IsDone}
 use Rattle.session_laws.proofs.ActivationLemmas.{IsConsistent-moved}
 use Rattle.activation.specs.declared.views.View.{View}
 use Rattle.activation.specs.Rule.{has, IsUsual, left_word, node_of, Knows, Lies, AreTold, Cycle, Rule}

@@ -6,12 +6,12 @@ use native.Mathlib.Decide.{ℕ_discrete}
 use Rattle.atomic_table.specs.Table.{Me}
 use Rattle.atomic_table.specs.Seated.{TableId}
 use Rattle.atomic_table.specs.declared.shared.Seat.{Seat as Token}
-use Rattle.jack_types.specs.declared.ports.Link.{Link}
-use Rattle.session_model.specs.Samples.{below}
+use Rattle.session_laws.specs.jack_types.specs.declared.ports.Link.{Link}
+use Rattle.session_laws.specs.session_model.specs.Samples.{below}
 use Rattle.session_laws.proofs.SequentialLemmas.{length-below, get_or-below}
 use Rattle.activation.specs.declared.takens.Seat.{Seat}
 use Rattle.activation.specs.declared.views.Duty.{Duty}
-use Rattle.session_model.specs.Activation.{AreLinks}
+use Rattle.session_laws.specs.session_model.specs.Activation.{AreLinks}
 use Rattle.activation.specs.declared.views.Item.{Item}
 use Rattle.activation.specs.declared.views.View.{View}
 use Rattle.activation.specs.Rule.{has}

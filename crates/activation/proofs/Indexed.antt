@@ -11,9 +11,9 @@ use Rattle.std.proofs.lemmas.List.Elements.{filter-append}
 use Rattle.std.proofs.lemmas.List.Sums.{length-filter, count_by-le-length}
 use mathlib.Core.Logic.{dite}
 use native.Mathlib.Decide.{ℕ_discrete}
-use Rattle.jack_types.specs.declared.ports.Link.{Link}
-use Rattle.session_model.specs.Activation.{link_at, place_among}
-use Rattle.session_model.specs.Samples.{below}
+use Rattle.session_laws.specs.jack_types.specs.declared.ports.Link.{Link}
+use Rattle.session_laws.specs.session_model.specs.Activation.{link_at, place_among}
+use Rattle.session_laws.specs.session_model.specs.Samples.{below}
 use Rattle.session_laws.proofs.SequentialLemmas.{length-below}
 use Rattle.activation.specs.Indexes.{IsIndex}
 use Rattle.activation.proofs.Listed.{all_set, get_or-map, mapped_all}

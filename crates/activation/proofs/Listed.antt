@@ -5,9 +5,9 @@ use mathlib.Core.Logic.{dite}
 use mathlib.Core.Option.{some, some-injective, some-ne-none}
 use lib.ListN.{get_elem?}
 use native.Mathlib.Decide.{ℕ_discrete}
-use Rattle.jack_types.specs.declared.ports.Link.{Link}
-use Rattle.session_model.specs.Activation.{link_at, incoming, outgoing}
-use Rattle.session_model.specs.Samples.{below}
+use Rattle.session_laws.specs.jack_types.specs.declared.ports.Link.{Link}
+use Rattle.session_laws.specs.session_model.specs.Activation.{link_at, incoming, outgoing}
+use Rattle.session_laws.specs.session_model.specs.Samples.{below}
 use Rattle.session_laws.proofs.ListLemmas.{Ordered, Ordered-append, Ordered-filter, Each, Each-below, Each-filter, Each-filter_kept, Each-both, Contains-kept}
 use Rattle.session_laws.proofs.ActivationLemmas.{below-contains, length-below, length-map_below, get_or-map_below}
 use Rattle.activation.specs.Values.{values_of}

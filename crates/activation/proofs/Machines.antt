@@ -4,9 +4,9 @@ use mathlib.Core.Logic.{dite}
 use native.Mathlib.Decide.{ℕ_discrete}
 use Rattle.std.proofs.lemmas.Bool.Decides.{nat_tests}
 use Rattle.std.proofs.lemmas.List.Sums.{sum_by-cons}
-use Rattle.jack_types.specs.declared.ports.Link.{Link}
-use Rattle.session_model.specs.Activation.{Place, Waiting, AtHome, Machine, link_at, incoming, is_started, is_released, place_of, open_links, IsDone, IsConsistent}
-use Rattle.session_model.specs.Samples.{below}
+use Rattle.session_laws.specs.jack_types.specs.declared.ports.Link.{Link}
+use Rattle.session_laws.specs.session_model.specs.Activation.{Place, Waiting, AtHome, Machine, link_at, incoming, is_started, is_released, place_of, open_links, IsDone, IsConsistent}
+use Rattle.session_laws.specs.session_model.specs.Samples.{below}
 use Rattle.session_laws.proofs.ListLemmas.{Each, Each-contains, Contains-kept}
 use Rattle.session_laws.proofs.ActivationLemmas.{below-contains}
 

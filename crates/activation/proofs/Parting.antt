@@ -7,8 +7,8 @@ use lib.ListN.{get_elem?}
 use Rattle.atomic_table.specs.Table.{State, Splits, Joins}
 use Rattle.atomic_table.proofs.Lists.{at_set, set_again}
 use Rattle.table_lemmas.proofs.Views.{each_set, each_snoc, at_snoc_last}
-use Rattle.jack_types.specs.declared.ports.Link.{Link}
-use Rattle.session_model.specs.Activation.{Place, Waiting, Held, Left, AtHome, link_at, is_started, is_released, place_of}
+use Rattle.session_laws.specs.jack_types.specs.declared.ports.Link.{Link}
+use Rattle.session_laws.specs.session_model.specs.Activation.{Place, Waiting, Held, Left, AtHome, link_at, is_started, is_released, place_of}
 use Rattle.activation.specs.declared.views.View.{View}
 use Rattle.activation.specs.Rule.{has, IsUsual, Knows, Keeps, Lies, Rule}
 use Rattle.activation.specs.Plays.{rest_of, first_of, left_of, right_of, joined, nobody}

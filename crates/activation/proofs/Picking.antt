@@ -8,8 +8,8 @@ use Rattle.atomic_table.specs.Table.{State, keeps, step, Allows}
 use Rattle.atomic_table.proofs.Lists.{set_here, set_else}
 use Rattle.table_lemmas.proofs.Readings.{get_at}
 use Rattle.table_lemmas.proofs.Readings as reading
-use Rattle.jack_types.specs.declared.ports.Link.{Link}
-use Rattle.session_model.specs.Activation.{Place, Waiting, Held, Left, AtHome, Machine, link_at, is_released, place_of, IsDone}
+use Rattle.session_laws.specs.jack_types.specs.declared.ports.Link.{Link}
+use Rattle.session_laws.specs.session_model.specs.Activation.{Place, Waiting, Held, Left, AtHome, Machine, link_at, is_released, place_of, IsDone}
 use Rattle.activation.specs.declared.views.Hand.{Hand}
 use Rattle.activation.specs.declared.views.View.{View}
 use Rattle.activation.specs.Rule.{has, IsUsual, left_word, Keeps, Lies, Rule}

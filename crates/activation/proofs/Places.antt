@@ -6,9 +6,9 @@ use Rattle.std.proofs.lemmas.List.{length-map}
 use Rattle.std.proofs.lemmas.List.Folds.{Any-from_list_any}
 use Rattle.std.proofs.lemmas.Map.Keys.{IsDistinct-from_apart}
 use Rattle.std.proofs.lemmas.Map.Steps.{length-le_from_distinct_below}
-use Rattle.jack_types.specs.declared.ports.Link.{Link}
-use Rattle.session_model.specs.Activation.{AreLinks, no_link, link_at, outgoing, place_among}
-use Rattle.session_model.specs.Samples.{below}
+use Rattle.session_laws.specs.jack_types.specs.declared.ports.Link.{Link}
+use Rattle.session_laws.specs.session_model.specs.Activation.{AreLinks, no_link, link_at, outgoing, place_among}
+use Rattle.session_laws.specs.session_model.specs.Samples.{below}
 use Rattle.session_laws.proofs.ListLemmas.{Ordered-filter}
 use Rattle.session_laws.proofs.SequentialLemmas.{outgoing_at}
 use Rattle.activation.proofs.Listed.{each_at, get_or-map, ordered-below, ordered-at, outgoing-facts}

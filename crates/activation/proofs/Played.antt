@@ -1,9 +1,9 @@
 -- What a seat finds in the slots of a node, and what the play of its bench does.
 use Rattle.std.proofs.Common.{rules, take, ◌++◌, ◌≡◌, ℕ, zero, suc, ◌+◌, ◌-◌, ◌<◌, ◌≤◌, Bool, true, false, cond, List, [], ◌∷◌, length, map, get_or, All, Option, Some, None, IsSome, refl, sym, ◌∙◌, ap, subst, arith, true≢false}
 use Rattle.std.proofs.lemmas.List.{length-map}
-use Rattle.jack_types.specs.declared.ports.Link.{Link}
-use Rattle.session_model.specs.Activation.{place_among, value_of, given_to}
-use Rattle.session_model.specs.Samples.{below}
+use Rattle.session_laws.specs.jack_types.specs.declared.ports.Link.{Link}
+use Rattle.session_laws.specs.session_model.specs.Activation.{place_among, value_of, given_to}
+use Rattle.session_laws.specs.session_model.specs.Samples.{below}
 use Rattle.session_laws.proofs.ActivationLemmas.{given_to-values, length-map_below, get_or-map_below}
 use Rattle.activation.specs.declared.views.Tray.{Tray}
 use Rattle.activation.specs.declared.views.Duty.{Duty}

@@ -2,7 +2,7 @@
 use Rattle.std.proofs.Common.{◌≡◌, ℕ, suc, ◌+◌, ◌-◌, ◌≤◌, List, [], ◌∷◌, ◌++◌, All, sym, ◌∙◌, ap, subst, arith}
 use Rattle.std.proofs.lemmas.List.Elements.{All-append, All-cons, All-nil}
 use Rattle.atomic_table.specs.Table.{Me, Splits}
-use Rattle.jack_types.specs.declared.ports.Link.{Link}
+use Rattle.session_laws.specs.jack_types.specs.declared.ports.Link.{Link}
 use Rattle.activation.specs.declared.views.Duty.{Duty}
 use Rattle.activation.specs.declared.views.View.{View}
 use Rattle.activation.specs.Rule.{Rule}

@@ -6,7 +6,7 @@ use lib.ListN.{get_elem?}
 use Rattle.atomic_table.specs.Table.{State, keeps, takes, gives, step, Allows}
 use Rattle.atomic_table.proofs.Lists.{at_set, set_here}
 use Rattle.table_lemmas.proofs.Readings.{inside as within}
-use Rattle.jack_types.specs.declared.ports.Link.{Link}
+use Rattle.session_laws.specs.jack_types.specs.declared.ports.Link.{Link}
 use Rattle.activation.specs.declared.views.View.{View}
 use Rattle.activation.specs.Rule.{laid, Rule}
 use Rattle.activation.specs.Plays.{stored, lifted, laid_down, with_links, unlinked, linked}

@@ -7,8 +7,8 @@ use Rattle.std.proofs.Common.{◌≡◌, ◌≢◌, ◌<◌, ℕ, Bool, true, fa
 use mathlib.Core.Option.{some}
 use lib.ListN.{get_elem?}
 use Rattle.table_lemmas.proofs.Readings.{inside}
-use Rattle.jack_types.specs.declared.ports.Link.{Link}
-use Rattle.session_model.specs.Activation.{link_at, place_among}
+use Rattle.session_laws.specs.jack_types.specs.declared.ports.Link.{Link}
+use Rattle.session_laws.specs.session_model.specs.Activation.{link_at, place_among}
 use Rattle.activation.specs.declared.views.Tray.{Tray}
 use Rattle.activation.specs.declared.views.Duty.{Duty}
 use Rattle.activation.specs.Rule.{has}

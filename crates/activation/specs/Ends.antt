@@ -5,8 +5,8 @@ use Rattle.std.specs.Prelude.{◌≡◌, ◌<◌, ℕ, Bool, true, List, length,
 use mathlib.Core.Option.{some}
 use lib.ListN.{get_elem?}
 use Rattle.atomic_table.specs.Table.{State}
-use Rattle.jack_types.specs.declared.ports.Link.{Link}
-use Rattle.session_model.specs.Activation.{Machine, AtHome, is_released, place_of, IsConsistent}
+use Rattle.session_laws.specs.jack_types.specs.declared.ports.Link.{Link}
+use Rattle.session_laws.specs.session_model.specs.Activation.{Machine, AtHome, is_released, place_of, IsConsistent}
 use Rattle.activation.specs.declared.takens.Seat.{Seat}
 use Rattle.activation.specs.declared.views.Item.{Item}
 use Rattle.activation.specs.declared.views.View.{View}

@@ -7,8 +7,8 @@ use Rattle.std.specs.Prelude.{◌≡◌, ◌≤◌, ◌<◌, ◌+◌, ◌%◌, �
 use mathlib.Core.Option.{Option, some, none}
 use lib.ListN.{get_elem?}
 use Rattle.atomic_table.specs.Table.{State}
-use Rattle.jack_types.specs.declared.ports.Link.{Link}
-use Rattle.session_model.specs.Activation.{AreLinks, Place, Waiting, Held, Left, AtHome, Machine, link_at, is_started, is_released, place_of, IsConsistent}
+use Rattle.session_laws.specs.jack_types.specs.declared.ports.Link.{Link}
+use Rattle.session_laws.specs.session_model.specs.Activation.{AreLinks, Place, Waiting, Held, Left, AtHome, Machine, link_at, is_started, is_released, place_of, IsConsistent}
 use Rattle.activation.specs.declared.views.Duty.{Duty}
 use Rattle.activation.specs.declared.views.Hand.{Hand}
 use Rattle.activation.specs.declared.views.View.{View}

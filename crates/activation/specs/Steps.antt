@@ -4,8 +4,8 @@
 --     answer course step      the node that it takes
 --     opening nodes links seats      before any step
 use Rattle.std.specs.Prelude.{◌≤◌, ℕ, Bool, true, List, length, map, Option, Some, None}
-use Rattle.jack_types.specs.declared.ports.Link.{Link}
-use Rattle.session_model.specs.Activation.{AreLinks, Place, Waiting, Held, AtHome, Machine, Move, StartNode, ReleaseLink, HomeNode, PlayNode, Allowed, moved, node_taken, fresh, IsConsistent}
+use Rattle.session_laws.specs.jack_types.specs.declared.ports.Link.{Link}
+use Rattle.session_laws.specs.session_model.specs.Activation.{AreLinks, Place, Waiting, Held, AtHome, Machine, Move, StartNode, ReleaseLink, HomeNode, PlayNode, Allowed, moved, node_taken, fresh, IsConsistent}
 use Rattle.activation.specs.declared.stands.Stand.{Stand}
 use Rattle.activation.specs.declared.stands.Stand.TheVariants as stand
 use Rattle.activation.specs.declared.stands.Step.{Step}

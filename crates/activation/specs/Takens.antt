@@ -6,7 +6,7 @@
 use Rattle.std.specs.Prelude.{◌≡◌, ◌≤◌, ◌<◌, ℕ, Bool, true, false, List, ◌∷◌, length, map, Some, vec_capacity}
 use mathlib.Core.Option.{some}
 use lib.ListN.{get_elem?}
-use Rattle.session_model.specs.Activation.{AreLinks, link_at, incoming, place_among}
+use Rattle.session_laws.specs.session_model.specs.Activation.{AreLinks, link_at, incoming, place_among}
 use Rattle.activation.specs.declared.views.Tray.{Tray}
 use Rattle.activation.specs.declared.views.Duty.{Duty}
 use Rattle.activation.specs.Rule.{has}

@@ -2,8 +2,8 @@
 ghost use Rattle.std.specs.Prelude.{◌≡◌, ◌<◌, ◌≤◌, ◌⊎◌, ℕ, List, length, map};
 ghost use mathlib.Core.Option.{some};
 ghost use lib.ListN.{get_elem?};
-ghost use Rattle.session_model.specs.Activation.{AreLinks, outgoing};
-ghost use Rattle.session_model.specs.Samples.{below};
+ghost use Rattle.session_laws.specs.session_model.specs.Activation.{AreLinks, outgoing};
+ghost use Rattle.session_laws.specs.session_model.specs.Samples.{below};
 ghost use Rattle.activation.specs.declared.views.Tray.{Tray};
 ghost use Rattle.activation.specs.Contents.{HasRoomFor, benches_in, from_to};
 ghost use Rattle.activation.specs.Plays.{AreClear};
@@ -20,7 +20,7 @@ use crate::turns::{add_links, give_back, open_cycle, swap_benches, take_benches}
 use crate::views::{Item, View};
 use crate::work::Work;
 use atomic_table::Seat as Token;
-use jack_types::Link;
+use session_laws::jack_types::Link;
 
 impl<B: Work> Crew<B> {
     ghost use Rattle.activation.specs.Rounds.{AreSeats, HavePlayed, AreUnused, Know, AreFresh, ArePlayed, AreReturned, IsReturned};

@@ -1,12 +1,12 @@
 //! The machine as plain data, on one thread.
 ghost use Rattle.std.specs.Prelude.{◌≡◌, ◌≤◌, ◌<◌, ◌-◌, ◌+◌, ◌==◌, ◌^◌, length, map, filter, slice_index, slice_set, cond, Some, None, IfOk};
-ghost use Rattle.session_model.specs.Activation.{AreLinks, IsConsistent, incoming, link_at, no_link};
-ghost use Rattle.session_model.specs.Samples.{below};
+ghost use Rattle.session_laws.specs.session_model.specs.Activation.{AreLinks, IsConsistent, incoming, link_at, no_link};
+ghost use Rattle.session_laws.specs.session_model.specs.Samples.{below};
 ghost use Rattle.activation.specs.Steps.{Course, MayStep, behind, answer, opening, place, course_of};
 ghost use Rattle.activation.specs.declared.stands.Stand.TheVariants.{Held};
 
 use crate::stands::{Stand, Step};
-use jack_types::Link;
+use session_laws::jack_types::Link;
 use std::alloc::{AllocError, Global};
 use std::marker::Model;
 
@@ -24,7 +24,7 @@ pub struct Core {
 }
 
 impl Model for Core {
-    ghost use Rattle.session_model.specs.Activation.{IsConsistent};
+    ghost use Rattle.session_laws.specs.session_model.specs.Activation.{IsConsistent};
     ghost use Rattle.activation.specs.Steps.{Course, IsCourse, course_of};
 
     ghost Value = { Course };

@@ -5,8 +5,8 @@ ghost use Rattle.activation.specs.Plays.{IsSlotOf, Owns, out_after, open_after, 
 ghost use Rattle.activation.specs.declared.views.Item.TheVariants.{Value};
 ghost use mathlib.Core.Option.{some};
 ghost use lib.ListN.{get_elem?};
-ghost use Rattle.session_model.specs.Activation.{AreLinks, link_at, incoming, outgoing, place_among};
-ghost use Rattle.session_model.specs.Samples.{below};
+ghost use Rattle.session_laws.specs.session_model.specs.Activation.{AreLinks, link_at, incoming, outgoing, place_among};
+ghost use Rattle.session_laws.specs.session_model.specs.Samples.{below};
 ghost use Rattle.activation.specs.Contents.{IsFull, IsDone, HasRoomFor, IsValueOf, AreValuesOf, most_links};
 ghost use Rattle.activation.specs.Takens.{IsUnplayed, IsPlayed, with_started, with_held, with_released, with_home};
 ghost use Rattle.activation.specs.Seats.{IsIdle, IsShape, new_duty};
@@ -18,7 +18,7 @@ use crate::takens::{Seat, Taken};
 use crate::views::{Item, Size, Tray, View};
 use crate::work::Work;
 use atomic_table::{Seat as Token, Table};
-use jack_types::Link;
+use session_laws::jack_types::Link;
 use std::alloc::{AllocError, Global};
 use std::sync::Mutex;
 

@@ -1,6 +1,6 @@
 //! How all seats of a crew become one, and one is shared out again.
 ghost use Rattle.std.specs.Prelude.{◌≡◌, ◌<◌, ◌≤◌, ◌+◌, ℕ, List, [], ◌∷◌, length, map, All, true};
-ghost use Rattle.session_model.specs.Samples.{below};
+ghost use Rattle.session_laws.specs.session_model.specs.Samples.{below};
 ghost use Rattle.activation.specs.Contents.{from_to};
 ghost use Rattle.activation.specs.Seats.{IsIdle, IsAt, IsShare, new_duty};
 ghost use Rattle.activation.specs.Crews.{AreAllOf};

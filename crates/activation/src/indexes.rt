@@ -1,11 +1,11 @@
 //! Which links go into each node and out from it, and the place of each link among those that go out from its node.
 ghost use Rattle.std.specs.Prelude.{◌≡◌, ◌≤◌, ◌<◌, ◌++◌, [], ◌∷◌, length, map, All, IfOk, vec_capacity};
-ghost use Rattle.session_model.specs.Activation.{AreLinks, incoming, outgoing, place_among, link_at};
-ghost use Rattle.session_model.specs.Samples.{below};
+ghost use Rattle.session_laws.specs.session_model.specs.Activation.{AreLinks, incoming, outgoing, place_among, link_at};
+ghost use Rattle.session_laws.specs.session_model.specs.Samples.{below};
 ghost use Rattle.activation.specs.Contents.{AreEmpty};
 ghost use Rattle.activation.specs.Indexes.{IsIndex};
 
-use jack_types::Link;
+use session_laws::jack_types::Link;
 use std::alloc::{AllocError, Global};
 
 /// By node an empty list, with the room for the positions of all links.

@@ -1,6 +1,6 @@
 //! How a seat leaves a node to the others, and picks one that was left.
 ghost use Rattle.std.specs.Prelude.{◌≡◌, ◌<◌, ◌+◌, ℕ, true, false, List, [], length, Some, IfSome, IsNone, vec_capacity};
-ghost use Rattle.session_model.specs.Activation.{link_at, incoming};
+ghost use Rattle.session_laws.specs.session_model.specs.Activation.{link_at, incoming};
 ghost use Rattle.activation.specs.Rule.{has};
 ghost use Rattle.activation.specs.Plays.{Owns, refill_after};
 ghost use Rattle.activation.specs.Contents.{IsFull, AreValuesOf};

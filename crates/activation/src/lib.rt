@@ -22,6 +22,7 @@ mod work;
 
 pub use cores::Core;
 pub use crews::Crew;
+pub use session_laws::jack_types;
 pub use stands::{Stand, Step};
 pub use takens::{Seat, Taken};
 pub use work::Work;

@@ -1,7 +1,7 @@
 //! How a crew is made.
 ghost use Rattle.std.specs.Prelude.{◌≡◌, ◌≤◌, ◌<◌, ◌+◌, ℕ, List, [], ◌∷◌, length, map, All, IfOk, vec_capacity};
-ghost use Rattle.session_model.specs.Activation.{AreLinks, incoming, outgoing, place_among};
-ghost use Rattle.session_model.specs.Samples.{below};
+ghost use Rattle.session_laws.specs.session_model.specs.Activation.{AreLinks, incoming, outgoing, place_among};
+ghost use Rattle.session_laws.specs.session_model.specs.Samples.{below};
 ghost use Rattle.activation.specs.Contents.{AreEmpty, first_view, from_to};
 ghost use Rattle.activation.specs.Seats.{IsIdle, IsShare, new_duty};
 
@@ -13,7 +13,7 @@ use crate::turns::open_cycle;
 use crate::views::{Item, Size, View};
 use crate::work::Work;
 use atomic_table::{Seat as Token, Table};
-use jack_types::Link;
+use session_laws::jack_types::Link;
 use std::alloc::{AllocError, Global};
 
 /// All that a crew takes memory for.

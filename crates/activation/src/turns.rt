@@ -2,8 +2,8 @@
 ghost use Rattle.std.specs.Prelude.{◌≡◌, ◌<◌, ◌≤◌, ◌+◌, ◌-◌, ◌++◌, ℕ, List, [], ◌∷◌, length, map, slice_set, Some, None, vec_capacity, ◌≢◌, true, false};
 ghost use mathlib.Core.Option.{some};
 ghost use lib.ListN.{get_elem?};
-ghost use Rattle.session_model.specs.Activation.{AreLinks, place_among};
-ghost use Rattle.session_model.specs.Samples.{below};
+ghost use Rattle.session_laws.specs.session_model.specs.Activation.{AreLinks, place_among};
+ghost use Rattle.session_laws.specs.session_model.specs.Samples.{below};
 ghost use Rattle.activation.specs.declared.views.Tray.{Tray};
 ghost use Rattle.activation.specs.declared.views.Item.TheVariants.{Value};
 ghost use Rattle.activation.specs.Contents.{AreLaid, HasRoomFor, benches_of, from_to};
@@ -17,7 +17,7 @@ use crate::rules::{AddLink, Begin, CrewRule, Unlink};
 use crate::views::{Item, Size, Tray, View};
 use crate::work::Work;
 use atomic_table::{Seat as Token, Table};
-use jack_types::Link;
+use session_laws::jack_types::Link;
 use std::alloc::Global;
 use std::mem;
 

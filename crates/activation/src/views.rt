@@ -3,7 +3,7 @@
 //! Slot n is the bench of node n, and slot `nodes` + k the value of link k. Each slot has a word of the
 //! same number, by which a load says which slot it means; word n is the counter of node n as well. Word
 //! `nodes` + 512 is the count of benches out, and word `nodes` + 513 + n is 1 while node n is left, and else 0.
-use jack_types::Link;
+use session_laws::jack_types::Link;
 use std::collections::LinkedList;
 
 /// A bench with the room for the values that it is given.

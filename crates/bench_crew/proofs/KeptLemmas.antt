@@ -5,9 +5,9 @@ use Rattle.jack_types.specs.declared.kinds.Kind.TheVariants.{Pass}
 use Rattle.jack_types.specs.declared.ports.Link.{Link}
 use Rattle.session_model.specs.Activation.{sequential}
 use Rattle.session_model.specs.Kinds.{Sound}
-use Rattle.activation.specs.Rounds.{AreReturned}
-use Rattle.activation.proofs.Returned.{room_returned}
-use Rattle.client_kinds.specs.Scores.{Score}
+use Rattle.client_benches.specs.activation.specs.Rounds.{AreReturned}
+use Rattle.client_benches.specs.activation.proofs.Returned.{room_returned}
+use Rattle.client_benches.specs.client_kinds.specs.Scores.{Score}
 use Rattle.client_benches.specs.Seen.{Seen, has_room_at, kept_after, kept_gives, new_bench}
 use Rattle.bench_crew.specs.Ensembles.{bench_of}
 

@@ -13,9 +13,9 @@ use native.Mathlib.Decide.{ℕ_discrete}
 use Rattle.jack_types.specs.declared.ports.Link.{Link}
 use Rattle.session_model.specs.Activation.{link_at, place_among}
 use Rattle.session_model.specs.Samples.{below}
-use Rattle.session_laws.proofs.SequentialLemmas.{length-below}
-use Rattle.session_laws.proofs.ActivationLemmas.{length-map_below, get_or-map_below}
-use Rattle.activation.proofs.Listed.{all_set}
+use Rattle.steal_workers.specs.session_laws.proofs.SequentialLemmas.{length-below}
+use Rattle.steal_workers.specs.session_laws.proofs.ActivationLemmas.{length-map_below, get_or-map_below}
+use Rattle.client_benches.specs.activation.proofs.Listed.{all_set}
 use Rattle.bench_crew.specs.Listings.{AreListed, AreCounted}
 
 pub listed-none : (links : List Link) (into : List (Vec ℕ)) → All (λ (which : Vec ℕ). (which.items ≡ []) × (512 ≤ vec_capacity which)) into → AreListed links 0 into

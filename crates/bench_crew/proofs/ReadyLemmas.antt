@@ -2,8 +2,8 @@
 use Rattle.std.proofs.Common.{◌≡◌, ℕ, List, ap, sym, subst}
 use Rattle.atomic_table.specs.Seated.{TableId}
 use Rattle.jack_types.specs.declared.ports.Link.{Link}
-use Rattle.activation.specs.declared.takens.Seat.{Seat}
-use Rattle.activation.specs.Rounds.{AreSeats, AreFresh, AreUnused, Know}
+use Rattle.client_benches.specs.activation.specs.declared.takens.Seat.{Seat}
+use Rattle.client_benches.specs.activation.specs.Rounds.{AreSeats, AreFresh, AreUnused, Know}
 use Rattle.bench_crew.specs.Ensembles.{AreReady}
 
 module _ {B Y M : Type 0} where

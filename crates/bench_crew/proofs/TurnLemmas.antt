@@ -14,13 +14,13 @@ use Rattle.table_lemmas.proofs.Readings.{at_get, get_at, inside}
 use Rattle.jack_types.specs.declared.ports.Link.{Link}
 use Rattle.session_model.specs.Activation.{AreLinks, no_link, link_at, incoming, outgoing, place_among, value_of, sequential, given_to}
 use Rattle.session_model.specs.Samples.{below}
-use Rattle.session_laws.proofs.CycleLemmas.{map_filter-same}
-use Rattle.session_laws.proofs.SequentialLemmas.{outgoing_at, Contains-below, given_to-values}
-use Rattle.activation.specs.Values.{values_of}
-use Rattle.activation.specs.Contents.{Tells}
-use Rattle.activation.specs.Rounds.{AreReturned}
-use Rattle.activation.proofs.Listed.{each_at, incoming-facts, incoming-rises, incoming-short}
-use Rattle.cycle_workers.specs.Runs.{HaveRoom}
+use Rattle.steal_workers.specs.session_laws.proofs.CycleLemmas.{map_filter-same}
+use Rattle.steal_workers.specs.session_laws.proofs.SequentialLemmas.{outgoing_at, Contains-below, given_to-values}
+use Rattle.client_benches.specs.activation.specs.Values.{values_of}
+use Rattle.client_benches.specs.activation.specs.Contents.{Tells}
+use Rattle.client_benches.specs.activation.specs.Rounds.{AreReturned}
+use Rattle.client_benches.specs.activation.proofs.Listed.{each_at, incoming-facts, incoming-rises, incoming-short}
+use Rattle.steal_workers.specs.cycle_workers.specs.Runs.{HaveRoom}
 use Rattle.bench_crew.specs.Turns.{IsRow, IsApart, ShowRoom, handed, AreLike, IsTurn, AreInOrder}
 
 -- ---- rows of links

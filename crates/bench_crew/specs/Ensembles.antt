@@ -7,8 +7,8 @@ use Rattle.std.specs.Prelude.{◌≡◌, ℕ, List, length, slice_index_or, Opti
 use Rattle.atomic_table.specs.Seated.{TableId}
 use Rattle.jack_types.specs.declared.kinds.Kind.TheVariants.{Pass}
 use Rattle.jack_types.specs.declared.ports.Link.{Link}
-use Rattle.activation.specs.declared.takens.Seat.{Seat}
-use Rattle.activation.specs.Rounds.{AreSeats, AreFresh}
+use Rattle.client_benches.specs.activation.specs.declared.takens.Seat.{Seat}
+use Rattle.client_benches.specs.activation.specs.Rounds.{AreSeats, AreFresh}
 use Rattle.client_benches.specs.Seen.{Seen, new_bench}
 use Rattle.steal_workers.specs.declared.tallies.Tally.{Tally}
 

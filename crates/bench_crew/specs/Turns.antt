@@ -9,7 +9,7 @@
 use Rattle.std.specs.Prelude.{◌≡◌, ◌≢◌, ◌≤◌, ◌<◌, ℕ, Bool, List, length, map, slice_index, slice_index_or}
 use Rattle.jack_types.specs.declared.ports.Link.{Link}
 use Rattle.session_model.specs.Activation.{link_at, incoming, place_among, value_of, sequential}
-use Rattle.activation.specs.Contents.{Tells}
+use Rattle.client_benches.specs.activation.specs.Contents.{Tells}
 
 pub record IsRow (links : List Link) (which : List ℕ) : Type 0 where
   pub within : (j : ℕ) → j < length which → slice_index which j < length links

@@ -1,12 +1,12 @@
 //! A cycle by one seat: each node is played behind its sources, since links go upward.
 ghost use Rattle.std.specs.Prelude.{◌≡◌, ◌≤◌, ◌<◌, ℕ, true, false, [], length, map, Some, All, IsSome, slice_index_or, vec_capacity};
 ghost use Rattle.session_model.specs.Activation.{link_at, place_among};
-ghost use Rattle.activation.specs.Rounds.{AreReturned};
-ghost use Rattle.cycle_workers.specs.Runs.{HaveRoom};
+ghost use Rattle.client_benches.specs.activation.specs.Rounds.{AreReturned};
+ghost use Rattle.steal_workers.specs.cycle_workers.specs.Runs.{HaveRoom};
 ghost use Rattle.bench_crew.specs.Turns.{IsRow, IsApart, ShowRoom, AreLike, IsTurn};
 
 use crate::sources::Sources;
-use activation::Work;
+use client_benches::activation::Work;
 use jack_host::Gate;
 
 /// Hands out the values of these links, in their order.

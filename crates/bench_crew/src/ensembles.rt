@@ -1,9 +1,9 @@
 //! A crew of clients' benches, with its seats.
 ghost use Rattle.std.specs.Prelude.{◌≡◌, ◌≤◌, ◌<◌, ℕ, All, IfOk, IfSome, length};
 ghost use Rattle.session_model.specs.Activation.{AreLinks, sequential};
-ghost use Rattle.activation.specs.Rounds.{AreReturned};
+ghost use Rattle.client_benches.specs.activation.specs.Rounds.{AreReturned};
 ghost use Rattle.client_benches.specs.Seen.{has_room_at, kept_after, kept_gives};
-ghost use Rattle.cycle_workers.specs.Runs.{HaveRoom};
+ghost use Rattle.steal_workers.specs.cycle_workers.specs.Runs.{HaveRoom};
 ghost use Rattle.bench_crew.specs.Ensembles.{HaveDeques, bench_of};
 ghost use Rattle.bench_crew.specs.Meanings.{ensembled_of, seats_of, IsReady, IsReadyTeam};
 
@@ -11,9 +11,9 @@ use crate::alone::play_in_order;
 use crate::playing::play_over;
 use crate::sharing::{Load, Worth};
 use crate::sources::Sources;
-use activation::{Crew, Seat};
+use client_benches::activation::{Crew, Seat};
+use client_benches::client_kinds::Guest;
 use client_benches::{ClientBench, Rooms};
-use client_kinds::Guest;
 use jack_host::Gate;
 use jack_types::{Kind, Link, Memory};
 use std::alloc::Global;

@@ -8,5 +8,7 @@ mod playing;
 mod sharing;
 mod sources;
 
+pub use client_benches;
+pub use client_benches::client_kinds;
 pub use ensembles::Ensemble;
 pub use sharing::Load;

@@ -3,7 +3,7 @@ ghost use Rattle.std.specs.Prelude.{◌≡◌, ◌≤◌, ◌↔◌, IsTrue, len
 ghost use Rattle.session_model.specs.Activation.{AreLinks};
 ghost use Rattle.bench_crew.specs.Ensembles.{AreReady};
 
-use activation::{Crew, Seat, Work};
+use client_benches::activation::{Crew, Seat, Work};
 use jack_types::Link;
 
 /// Whether these are the links that were listed last.

@@ -1,16 +1,16 @@
 //! A cycle over benches that lie outside the crew.
 ghost use Rattle.std.specs.Prelude.{◌≡◌, ◌≤◌, ℕ, List, length};
 ghost use Rattle.session_model.specs.Activation.{AreLinks};
-ghost use Rattle.activation.specs.Rounds.{AreSeats, AreFresh, AreReturned, HavePlayed, Know};
-ghost use Rattle.cycle_workers.specs.Runs.{HaveRoom};
+ghost use Rattle.client_benches.specs.activation.specs.Rounds.{AreSeats, AreFresh, AreReturned, HavePlayed, Know};
+ghost use Rattle.steal_workers.specs.cycle_workers.specs.Runs.{HaveRoom};
 ghost use Rattle.bench_crew.specs.Ensembles.{AreReady, HaveDeques};
 
 use crate::linking::relink;
-use activation::{Crew, Seat, Work};
-use cycle_workers::run_cycle;
+use client_benches::activation::{Crew, Seat, Work};
 use jack_host::Gate;
 use jack_types::Link;
 use std::thread::Threads;
+use steal_workers::cycle_workers::run_cycle;
 use steal_workers::{Thieves, steal_cycle};
 
 /// Plays every node of the crew once. Where there are thieves, its seats take each other's nodes.

@@ -3,7 +3,7 @@ ghost use Rattle.std.specs.Prelude.{◌≡◌, ◌≤◌, ◌<◌};
 
 use crate::sources::Sources;
 use client_benches::ClientBench;
-use client_kinds::Guest;
+use client_benches::client_kinds::Guest;
 
 /// The work of a cycle that is worth the start of threads, and what each of them asks for besides.
 const LEAST_WORK: u64 = 400_000;

@@ -17,10 +17,10 @@ use Rattle.session_model.specs.Activation.{AreLinks, link_at, place_among, seque
 use Rattle.session_model.specs.Benches.{Signal}
 use Rattle.session_model.specs.Kinds.{Sound}
 use Rattle.session_model.specs.Samples.{below}
-use Rattle.client_kinds.specs.Scores.{Score}
-use Rattle.client_benches.specs.Seen.{Remembered, Seen, has_room_at, kept_after, kept_gives, new_bench, room_count}
-use Rattle.client_benches.specs.Wires.{kept_count}
-use Rattle.cycle_workers.specs.Runs.{HaveRoom}
+use Rattle.bench_crew.specs.client_kinds.specs.Scores.{Score}
+use Rattle.bench_crew.specs.client_benches.specs.Seen.{Remembered, Seen, has_room_at, kept_after, kept_gives, new_bench, room_count}
+use Rattle.bench_crew.specs.client_benches.specs.Wires.{kept_count}
+use Rattle.bench_crew.specs.cycle_workers.specs.Runs.{HaveRoom}
 use Rattle.bench_rack.specs.Insides.{IsWhole, bench_among, racked}
 use Rattle.bench_rack.proofs.SequentialLemmas.{sequential-same}
 

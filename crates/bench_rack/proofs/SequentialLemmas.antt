@@ -5,8 +5,8 @@ use Rattle.std.specs.Prelude.{◌==◌}
 use Rattle.jack_types.specs.declared.ports.Link.{Link}
 use Rattle.session_model.specs.Activation.{AreLinks, given_within, link_at, no_link, place_among, sequential}
 use Rattle.session_model.specs.Samples.{below}
-use Rattle.session_laws.proofs.CycleLemmas.{map_filter-same}
-use Rattle.session_laws.proofs.SequentialLemmas.{Contains-below}
+use Rattle.bench_crew.specs.session_laws.proofs.CycleLemmas.{map_filter-same}
+use Rattle.bench_crew.specs.session_laws.proofs.SequentialLemmas.{Contains-below}
 
 module _ {M V : Type 0} (after : M → List V → M) (gives : M → List V → ℕ → V) (nodes : ℕ) (links : List Link) (are : AreLinks nodes links) (before other : ℕ → M) (same : (m : ℕ) → m < nodes → before m ≡ other m) where
   is_lower : (l : ℕ) → l < length links → (link_at links l).from < nodes

@@ -13,12 +13,12 @@ use Rattle.jack_types.specs.declared.kinds.Kind.{Kind}
 use Rattle.jack_types.specs.declared.kinds.Kind.TheVariants.{Pass}
 use Rattle.session_model.specs.Benches.{Signal}
 use Rattle.session_model.specs.Samples.{below}
-use Rattle.client_benches.specs.declared.wires.Source.{Source}
-use Rattle.client_benches.specs.declared.wires.Source.TheVariants.{Carried, Kept, Like}
-use Rattle.client_benches.specs.declared.wires.Wire.{Wire}
-use Rattle.client_benches.specs.Seen.{Remembered, Seen, new_bench, room_at, room_count}
-use Rattle.client_benches.specs.Wires.{filled_with, is_kept, kept_count, no_wire, wire_at, with_samples}
-use Rattle.client_benches.proofs.CountLemmas.{room_count-is}
+use Rattle.bench_crew.specs.client_benches.specs.declared.wires.Source.{Source}
+use Rattle.bench_crew.specs.client_benches.specs.declared.wires.Source.TheVariants.{Carried, Kept, Like}
+use Rattle.bench_crew.specs.client_benches.specs.declared.wires.Wire.{Wire}
+use Rattle.bench_crew.specs.client_benches.specs.Seen.{Remembered, Seen, new_bench, room_at, room_count}
+use Rattle.bench_crew.specs.client_benches.specs.Wires.{filled_with, is_kept, kept_count, no_wire, wire_at, with_samples}
+use Rattle.bench_crew.specs.client_benches.proofs.CountLemmas.{room_count-is}
 use Rattle.bench_rack.specs.Racks.{Racked, bench_at, link_total, linked, wire_total}
 
 pub room_count-rooms : (seen other : Seen) → seen.rooms ≡ other.rooms → room_count seen ≡ room_count other

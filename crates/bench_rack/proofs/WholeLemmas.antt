@@ -15,8 +15,8 @@ use Rattle.std.proofs.lemmas.List.{get_or-set_same, get_or_default, get_or_read,
 use Rattle.jack_types.specs.declared.kinds.Kind.TheVariants.{Pass}
 use Rattle.jack_types.specs.declared.kinds.Kind.{Kind}
 use Rattle.session_model.specs.Benches.{Signal}
-use Rattle.client_benches.specs.Seen.{Seen, new_bench, room_count}
-use Rattle.client_benches.specs.Wires.{kept_count}
+use Rattle.bench_crew.specs.client_benches.specs.Seen.{Seen, new_bench, room_count}
+use Rattle.bench_crew.specs.client_benches.specs.Wires.{kept_count}
 use Rattle.bench_rack.specs.Insides.{IsWhole, bench_among, racked}
 use Rattle.bench_rack.specs.Racks.{Racked, bench_at, link_total, wire_total, with_bench}
 use Rattle.bench_rack.proofs.TotalLemmas.{links-fresh, links-most, links-set, room_count-rooms, wires-fresh, wires-most, wires-set}

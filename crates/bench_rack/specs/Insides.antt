@@ -6,7 +6,7 @@ use Rattle.std.specs.Prelude.{◌≡◌, ℕ, ◌+◌, ◌≤◌, List, ℤ, len
 use Rattle.std.specs.Global.{Vec}
 use Rattle.jack_types.specs.declared.kinds.Kind.TheVariants.{Pass}
 use Rattle.session_model.specs.Benches.{Signal}
-use Rattle.client_benches.specs.Seen.{Seen, new_bench}
+use Rattle.bench_crew.specs.client_benches.specs.Seen.{Seen, new_bench}
 use Rattle.bench_rack.specs.Racks.{Racked, link_total, wire_total}
 
 abbrev pub racked : List Seen → ℕ → Racked

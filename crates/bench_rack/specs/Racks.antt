@@ -7,11 +7,11 @@
 use Rattle.std.specs.Prelude.{ℕ, List, Option, [], ◌∷◌, ◌++◌, ℤ, Some, option_map, slice_index_or, slice_set, sum_by}
 use Rattle.jack_types.specs.declared.kinds.Kind.TheVariants.{Pass}
 use Rattle.jack_types.specs.declared.moments.Moment.{Moment}
-use Rattle.client_benches.specs.Seen.{Seen, moved_to, new_bench, room_count}
-use Rattle.client_benches.specs.Wires.{kept_count, with_samples}
-use Rattle.client_kinds.specs.Buffers.{channels_of}
-use Rattle.client_benches.specs.declared.benches.Stint.{Stint}
-use Rattle.client_benches.specs.declared.wires.Source.TheVariants.{Carried, Kept, Like}
+use Rattle.bench_crew.specs.client_benches.specs.Seen.{Seen, moved_to, new_bench, room_count}
+use Rattle.bench_crew.specs.client_benches.specs.Wires.{kept_count, with_samples}
+use Rattle.bench_crew.specs.client_kinds.specs.Buffers.{channels_of}
+use Rattle.bench_crew.specs.client_benches.specs.declared.benches.Stint.{Stint}
+use Rattle.bench_crew.specs.client_benches.specs.declared.wires.Source.TheVariants.{Carried, Kept, Like}
 
 pub record Racked : Type 0 where
   pub benches : List Seen

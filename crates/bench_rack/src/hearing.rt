@@ -5,8 +5,8 @@ ghost use Rattle.bench_rack.specs.Insides.{bench_among};
 ghost use Rattle.bench_rack.specs.Racks.{filled};
 
 use crate::racks::Rack;
-use client_benches::{ClientBench, Room};
-use client_kinds::Guest;
+use bench_crew::client_benches::{ClientBench, Room};
+use bench_crew::client_kinds::Guest;
 
 /// Takes one of the spare rooms, with nothing in it.
 fn take_room(spare: &mut Vec<Room>) -> Room

@@ -8,4 +8,6 @@ mod racks;
 mod reading;
 mod setting;
 
+pub use bench_crew;
+pub use bench_crew::{client_benches, client_kinds};
 pub use racks::Rack;

@@ -3,8 +3,8 @@
 ghost use Rattle.std.specs.Prelude.{◌≡◌, ◌+◌, ◌<◌, length, vec_capacity};
 
 use crate::racks::Rack;
-use client_benches::Rooms;
-use client_kinds::Guest;
+use bench_crew::client_benches::Rooms;
+use bench_crew::client_kinds::Guest;
 
 /// Takes the spare rooms of a link.
 fn take_rooms(spare: &mut Vec<Rooms>) -> Rooms
@@ -20,7 +20,7 @@ fn take_rooms(spare: &mut Vec<Rooms>) -> Rooms
 impl<G: Guest> Rack<G> {
     ghost use Rattle.std.specs.Prelude.{◌≡◌, ◌<◌, IfSome, None, length};
     ghost use Rattle.std.specs.Option.{ForSome};
-    ghost use Rattle.client_benches.specs.Seen.{room_at};
+    ghost use Rattle.bench_crew.specs.client_benches.specs.Seen.{room_at};
     ghost use Rattle.bench_rack.specs.Racks.{bench_at, carrying, link_total, linked, with_bench};
 
     /// Gives a bench the room of its outgoing link of this place.

@@ -2,13 +2,13 @@
 
 ghost use Rattle.std.specs.Prelude.{◌≡◌, ◌<◌, ◌≤◌, ℕ, length, true};
 ghost use Rattle.session_model.specs.Activation.{AreLinks, link_at, place_among, sequential};
-ghost use Rattle.client_benches.specs.Seen.{has_room_at, kept_after, kept_gives};
+ghost use Rattle.bench_crew.specs.client_benches.specs.Seen.{has_room_at, kept_after, kept_gives};
 ghost use Rattle.bench_rack.specs.Insides.{bench_among};
 
 use crate::racks::Rack;
+use bench_crew::client_benches::ClientBench;
+use bench_crew::client_kinds::Guest;
 use bench_crew::{Ensemble, Load};
-use client_benches::ClientBench;
-use client_kinds::Guest;
 use jack_host::Gate;
 use jack_types::Link;
 use std::thread::Threads;

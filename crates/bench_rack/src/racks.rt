@@ -1,11 +1,11 @@
 //! The rack.
 
 ghost use Rattle.std.specs.Prelude.{◌≡◌, ◌≤◌, All, IfOk, [], length, map, replicate, vec_capacity};
-ghost use Rattle.client_benches.specs.Seen.{new_bench};
-ghost use Rattle.client_kinds.specs.Standings.{IsPlayable};
+ghost use Rattle.bench_crew.specs.client_benches.specs.Seen.{new_bench};
+ghost use Rattle.bench_crew.specs.client_kinds.specs.Standings.{IsPlayable};
 
-use client_benches::{ClientBench, MOST_CONNECTIONS, Room, Rooms};
-use client_kinds::Guest;
+use bench_crew::client_benches::{ClientBench, MOST_CONNECTIONS, Room, Rooms};
+use bench_crew::client_kinds::Guest;
 use jack_types::{Kind, Memory};
 use std::alloc::Global;
 use std::marker::Model;

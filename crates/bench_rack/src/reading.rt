@@ -1,8 +1,8 @@
 //! What is read of the benches of a rack.
 
 use crate::racks::Rack;
-use client_benches::ClientBench;
-use client_kinds::Guest;
+use bench_crew::client_benches::ClientBench;
+use bench_crew::client_kinds::Guest;
 use jack_types::Kind;
 
 impl<G: Guest> Rack<G> {

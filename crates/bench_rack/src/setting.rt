@@ -1,17 +1,17 @@
 //! How the benches of a rack are set.
 
 use crate::racks::Rack;
-use client_benches::Stint;
-use client_kinds::{Guest, Shape};
+use bench_crew::client_benches::Stint;
+use bench_crew::client_kinds::{Guest, Shape};
 use jack_types::Moment;
 
 impl<G: Guest> Rack<G> {
     ghost use Rattle.std.specs.Prelude.{◌≡◌, ◌*◌, ◌<◌, ◌≤◌, [], IfNone, IfSome, List, None, Some, false, length, map, slice_set};
     ghost use Rattle.std.specs.Option.{ForSome};
     ghost use Rattle.session_model.specs.Kinds.{first};
-    ghost use Rattle.client_kinds.specs.Scores.{Score};
-    ghost use Rattle.client_kinds.specs.Standings.{HasScore, IsDisk, IsGuest};
-    ghost use Rattle.client_benches.specs.Seen.{MayPlay, cleared, moved_to, rested};
+    ghost use Rattle.bench_crew.specs.client_kinds.specs.Scores.{Score};
+    ghost use Rattle.bench_crew.specs.client_kinds.specs.Standings.{HasScore, IsDisk, IsGuest};
+    ghost use Rattle.bench_crew.specs.client_benches.specs.Seen.{MayPlay, cleared, moved_to, rested};
     ghost use Rattle.bench_rack.specs.Racks.{begun, bench_at, fed_with, moved, with_bench};
 
     /// Exchanges the benches at two places.

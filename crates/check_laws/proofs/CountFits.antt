@@ -12,7 +12,7 @@ use Rattle.jack_types.specs.declared.replies.Reply.{Reply}
 use Rattle.jack_types.specs.declared.replies.Reply.TheVariants.{Accepted, Refused, Latency}
 use Rattle.session_model.specs.Histories.{LegalSoFar, accepted, change_of, calls_of}
 use Rattle.session_model.specs.Scripts.{Script, Planned, planned, planned_of}
-use Rattle.session_laws.proofs.ListLemmas.{Each, Each-weaker, Each-all, Each-map, Each-filter, Each-filter_kept, Each-both, filter-twice, filter-same}
+use Rattle.grammar_laws.specs.session_laws.proofs.ListLemmas.{Each, Each-weaker, Each-all, Each-map, Each-filter, Each-filter_kept, Each-both, filter-twice, filter-same}
 use Rattle.check_model.specs.Checking.{calls_that}
 use Rattle.check_laws.proofs.SameLemmas.{Each-from_all}
 

@@ -11,7 +11,7 @@ use Rattle.session_model.specs.Grammar.{IsScript}
 use Rattle.session_model.specs.Reports.{Report, PrintedCycle, PrintedRecorder, PrintedDisk, report_lines}
 use Rattle.session_model.specs.Samples.{below}
 use Rattle.session_model.specs.Scripts.{Script, turns, planned}
-use Rattle.session_laws.proofs.ActivationLemmas.{length-map_below}
+use Rattle.grammar_laws.specs.session_laws.proofs.ActivationLemmas.{length-map_below}
 use Rattle.report_texts.proofs.SameReportLemmas.{turns-few}
 use Rattle.check_model.specs.Checking.{IsForm, IsRight, IsCycleLine, IsRecorderLine, IsDiskLine, IsFirstNot, AllRight, DifferAt, IsPlaceIn, IsFirstWrong, BeginsReport, SameAt, counted_number, ended_lines, parts, explained, all_overruns, all_underruns, all_turned, recorder_blocks, disk_blocks, printed_of}
 use Rattle.check_laws.proofs.PlaceLists.{none-some, some-same, slice-past, slice-inside, map-at}

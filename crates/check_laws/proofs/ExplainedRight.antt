@@ -19,9 +19,9 @@ use Rattle.session_model.specs.Replies.{reply}
 use Rattle.session_model.specs.Reports.{Report, PrintedCycle, PrintedRecorder, PrintedDisk, report_of, printed_call, printed_cycle, printed_recorder, printed_disk}
 use Rattle.session_model.specs.Samples.{below}
 use Rattle.session_model.specs.Scripts.{Script, Planned, turns, planned, planned_of}
-use Rattle.session_laws.proofs.GraphLemmas.{Contains-take}
-use Rattle.session_laws.proofs.ListLemmas.{Each, Each-contains, Each-from_contains, Each-below, Contains-kept, Contains-filtered, Contains-map, map-take}
-use Rattle.session_laws.proofs.SerialLemmas.{plan_of-planned}
+use Rattle.grammar_laws.specs.session_laws.proofs.GraphLemmas.{Contains-take}
+use Rattle.grammar_laws.specs.session_laws.proofs.ListLemmas.{Each, Each-contains, Each-from_contains, Each-below, Contains-kept, Contains-filtered, Contains-map, map-take}
+use Rattle.grammar_laws.specs.session_laws.proofs.SerialLemmas.{plan_of-planned}
 use Rattle.check_model.specs.Checking.{IsRight, IsCallRight, IsCycleInTurn, IsOverrunRight, IsUnderrunRight, SameAt, AllRight, printed_of, history_of, entry_of, recorder_blocks, disk_blocks, all_overruns, all_underruns, all_turned}
 use Rattle.check_laws.proofs.PlaceLists.{none-some, slice-at, slice-map, length-map, All-from_get, All-get, Found, flat-found, strictly-get, nondecreasing-get, take-twice, map-at}
 use Rattle.check_laws.proofs.SameLemmas.{Each-from_all}

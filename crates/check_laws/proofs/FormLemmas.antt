@@ -25,10 +25,10 @@ use Rattle.session_model.specs.Reports.{Report, PrintedCycle, PrintedEvent, Prin
 use Rattle.session_model.specs.Samples.{below}
 use Rattle.session_model.specs.Scripts.{Script, Planned, turns, planned}
 use Rattle.session_model.specs.State.{opening}
-use Rattle.session_laws.proofs.ActivationLemmas.{length-map_below, length-below}
-use Rattle.session_laws.proofs.ListLemmas.{Each, Each-weaker, Each-map, Each-flat_map, Each-contains, Each-at, slice_get-map}
+use Rattle.grammar_laws.specs.session_laws.proofs.ActivationLemmas.{length-map_below, length-below}
+use Rattle.grammar_laws.specs.session_laws.proofs.ListLemmas.{Each, Each-weaker, Each-map, Each-flat_map, Each-contains, Each-at, slice_get-map}
 use Rattle.report_texts.proofs.SameReportLemmas.{planned-few, turns-few, IsPlanned, filter_map-shorter, filter-shorter}
-use Rattle.session_laws.proofs.SerialLossLemmas.{All-from_each}
+use Rattle.grammar_laws.specs.session_laws.proofs.SerialLossLemmas.{All-from_each}
 use Rattle.check_model.specs.Checking.{IsForm, IsReplyForm, IsCallLine, IsCycleLine, IsMeterLine, IsEventLine, IsOverrunLine, IsUnderrunLine, IsRecorderLine, IsDiskLine, opens_meter, opens_log}
 use Rattle.check_laws.proofs.CountFits.{count-cons, calls-few}
 use Rattle.check_laws.proofs.ExplainedRight.{legal-planned}

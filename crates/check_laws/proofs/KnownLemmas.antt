@@ -8,9 +8,9 @@ use Rattle.jack_types.specs.declared.replies.Entry.{Entry}
 use Rattle.session_model.specs.Histories.{plan_of}
 use Rattle.session_model.specs.Reports.{PrintedCall, printed_call}
 use Rattle.session_model.specs.Scripts.{Script, Planned, planned}
-use Rattle.session_laws.proofs.CycleLemmas.{find-passes}
-use Rattle.session_laws.proofs.ListLemmas.{Each, Each-weaker, filter-all, filter-none}
-use Rattle.session_laws.proofs.LoopLemmas.{and_parts}
+use Rattle.grammar_laws.specs.session_laws.proofs.CycleLemmas.{find-passes}
+use Rattle.grammar_laws.specs.session_laws.proofs.ListLemmas.{Each, Each-weaker, filter-all, filter-none}
+use Rattle.grammar_laws.specs.session_laws.proofs.LoopLemmas.{and_parts}
 use Rattle.check_model.specs.Checking.{SameAt, entry_of, history_of, no_command}
 use Rattle.check_laws.proofs.PlaceLists.{none-some, some-same, slice-ext}
 use Rattle.report_texts.proofs.SameReportLemmas.{filter_map-shorter}

@@ -2,8 +2,8 @@
 use Rattle.std.proofs.Common.{◌≡◌, ℕ, ◌≤◌, ◌≢◌, Bool, true, false, not, ◌==◌, nat_lt, List, length, position, Option, Some, None, refl, sym, ◌∙◌, ap, arith, true≢false}
 use Rattle.std.proofs.lemmas.Bool.Decides.{nat_tests}
 use Rattle.jack_types.specs.Names.{IsClientName, is_name_byte}
-use Rattle.session_laws.proofs.ListLemmas.{Each, Each-weaker}
-use Rattle.session_laws.proofs.TextLemmas.{Lacks}
+use Rattle.grammar_laws.specs.session_laws.proofs.ListLemmas.{Each, Each-weaker}
+use Rattle.grammar_laws.specs.session_laws.proofs.TextLemmas.{Lacks}
 use Rattle.report_texts.proofs.SameReportLemmas.{no-position}
 
 none-fault : {A : Type 0} {a : A} → Some a ≡ None → ⊥

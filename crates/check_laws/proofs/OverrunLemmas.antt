@@ -9,7 +9,7 @@ use Rattle.session_model.specs.Explanations.{Given, Printed, course_of, overruns
 use Rattle.session_model.specs.Recorders.{Lost, IsOverrun, IsAfterSegment}
 use Rattle.session_model.specs.Reports.{Report, PrintedRecorder}
 use Rattle.session_model.specs.Scripts.{Script}
-use Rattle.session_laws.proofs.ListLemmas.{slice_get-map}
+use Rattle.grammar_laws.specs.session_laws.proofs.ListLemmas.{slice_get-map}
 use Rattle.check_model.specs.Checking.{IsForm, IsOverrunRight, AllRight, IsRecorderLine, IsOverrunLine, printed_of, all_overruns}
 use Rattle.check_laws.proofs.PlaceLists.{slice-inside, get-of, All-from_get, All-get, slice-map, flat-place, strictly-from, strictly-get, nondecreasing-from, nondecreasing-get, Found, flat-found}
 

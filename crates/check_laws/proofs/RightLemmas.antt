@@ -14,11 +14,11 @@ use Rattle.session_model.specs.Recorders.{Lost}
 use Rattle.session_model.specs.Reports.{Report, PrintedCycle, PrintedRecorder, PrintedDisk, report_of, report_lines, printed_call, printed_cycle, printed_recorder, printed_disk, call_line, cycle_line, meter_line, event_line, recorder_lines, disk_lines, line}
 use Rattle.session_model.specs.Samples.{below}
 use Rattle.session_model.specs.Scripts.{Script, ScriptCycle, turns, planned}
-use Rattle.session_laws.proofs.ActivationLemmas.{length-map_below, length-below}
-use Rattle.session_laws.proofs.HistoryLemmas.{LegalSoFar-none}
-use Rattle.session_laws.proofs.ListLemmas.{Each, slice_get-map}
-use Rattle.session_laws.proofs.SerialDiskLemmas.{in-missed}
-use Rattle.session_laws.proofs.TextLemmas.{joined_lines}
+use Rattle.grammar_laws.specs.session_laws.proofs.ActivationLemmas.{length-map_below, length-below}
+use Rattle.grammar_laws.specs.session_laws.proofs.HistoryLemmas.{LegalSoFar-none}
+use Rattle.grammar_laws.specs.session_laws.proofs.ListLemmas.{Each, slice_get-map}
+use Rattle.grammar_laws.specs.session_laws.proofs.SerialDiskLemmas.{in-missed}
+use Rattle.grammar_laws.specs.session_laws.proofs.TextLemmas.{joined_lines}
 use Rattle.check_model.specs.Checking.{IsForm, IsRight, AllRight, IsDiskLine, IsUnderrunLine, printed_of, history_of, ended_lines, all_underruns, all_turned, recorder_blocks, disk_blocks}
 use Rattle.check_laws.proofs.KnownLemmas.{calls-back, same-all, Keyed, Keyed-from, keyed-part}
 use Rattle.check_laws.proofs.OverrunLemmas.{recorder-lost, slice-some, lost as overruns-lost}

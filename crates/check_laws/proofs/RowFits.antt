@@ -16,8 +16,8 @@ use Rattle.session_model.specs.Scripts.{Script, Phase, ScriptCycle, phases, phas
 use Rattle.session_model.specs.State.{Master, is_active_in}
 use Rattle.session_model.specs.Tempo.{bbt, ticks_at}
 use Rattle.session_model.specs.Transport.{Row, row, next_frame, asked_frame, moment, active_master}
-use Rattle.session_laws.proofs.ListLemmas.{Each, Each-append, Each-contains, Each-drop}
-use Rattle.session_laws.proofs.SerialLawfulLemmas.{AreBodies, AreBodies-rest}
+use Rattle.grammar_laws.specs.session_laws.proofs.ListLemmas.{Each, Each-append, Each-contains, Each-drop}
+use Rattle.grammar_laws.specs.session_laws.proofs.SerialLawfulLemmas.{AreBodies, AreBodies-rest}
 use Rattle.check_model.specs.Checking.{IsBbtForm}
 use Rattle.check_laws.proofs.StateFits.{AreCommands, MasterFits, Each-take, Each-get, replay-fits, opening-fits}
 

@@ -22,12 +22,12 @@ use Rattle.session_model.specs.Reports.{Report, PrintedCall, PrintedCycle, Print
 use Rattle.session_model.specs.Samples.{below}
 use Rattle.session_model.specs.Scripts.{Script, Planned, planned}
 use Rattle.session_model.specs.Serial.{serial_printed}
-use Rattle.session_laws.proofs.CycleLemmas.{find-contains}
-use Rattle.session_laws.proofs.ExplainedLemmas.{Explained-serial}
+use Rattle.grammar_laws.specs.session_laws.proofs.CycleLemmas.{find-contains}
+use Rattle.grammar_laws.specs.session_laws.proofs.ExplainedLemmas.{Explained-serial}
 use Rattle.grammar_laws.proofs.GrammarLaws.{spelled}
-use Rattle.session_laws.proofs.ListLemmas.{Each, Each-contains}
-use Rattle.session_laws.proofs.SerialLossLemmas.{All-from_each}
-use Rattle.session_laws.proofs.TextLemmas.{IsLine, joined_lines}
+use Rattle.grammar_laws.specs.session_laws.proofs.ListLemmas.{Each, Each-contains}
+use Rattle.grammar_laws.specs.session_laws.proofs.SerialLossLemmas.{All-from_each}
+use Rattle.grammar_laws.specs.session_laws.proofs.TextLemmas.{IsLine, joined_lines}
 use Rattle.check_model.specs.Checking.{IsForm, IsRight, IsCallLine, IsCycleLine, IsRecorderLine, IsOverrunLine, IsCycleInTurn, AllRight, IsFirstWrong, BeginsReport, DifferAt, printed_of, history_of, ended_lines, parts, explained, recorder_blocks}
 use Rattle.check_laws.proofs.CoverLemmas.{whole-take}
 use Rattle.check_laws.proofs.ExplainedRight.{explained-right}

@@ -15,9 +15,9 @@ use Rattle.jack_types.specs.declared.replies.Underrun.{Underrun}
 use Rattle.session_model.specs.Grammar.{IsScript}
 use Rattle.session_model.specs.Reports.{line, reply_words, PrintedCall, PrintedCycle, PrintedMeter, PrintedEvent, PrintedRecorder, PrintedDisk, Report, call_line, cycle_line, meter_line, event_line, overrun_line, recorder_lines, underrun_line, disk_lines, report_lines, hex_digit, hex_byte}
 use Rattle.session_model.specs.Scripts.{Script}
-use Rattle.session_laws.proofs.ListLemmas.{Each, Each-weaker, Each-map, Each-all}
+use Rattle.grammar_laws.specs.session_laws.proofs.ListLemmas.{Each, Each-weaker, Each-map, Each-all}
 use Rattle.report_texts.proofs.ReportLemmas.{IsSmallOverrun, IsSmallUnderrun, lacks, images-same, first-same, rest-same, none-cons, in_parts, part_1, part_2, part_5, part_6, from_part, calls_of_part, cycles_of_part, meters_of_part, events_of_part, recorders_of_part, disks_of_part, next-word, next-number, last-number, map-same_items, runs-same, StartsOff, is_overrun_line, is_underrun_line, overrun-same, underrun-same, cycle-same, part_of, taken_all, taken_none, reply_some}
-use Rattle.session_laws.proofs.TextLemmas.{cut-same, Lacks-hex}
+use Rattle.grammar_laws.specs.session_laws.proofs.TextLemmas.{cut-same, Lacks-hex}
 use Rattle.check_model.specs.Checking.{IsNumber, IsReplyForm, IsCallLine, IsMeterLine, IsEventLine, IsOverrunLine, IsUnderrunLine, IsRecorderLine, IsDiskLine, IsForm}
 use Rattle.check_laws.proofs.NameLemmas.{name-lacks}
 

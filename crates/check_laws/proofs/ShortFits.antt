@@ -16,9 +16,9 @@ use Rattle.jack_types.specs.declared.replies.Refusal.TheVariants.{NoClient, NoPo
 use Rattle.session_model.specs.Grammar.{IsScript}
 use Rattle.session_model.specs.Reports.{spaced, line, reply_words, PrintedCall, PrintedCycle, PrintedMeter, PrintedEvent, PrintedRecorder, PrintedDisk, Report, call_line, cycle_line, meter_line, event_line, overrun_line, recorder_lines, underrun_line, disk_lines, report_lines, state_name, bbt_word, hex_byte}
 use Rattle.session_model.specs.Scripts.{Script}
-use Rattle.session_laws.proofs.ListLemmas.{Each, Each-weaker, Each-map, Each-append, Each-flat_map}
+use Rattle.grammar_laws.specs.session_laws.proofs.ListLemmas.{Each, Each-weaker, Each-map, Each-append, Each-flat_map}
 use Rattle.report_texts.proofs.SameReportLemmas.{turns-few}
-use Rattle.session_laws.proofs.SerialLossLemmas.{All-from_each}
+use Rattle.grammar_laws.specs.session_laws.proofs.SerialLossLemmas.{All-from_each}
 use Rattle.check_model.specs.Checking.{IsNumber, IsReplyForm, IsBbtForm, IsCallLine, IsCycleLine, IsMeterLine, IsEventLine, IsOverrunLine, IsUnderrunLine, IsRecorderLine, IsDiskLine}
 use Rattle.check_laws.proofs.NameLemmas.{name-bytes}
 use Rattle.check_laws.proofs.SameLemmas.{Each-from_all, Each-from_get, place-inside, event-size}

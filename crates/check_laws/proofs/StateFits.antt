@@ -30,9 +30,9 @@ use Rattle.session_model.specs.Replies.{granted, reply_by, reply}
 use Rattle.session_model.specs.Samples.{below}
 use Rattle.session_model.specs.Scripts.{Script, Planned, Uncounted, planned, counted, uncounted, phases}
 use Rattle.session_model.specs.State.{State, OpenClient, OpenPort, Connection, Master, opening, client_named, port_named, is_system, capture_port, playback_port}
-use Rattle.session_laws.proofs.ActivationLemmas.{length-map_below}
-use Rattle.session_laws.proofs.CycleLemmas.{find-contains}
-use Rattle.session_laws.proofs.ListLemmas.{Each, Each-weaker, Each-map, Each-append, Each-filter_kept, Each-contains, Each-all}
+use Rattle.grammar_laws.specs.session_laws.proofs.ActivationLemmas.{length-map_below}
+use Rattle.grammar_laws.specs.session_laws.proofs.CycleLemmas.{find-contains}
+use Rattle.grammar_laws.specs.session_laws.proofs.ListLemmas.{Each, Each-weaker, Each-map, Each-append, Each-filter_kept, Each-contains, Each-all}
 use Rattle.report_texts.proofs.SameReportLemmas.{planned-keep, planned-few, IsPlanned, filter-shorter}
 use Rattle.check_model.specs.Checking.{IsReplyForm}
 

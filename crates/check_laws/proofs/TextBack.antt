@@ -3,8 +3,8 @@
 --     ended-joined      whole lines, joined, have these lines
 use Rattle.std.proofs.Common.{◌≡◌, ℕ, Bool, true, false, cond, ◌==◌, List, [], ◌∷◌, ◌++◌, refl, sym, ◌∙◌, ap, ap₂, append_assoc, eqb-true, ne_eqb}
 use Rattle.session_model.specs.Texts.{with_byte}
-use Rattle.session_laws.proofs.ListLemmas.{Each}
-use Rattle.session_laws.proofs.TextLemmas.{Lacks, IsLine, joined_lines}
+use Rattle.grammar_laws.specs.session_laws.proofs.ListLemmas.{Each}
+use Rattle.grammar_laws.specs.session_laws.proofs.TextLemmas.{Lacks, IsLine, joined_lines}
 use Rattle.check_model.specs.Checking.{ended_lines}
 
 joined-with_byte : (b : ℕ) (lines : List (List ℕ)) → joined_lines (with_byte b lines) ≡ b ∷ joined_lines lines

@@ -11,10 +11,10 @@ use Rattle.session_model.specs.Courses.{Course, turn, is_disk_active, is_underru
 use Rattle.session_model.specs.Disks.{Played, IsSerial, IsMissed, file_blocks, turned_before, is_missed_in, missed_at, missed_up_to, turned_underruns}
 use Rattle.session_model.specs.Samples.{below}
 use Rattle.session_model.specs.Scripts.{turns}
-use Rattle.session_laws.proofs.ListLemmas.{Each, Ordered, Each-weaker, Each-append, Each-at, Ordered-append}
+use Rattle.grammar_laws.specs.session_laws.proofs.ListLemmas.{Each, Ordered, Each-weaker, Each-append, Each-at, Ordered-append}
 use Rattle.check_laws.proofs.PlaceLists.{slice-map, strictly-get}
 use Rattle.check_laws.proofs.SameLemmas.{Each-from_all}
-use Rattle.session_laws.proofs.SerialDiskLemmas.{in-missed, min-next, min-below}
+use Rattle.grammar_laws.specs.session_laws.proofs.SerialDiskLemmas.{in-missed, min-next, min-below}
 
 -- whether an underrun of the list is of the cycle
 abbrev pub among : List Underrun → ℕ → Bool

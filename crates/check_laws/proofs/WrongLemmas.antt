@@ -8,9 +8,9 @@ use Rattle.session_model.specs.Explanations.{Given, Printed, Written, Explained}
 use Rattle.session_model.specs.Grammar.{IsScript}
 use Rattle.session_model.specs.Reports.{Report, PrintedCycle, PrintedMeter, PrintedEvent, PrintedRecorder, PrintedDisk, report_lines}
 use Rattle.session_model.specs.Scripts.{Script}
-use Rattle.session_laws.proofs.ListLemmas.{Each, Each-weaker}
+use Rattle.grammar_laws.specs.session_laws.proofs.ListLemmas.{Each, Each-weaker}
 use Rattle.report_texts.proofs.ReportLemmas.{IsSmallCall, IsSmallOverrun, IsSmallUnderrun, report_are_lines}
-use Rattle.session_laws.proofs.TextLemmas.{Lacks, IsLine}
+use Rattle.grammar_laws.specs.session_laws.proofs.TextLemmas.{Lacks, IsLine}
 use Rattle.check_model.specs.Checking.{IsForm, IsNumber, IsCallLine, IsMeterLine, IsEventLine, IsFirstWrong, ended_lines}
 use Rattle.check_laws.proofs.ExplainedRight.{whole, explained-right}
 use Rattle.check_laws.proofs.FormLemmas.{explained-form}

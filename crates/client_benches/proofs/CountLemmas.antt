@@ -6,8 +6,8 @@ use Rattle.std.specs.Prelude.{count_by, is_some}
 use Rattle.std.proofs.Math.Seq.{take-suc}
 use Rattle.std.proofs.lemmas.List.{take_all}
 use Rattle.std.proofs.lemmas.List.Sums.{count_by-le-length, fold-append}
-use Rattle.session_model.specs.Benches.{Signal}
-use Rattle.session_model.specs.Samples.{below}
+use Rattle.activation.specs.session_model.specs.Benches.{Signal}
+use Rattle.activation.specs.session_model.specs.Samples.{below}
 use Rattle.client_benches.specs.Seen.{Remembered, Seen, room_count}
 
 count-more : {X : Type 0} (test : X → Bool) (xs : List X) (x : X) → count_by test (xs ++ x ∷ []) ≡ count_by test xs + cond (test x) 1 0

@@ -3,8 +3,8 @@
 --     gains-four, long-four      four parts that are added at once
 --     eight-of      eight parts by their places
 use Rattle.std.proofs.Common.{◌≡◌, ℕ, List, [], ◌∷◌, ◌++◌, length, map, get_or, ℤ, refl, ◌∙◌, ap, subst, arith}
-use Rattle.port_mixer.specs.Sums.{GainsParts, Mix, with_parts}
-use Rattle.port_mixer.proofs.SumLemmas.{length-all_added}
+use Rattle.client_kinds.specs.port_mixer.specs.Sums.{GainsParts, Mix, with_parts}
+use Rattle.client_kinds.specs.port_mixer.proofs.SumLemmas.{length-all_added}
 use Rattle.client_benches.specs.Gathered.{AreGathered}
 
 pub gathered-few : (frames : ℕ) (mix : Mix) (few parts : List (List ℤ)) → mix.parts ≡ 0 → AreGathered frames mix few parts → parts ≡ few

@@ -6,12 +6,12 @@
 use Rattle.std.proofs.Common.{◌≡◌, ℕ, zero, suc, ◌<◌, ◌*◌, List, [], ◌∷◌, ◌++◌, length, map, replicate, ℤ, Option, Some, None, option_map, refl, sym, ◌∙◌, ap, subst, arith, true≢false}
 use Rattle.std.specs.Option.{ForSome}
 use Rattle.std.specs.Prelude.{IfSome, if◌then◌else◌, is_some, nat_lt, slice_index_or, vec_capacity}
-use Rattle.jack_types.specs.declared.kinds.Kind.{Kind}
-use Rattle.jack_types.specs.declared.kinds.Kind.TheVariants.{Pass, Gain, Mix as MixKind, Delay, Tone, Click, Meter, Tape, Guest, Midiplay, Midithru, Midilog, Disk}
+use Rattle.activation.specs.jack_types.specs.declared.kinds.Kind.{Kind}
+use Rattle.activation.specs.jack_types.specs.declared.kinds.Kind.TheVariants.{Pass, Gain, Mix as MixKind, Delay, Tone, Click, Meter, Tape, Guest, Midiplay, Midithru, Midilog, Disk}
 use Rattle.std.specs.Global.{Vec}
-use Rattle.port_mixer.specs.Sums.{Mix}
-use Rattle.session_model.specs.Benches.{Signal}
-use Rattle.session_model.specs.Kinds.{Memory, Sound, first, play}
+use Rattle.client_kinds.specs.port_mixer.specs.Sums.{Mix}
+use Rattle.activation.specs.session_model.specs.Benches.{Signal}
+use Rattle.activation.specs.session_model.specs.Kinds.{Memory, Sound, first, play}
 use Rattle.client_kinds.specs.Scores.{Score}
 use Rattle.client_kinds.specs.Standings.{Standing, HasGuest, HasScore, IsGuest}
 use Rattle.client_benches.specs.declared.benches.Stint.{Stint}

@@ -10,15 +10,15 @@ use Rattle.std.specs.Prelude.{slice_get, slice_index_or, ◌==◌, nat_lt, if◌
 use Rattle.std.specs.Option.{option_map_or}
 use Rattle.std.proofs.lemmas.Bool.{leb-true, ltb-false}
 use Rattle.std.proofs.lemmas.List.{get_or_past}
-use Rattle.jack_types.specs.declared.kinds.Kind.{Kind}
-use Rattle.jack_types.specs.declared.kinds.Kind.TheVariants.{Pass, Gain, Mix, Delay, Tone, Click, Meter, Guest, Disk, Midilog}
-use Rattle.jack_types.specs.declared.moments.Moment.{Moment}
-use Rattle.session_model.specs.Benches.{Bench, Signal, Task, mixed, task_turn, bench_played, handed, routed, audio_part}
-use Rattle.session_model.specs.Cycles.{ClientPlayed}
-use Rattle.session_model.specs.Kinds.{Memory, Sound, first, guest_played, guest_turn, input_at, midi_play, no_memory, play, silent}
-use Rattle.session_model.specs.Samples.{below, mix}
-use Rattle.session_laws.proofs.ActivationLemmas.{length-map_below, get_or-map_below}
-use Rattle.session_laws.proofs.PlaceLemmas.{map-after}
+use Rattle.activation.specs.jack_types.specs.declared.kinds.Kind.{Kind}
+use Rattle.activation.specs.jack_types.specs.declared.kinds.Kind.TheVariants.{Pass, Gain, Mix, Delay, Tone, Click, Meter, Guest, Disk, Midilog}
+use Rattle.activation.specs.jack_types.specs.declared.moments.Moment.{Moment}
+use Rattle.activation.specs.session_model.specs.Benches.{Bench, Signal, Task, mixed, task_turn, bench_played, handed, routed, audio_part}
+use Rattle.activation.specs.session_model.specs.Cycles.{ClientPlayed}
+use Rattle.activation.specs.session_model.specs.Kinds.{Memory, Sound, first, guest_played, guest_turn, input_at, midi_play, no_memory, play, silent}
+use Rattle.activation.specs.session_model.specs.Samples.{below, mix}
+use Rattle.activation.specs.session_laws.proofs.ActivationLemmas.{length-map_below, get_or-map_below}
+use Rattle.activation.specs.session_laws.proofs.PlaceLemmas.{map-after}
 use Rattle.client_kinds.specs.Scores.{Score}
 use Rattle.client_kinds.specs.Standings.{Standing, HasScore}
 use Rattle.client_benches.specs.declared.benches.Stint.{Stint}

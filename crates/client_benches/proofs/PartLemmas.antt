@@ -10,10 +10,10 @@ use Rattle.std.proofs.lemmas.Bool.{ltb-false, ltb-true}
 use Rattle.std.proofs.lemmas.Int.{ints}
 use Rattle.std.proofs.lemmas.List.{ext_get_or, get_or_past, get_or-set_other, get_or-set_same}
 use Rattle.std.proofs.Math.Seq.{take-suc}
-use Rattle.session_model.specs.Samples.{clamp, mix, sample, total}
-use Rattle.session_laws.proofs.ActivationLemmas.{get_or-map_below, length-map_below}
+use Rattle.activation.specs.session_model.specs.Samples.{clamp, mix, sample, total}
+use Rattle.activation.specs.session_laws.proofs.ActivationLemmas.{get_or-map_below, length-map_below}
 use Rattle.client_benches.proofs.SliceLemmas.{map_below-same, map_more}
-use Rattle.port_mixer.specs.Sums.{AreSamples, sums_of}
+use Rattle.client_kinds.specs.port_mixer.specs.Sums.{AreSamples, sums_of}
 
 pub take-next : {X : Type 0} (xs : List X) (i : ℕ) (d : X) → i < length xs → take (i + 1) xs ≡ take i xs ++ get_or xs i d ∷ []
 take-next xs i d low = ap (λ n. take n xs) (add-one i) ∙ take-suc xs i d low

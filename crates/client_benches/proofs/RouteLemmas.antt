@@ -7,9 +7,9 @@ use Rattle.std.specs.Prelude.{⊤, slice_range}
 use mathlib.Core.Logic.{dite}
 use native.Mathlib.Decide.{ℕ_discrete}
 use Rattle.std.proofs.lemmas.List.Elements.{All-tail, All-head}
-use Rattle.session_model.specs.Benches.{Signal, routed}
-use Rattle.session_model.specs.Cycles.{ClientPlayed}
-use Rattle.session_model.specs.Kinds.{input_at, no_memory}
+use Rattle.activation.specs.session_model.specs.Benches.{Signal, routed}
+use Rattle.activation.specs.session_model.specs.Cycles.{ClientPlayed}
+use Rattle.activation.specs.session_model.specs.Kinds.{input_at, no_memory}
 use Rattle.client_kinds.specs.Buffers.{buffers_of, with_buffer}
 use Rattle.client_kinds.proofs.BufferLemmas.{buffer_within, place_within}
 use Rattle.client_benches.specs.declared.values.Route.{Route}

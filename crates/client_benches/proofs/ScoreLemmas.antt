@@ -4,15 +4,15 @@
 --     sequential-scores, IsSequential-scores      over a graph
 use Rattle.std.proofs.Common.{◌≡◌, ℕ, zero, suc, true, false, List, [], map, ℤ, Option, Some, None, option_map, refl, sym, ◌∙◌, ap}
 use Rattle.std.specs.Prelude.{slice_index_or, if◌then◌else◌}
-use Rattle.jack_types.specs.declared.kinds.Kind.{Kind}
-use Rattle.jack_types.specs.declared.kinds.Kind.TheVariants.{Guest, Midiplay, Midithru, Midilog}
-use Rattle.jack_types.specs.declared.moments.Moment.{Moment}
-use Rattle.jack_types.specs.declared.ports.Link.{Link}
-use Rattle.session_model.specs.Activation.{Machine, Place, Held, AtHome, IsBench, IsSequential, given_within, given_to, incoming, link_at, place_among, place_of, sequential, value_of}
-use Rattle.session_model.specs.Benches.{Bench, Signal, bench_after, bench_gives, mixed, routed}
-use Rattle.session_model.specs.Cycles.{ClientPlayed}
-use Rattle.session_model.specs.Kinds.{Memory, Played, Sound, guest_played, guest_turn, midi_play, play, silent}
-use Rattle.session_laws.proofs.PlaceLemmas.{map-same}
+use Rattle.activation.specs.jack_types.specs.declared.kinds.Kind.{Kind}
+use Rattle.activation.specs.jack_types.specs.declared.kinds.Kind.TheVariants.{Guest, Midiplay, Midithru, Midilog}
+use Rattle.activation.specs.jack_types.specs.declared.moments.Moment.{Moment}
+use Rattle.activation.specs.jack_types.specs.declared.ports.Link.{Link}
+use Rattle.activation.specs.session_model.specs.Activation.{Machine, Place, Held, AtHome, IsBench, IsSequential, given_within, given_to, incoming, link_at, place_among, place_of, sequential, value_of}
+use Rattle.activation.specs.session_model.specs.Benches.{Bench, Signal, bench_after, bench_gives, mixed, routed}
+use Rattle.activation.specs.session_model.specs.Cycles.{ClientPlayed}
+use Rattle.activation.specs.session_model.specs.Kinds.{Memory, Played, Sound, guest_played, guest_turn, midi_play, play, silent}
+use Rattle.activation.specs.session_laws.proofs.PlaceLemmas.{map-same}
 use Rattle.client_kinds.specs.Scores.{Score}
 use Rattle.client_kinds.specs.Standings.{Standing, HasScore}
 use Rattle.client_kinds.proofs.PlayLemmas.{slice_get-map}

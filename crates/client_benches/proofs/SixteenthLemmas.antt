@@ -10,7 +10,7 @@ use Rattle.std.specs.Prelude.{FitsSigned, if◌then◌else◌, int_lt, nat_lt}
 use Rattle.std.proofs.lemmas.Bool.{ltb-false, ltb-true}
 use Rattle.std.proofs.lemmas.Int.{ints, int_wrap_fits, int_wrap-add_left}
 use Rattle.std.proofs.lemmas.List.Sums.{fold-append}
-use Rattle.session_model.specs.Samples.{clamp, total}
+use Rattle.activation.specs.session_model.specs.Samples.{clamp, total}
 use Rattle.client_benches.specs.Sixteenths.{IsNear, settled_by, sixteenths}
 
 -- ---- sixteenths

@@ -9,8 +9,8 @@ use Rattle.std.specs.Prelude.{slice_range, slice_index_or, nat_lt}
 use Rattle.std.proofs.lemmas.Bool.{leb-true, ltb-false}
 use Rattle.std.proofs.Math.Seq.{take-append_seam, drop-append_seam, drop-nil}
 use Rattle.std.proofs.lemmas.List.{get_or_past, length-take, length-take-le, length-drop, take-take, take-append-le, drop-append-le, drop-take, length-append, append_assoc}
-use Rattle.session_model.specs.Samples.{below}
-use Rattle.session_laws.proofs.ActivationLemmas.{get_or-map_below, length-map_below}
+use Rattle.activation.specs.session_model.specs.Samples.{below}
+use Rattle.activation.specs.session_laws.proofs.ActivationLemmas.{get_or-map_below, length-map_below}
 use Rattle.client_kinds.specs.Buffers.{buffers_of, with_buffer}
 use Rattle.client_kinds.proofs.BufferLemmas.{place_within}
 

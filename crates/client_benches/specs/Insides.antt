@@ -1,11 +1,11 @@
 -- The fields of a client's bench, and what stays true of them. No public clause cites this module.
 use Rattle.std.specs.Prelude.{◌≡◌, ℕ, ◌*◌, ◌≤◌, List, [], ℤ, length, All, Option, Some, None, slice_index_or, vec_capacity}
 use Rattle.std.specs.Global.{Vec}
-use Rattle.session_model.specs.Benches.{Signal}
+use Rattle.activation.specs.session_model.specs.Benches.{Signal}
 use Rattle.client_kinds.specs.Buffers.{buffers_of}
 use Rattle.client_kinds.specs.Standings.{Standing}
 use Rattle.client_kinds.specs.declared.guests.Shape.{Shape}
-use Rattle.port_mixer.specs.Sums.{Mix}
+use Rattle.client_kinds.specs.port_mixer.specs.Sums.{Mix}
 use Rattle.client_benches.specs.declared.benches.Stint.{Stint}
 use Rattle.client_benches.specs.declared.values.Route.{Route}
 use Rattle.client_benches.specs.declared.wires.Wire.{Wire}

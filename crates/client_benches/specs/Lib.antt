@@ -6,3 +6,5 @@ pub mod Insides
 pub mod Gathered
 pub mod Few
 pub mod Sixteenths
+pub use Rattle.activation
+pub use Rattle.client_kinds

@@ -5,7 +5,7 @@
 --     with_output frames outputs buffers carried      buffers into which it was copied
 --     signals_in, AreRooms      what rooms hold, and what stays true of them
 use Rattle.std.specs.Prelude.{ℕ, ◌+◌, ◌*◌, ◌≤◌, ⊤, List, [], ℤ, Option, Some, None, length, map, take, slice_range, All, vec_capacity}
-use Rattle.session_model.specs.Benches.{Signal, no_signal}
+use Rattle.activation.specs.session_model.specs.Benches.{Signal, no_signal}
 use Rattle.client_kinds.specs.Buffers.{with_buffer}
 use Rattle.client_benches.specs.declared.known.Room.TheInside.{Inside as RoomInside}
 use Rattle.client_benches.specs.declared.values.Load.{Load}

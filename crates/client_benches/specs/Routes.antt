@@ -4,8 +4,8 @@
 --     carried_by frames outputs link routes      what they carry of these outputs
 --     IsBelow count output, HasOutput count route      the output, where there is one, is one of so many
 use Rattle.std.specs.Prelude.{ℕ, ◌<◌, ◌==◌, ⊤, List, [], ℤ, map, filter, Option, Some, None}
-use Rattle.session_model.specs.Benches.{Route as Carrying, Signal, routed}
-use Rattle.session_model.specs.Kinds.{no_memory}
+use Rattle.activation.specs.session_model.specs.Benches.{Route as Carrying, Signal, routed}
+use Rattle.activation.specs.session_model.specs.Kinds.{no_memory}
 use Rattle.client_benches.specs.declared.values.Route.{Route}
 
 -- an audio output, if any: a bench gives no events

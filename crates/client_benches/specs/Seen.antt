@@ -10,12 +10,12 @@
 --     MayPlay standing turn      what a bench can play
 use Rattle.std.specs.Prelude.{◌≡◌, ℕ, suc, ◌+◌, ◌<◌, ◌≤◌, ◌^◌, List, [], length, map, replicate, ℤ, Option, Some, None, option_map, slice_index_or, Bool, is_some, count_by, nat_lt, if◌then◌else◌}
 use Rattle.std.specs.Option.{option_map_or}
-use Rattle.jack_types.specs.declared.kinds.Kind.{Kind}
-use Rattle.jack_types.specs.declared.kinds.Kind.TheVariants.{Pass, Guest}
-use Rattle.jack_types.specs.declared.moments.Moment.{Moment}
-use Rattle.session_model.specs.Benches.{Task, Bench, Signal, bench_after, bench_gives}
-use Rattle.session_model.specs.Kinds.{Sound, first}
-use Rattle.session_model.specs.Samples.{below}
+use Rattle.activation.specs.jack_types.specs.declared.kinds.Kind.{Kind}
+use Rattle.activation.specs.jack_types.specs.declared.kinds.Kind.TheVariants.{Pass, Guest}
+use Rattle.activation.specs.jack_types.specs.declared.moments.Moment.{Moment}
+use Rattle.activation.specs.session_model.specs.Benches.{Task, Bench, Signal, bench_after, bench_gives}
+use Rattle.activation.specs.session_model.specs.Kinds.{Sound, first}
+use Rattle.activation.specs.session_model.specs.Samples.{below}
 use Rattle.client_kinds.specs.Scores.{Score}
 use Rattle.client_kinds.specs.Standings.{Standing, HasGuest, HasScore}
 use Rattle.client_benches.specs.declared.benches.Stint.{Stint}

@@ -7,8 +7,8 @@
 --     kept_count wires      how many such rooms there are
 --     filled_with samples source, with_samples wires place samples      a source, and the wires, with these samples in the room of one, if it has one
 use Rattle.std.specs.Prelude.{ℕ, ◌==◌, Bool, true, false, List, [], ℤ, map, filter, count_by, slice_index_or, slice_set}
-use Rattle.session_model.specs.Benches.{Part, Known, Handed, Signal, audio_part}
-use Rattle.session_model.specs.Samples.{below, mix}
+use Rattle.activation.specs.session_model.specs.Benches.{Part, Known, Handed, Signal, audio_part}
+use Rattle.activation.specs.session_model.specs.Samples.{below, mix}
 use Rattle.client_benches.specs.declared.wires.Source.{Source}
 use Rattle.client_benches.specs.declared.wires.Source.TheVariants.{Kept, Carried, Like}
 use Rattle.client_benches.specs.declared.wires.Wire.{Wire}

@@ -2,14 +2,14 @@
 
 ghost use Rattle.std.specs.Prelude.{◌≡◌, ◌*◌, ◌≤◌, IfOk, [], None, length, replicate, vec_capacity};
 ghost use Rattle.client_kinds.specs.Standings.{IsPlayable};
-ghost use Rattle.session_model.specs.Kinds.{first};
+ghost use Rattle.activation.specs.session_model.specs.Kinds.{first};
 
 use crate::values::{Rooms, Route};
 use crate::wires::Wire;
 use crate::{MOST_CONNECTIONS, MOST_PORTS};
+use activation::jack_types::{Kind, Memory, Moment};
+use client_kinds::port_mixer::Mixer;
 use client_kinds::{Bench, Guest, Shape};
-use jack_types::{Kind, Memory, Moment};
-use port_mixer::Mixer;
 use std::alloc::{AllocError, Global};
 use std::marker::Model;
 

@@ -1,12 +1,12 @@
 //! The parts of a mix, gathered eight at a time.
 
 ghost use Rattle.std.specs.Prelude.{◌≡◌, ◌↔◌, ◌+◌, ◌<◌, ◌≤◌, ◌++◌, ◌∷◌, [], ℤ, List, All, IsTrue, length, map};
-ghost use Rattle.port_mixer.specs.Sums.{GainsParts, sums_of};
+ghost use Rattle.client_kinds.specs.port_mixer.specs.Sums.{GainsParts, sums_of};
 
 use crate::passes::{
     copy_part, mix_eight, mix_five, mix_four, mix_none, mix_seven, mix_six, mix_three, mix_two,
 };
-use port_mixer::Mixer;
+use client_kinds::port_mixer::Mixer;
 use std::marker::Model;
 
 /// The last parts of a mix, which are not in its sums yet: no more than eight.
@@ -82,8 +82,8 @@ fn add_all(mixer: &mut Mixer, padded: &mut [i32], parts: &[&[i32]])
 
 impl<'a> Few<'a> {
     ghost use Rattle.std.specs.Prelude.{◌≡◌, ◌↔◌, ◌+◌, ◌<◌, ◌≤◌, ◌++◌, ◌∷◌, [], ℤ, List, IsTrue, length, map};
-    ghost use Rattle.session_model.specs.Samples.{mix};
-    ghost use Rattle.port_mixer.specs.Sums.{GainsParts};
+    ghost use Rattle.activation.specs.session_model.specs.Samples.{mix};
+    ghost use Rattle.client_kinds.specs.port_mixer.specs.Sums.{GainsParts};
     ghost use Rattle.client_benches.specs.Gathered.{AreGathered};
 
     /// No part.

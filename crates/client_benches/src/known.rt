@@ -4,7 +4,7 @@ ghost use Rattle.std.specs.Prelude.{◌≡◌, ◌≤◌, IfOk, [], length, take
 
 use crate::MOST_FRAMES;
 use crate::values::lengthen;
-use jack_types::Memory;
+use activation::jack_types::Memory;
 use std::alloc::Global;
 use std::marker::Model;
 

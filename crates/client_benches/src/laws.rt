@@ -1,10 +1,10 @@
 //! Laws of the benches: what they remember and give is what the definitions of the cycle say.
 
 ghost use Rattle.std.specs.Prelude.{◌≡◌, ℕ, List, Option, map};
-ghost use Rattle.jack_types.specs.declared.ports.Link.{Link as LinkValue};
-ghost use Rattle.session_model.specs.Activation.{IsSequential, Machine, sequential};
-ghost use Rattle.session_model.specs.Benches.{Signal, bench_after, bench_gives};
-ghost use Rattle.session_model.specs.Kinds.{Sound};
+ghost use Rattle.activation.specs.jack_types.specs.declared.ports.Link.{Link as LinkValue};
+ghost use Rattle.activation.specs.session_model.specs.Activation.{IsSequential, Machine, sequential};
+ghost use Rattle.activation.specs.session_model.specs.Benches.{Signal, bench_after, bench_gives};
+ghost use Rattle.activation.specs.session_model.specs.Kinds.{Sound};
 ghost use Rattle.client_kinds.specs.Scores.{Score};
 ghost use Rattle.client_benches.specs.Seen.{HasScores, Remembered, bench_in, kept_after, kept_gives};
 

@@ -34,3 +34,6 @@ pub const MOST_PORTS: usize = 16;
 
 /// The most connections.
 pub const MOST_CONNECTIONS: usize = 512;
+
+pub use activation;
+pub use client_kinds;

@@ -2,8 +2,8 @@
 
 ghost use Rattle.std.specs.Prelude.{◌≡◌, ◌*◌, ◌<◌, ◌≤◌, All, IsSome, length, map};
 ghost use Rattle.activation.specs.Values.{values_of};
-ghost use Rattle.session_model.specs.Benches.{audio_part};
-ghost use Rattle.session_model.specs.Samples.{mix};
+ghost use Rattle.activation.specs.session_model.specs.Benches.{audio_part};
+ghost use Rattle.activation.specs.session_model.specs.Samples.{mix};
 ghost use Rattle.client_kinds.specs.Buffers.{buffers_of, with_buffer};
 ghost use Rattle.client_benches.specs.Wires.{inputs_of, parts_into};
 
@@ -11,7 +11,7 @@ use crate::gathering::Few;
 use crate::values::Rooms;
 use crate::wires::Wire;
 use client_kinds::Shape;
-use port_mixer::Mixer;
+use client_kinds::port_mixer::Mixer;
 
 /// Mixes an input from its wires, in one walk over them.
 fn mix_input<'a>(

@@ -1,10 +1,10 @@
 //! Mixes of no more than eight parts, each in one pass over the frames.
 
 ghost use Rattle.std.specs.Prelude.{◌≡◌, ℕ, ◌<◌, ◌≤◌, ◌∷◌, [], length};
-ghost use Rattle.session_model.specs.Samples.{clamp, mix, sample, total};
+ghost use Rattle.activation.specs.session_model.specs.Samples.{clamp, mix, sample, total};
 
 use crate::settling::{mixed_eight, mixed_five, mixed_four, mixed_seven, mixed_six, mixed_three};
-use port_mixer::see_samples;
+use client_kinds::port_mixer::see_samples;
 
 /// Copies a part of any length: what it lacks is silence, and what lies behind the last frame is left out.
 fn copy_padded(out: &mut [i32], part: &[i32])

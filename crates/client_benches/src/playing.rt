@@ -1,7 +1,7 @@
 //! What a crew does with a client's bench.
 
 ghost use Rattle.std.specs.Prelude.{◌≡◌, ◌+◌, ◌≤◌, ◌*◌, ◌<◌, ◌^◌, ℕ, [], All, None, length, option_map, slice_index_or};
-ghost use Rattle.session_model.specs.Kinds.{play};
+ghost use Rattle.activation.specs.session_model.specs.Kinds.{play};
 ghost use Rattle.client_kinds.specs.Buffers.{buffers_of};
 ghost use Rattle.client_kinds.specs.Standings.{HasGuest};
 ghost use Rattle.client_benches.specs.Insides.{IsReached};
@@ -12,8 +12,8 @@ use crate::benches::{BenchMemory, ClientBench, Stint};
 use crate::mixing::mix_inputs;
 use crate::values::{Rooms, Route};
 use activation::Work;
+use activation::jack_types::Moment;
 use client_kinds::{Bench, Guest, Shape};
-use jack_types::Moment;
 
 /// Copies what each outgoing link carries into its room, if that is there. Past the last link nothing
 /// is carried. No place from `reached` on has a room.

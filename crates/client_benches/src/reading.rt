@@ -4,8 +4,8 @@ ghost use Rattle.std.specs.Prelude.{◌≡◌, ◌*◌, ◌≤◌, [], length, s
 ghost use Rattle.client_kinds.specs.Buffers.{buffers_of};
 
 use crate::benches::ClientBench;
+use activation::jack_types::Kind;
 use client_kinds::Guest;
-use jack_types::Kind;
 
 /// The buffer at a place among so many planar ones, nothing past the last one.
 #[tactic(auto, using(crate::proofs::SliceLemmas::buffer_there, crate::proofs::SliceLemmas::buffer_none, crate::proofs::SliceLemmas::buffer_fits))]

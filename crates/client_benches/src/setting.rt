@@ -8,8 +8,8 @@ use crate::known::Room;
 use crate::reading::buffer;
 use crate::values::{Rooms, Route};
 use crate::wires::{Source, Wire};
+use activation::jack_types::Moment;
 use client_kinds::{Guest, Shape};
-use jack_types::Moment;
 
 /// Takes all wires, and gives their rooms to those that are spare.
 fn unwire(wires: &mut Vec<Wire>, spare: &mut Vec<Room>)
@@ -40,7 +40,7 @@ fn empty_places(rooms: &mut [Option<Rooms>], spare: &mut Vec<Rooms>)
 impl<G: Guest> ClientBench<G> {
     ghost use Rattle.std.specs.Prelude.{◌≡◌, ◌+◌, ◌*◌, ◌<◌, ◌≤◌, ◌++◌, ◌∷◌, [], false, true, ℕ, IfNone, IfSome, IsSome, List, Some, None, length, map, option_map, slice_get, slice_index_or, slice_set, vec_capacity};
     ghost use Rattle.std.specs.Option.{ForSome};
-    ghost use Rattle.session_model.specs.Kinds.{first};
+    ghost use Rattle.activation.specs.session_model.specs.Kinds.{first};
     ghost use Rattle.client_kinds.specs.Buffers.{channels_of};
     ghost use Rattle.client_kinds.specs.Scores.{Score};
     ghost use Rattle.client_kinds.specs.Standings.{HasScore, IsDisk, IsGuest};

@@ -2,7 +2,7 @@
 
 ghost use Rattle.std.specs.Prelude.{◌≡◌, ◌≤◌, ◌≤ℤ◌, ◌+ℤ◌, ◌++◌, ◌∷◌, [], ℤ, List, length, pos, negsuc};
 ghost use Rattle.std.specs.Int.{w32, int_shr, int_wrap};
-ghost use Rattle.session_model.specs.Samples.{clamp, total};
+ghost use Rattle.activation.specs.session_model.specs.Samples.{clamp, total};
 ghost use Rattle.client_benches.specs.Sixteenths.{sixteenths};
 
 /// A sum of eight samples is no more than 120 above sixteen times its samples' sixteenths.

@@ -1,14 +1,14 @@
 //! What goes along a link.
 
 ghost use Rattle.std.specs.Prelude.{◌≡◌, ◌*◌, ◌<◌, ◌≤◌, All, IfOk, [], length, map, slice_index_or, vec_capacity};
-ghost use Rattle.session_model.specs.Benches.{no_signal};
+ghost use Rattle.activation.specs.session_model.specs.Benches.{no_signal};
 ghost use Rattle.client_kinds.specs.Buffers.{buffers_of};
 ghost use Rattle.client_benches.specs.Routes.{carried_by, HasOutput};
 
 use crate::filling::copy_routes;
 use crate::{MOST_CONNECTIONS, MOST_FRAMES, MOST_PORTS};
+use activation::jack_types::Memory;
 use client_kinds::Shape;
-use jack_types::Memory;
 use std::alloc::{AllocError, Global};
 use std::marker::Model;
 
@@ -41,7 +41,7 @@ struct Load {
 
 impl Model for Rooms {
     ghost use Rattle.std.specs.Prelude.{List};
-    ghost use Rattle.session_model.specs.Benches.{Signal};
+    ghost use Rattle.activation.specs.session_model.specs.Benches.{Signal};
 
     ghost Value = { List Signal };
 

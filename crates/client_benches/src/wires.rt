@@ -2,7 +2,7 @@
 
 ghost use Rattle.std.specs.Prelude.{◌≡◌, ◌≤◌, All, IsSome, length};
 ghost use Rattle.activation.specs.Values.{values_of};
-ghost use Rattle.session_model.specs.Benches.{audio_part, signal_at};
+ghost use Rattle.activation.specs.session_model.specs.Benches.{audio_part, signal_at};
 ghost use Rattle.client_benches.specs.Wires.{filled_with, part_in, source_part};
 
 use crate::known::Room;

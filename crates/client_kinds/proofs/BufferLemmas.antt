@@ -10,9 +10,9 @@ use Rattle.std.specs.Prelude.{slice_range}
 use Rattle.std.proofs.Math.Nat.{mul-le-mul_right}
 use Rattle.std.proofs.Math.Seq.{take-append_seam, drop-append_seam}
 use Rattle.std.proofs.lemmas.List.{get_or_append_left, get_or_past, length-take-le, length-drop, take-take, take_all, take-append-le, drop-append-le, drop-take}
-use Rattle.session_model.specs.Kinds.{input_at, outputs_by}
-use Rattle.session_model.specs.Samples.{below, sample, silence, total}
-use Rattle.session_laws.proofs.ActivationLemmas.{length-map_below, get_or-map_below}
+use Rattle.port_mixer.specs.session_model.specs.Kinds.{input_at, outputs_by}
+use Rattle.port_mixer.specs.session_model.specs.Samples.{below, sample, silence, total}
+use Rattle.port_mixer.specs.session_laws.proofs.ActivationLemmas.{length-map_below, get_or-map_below}
 use Rattle.port_mixer.specs.Sums.{sums_of}
 use Rattle.client_kinds.specs.Buffers.{buffers_of, channels_of, with_buffer}
 

@@ -1,12 +1,12 @@
 -- When a click is silent.
 --     click_stopped, click_starting, click_untimed
 use Rattle.std.proofs.Common.{◌≡◌, ℕ, map, ℤ, pos, Option, None, sym, subst}
-use Rattle.jack_types.specs.declared.moments.Bbt.{Bbt}
-use Rattle.jack_types.specs.declared.moments.Moment.{Moment}
-use Rattle.jack_types.specs.declared.moments.TransportState.{TransportState}
-use Rattle.jack_types.specs.declared.moments.TransportState.TheVariants.{Stopped, Rolling, Starting}
-use Rattle.session_model.specs.Kinds.{click_sample}
-use Rattle.session_model.specs.Samples.{below, silence}
+use Rattle.port_mixer.specs.jack_types.specs.declared.moments.Bbt.{Bbt}
+use Rattle.port_mixer.specs.jack_types.specs.declared.moments.Moment.{Moment}
+use Rattle.port_mixer.specs.jack_types.specs.declared.moments.TransportState.{TransportState}
+use Rattle.port_mixer.specs.jack_types.specs.declared.moments.TransportState.TheVariants.{Stopped, Rolling, Starting}
+use Rattle.port_mixer.specs.session_model.specs.Kinds.{click_sample}
+use Rattle.port_mixer.specs.session_model.specs.Samples.{below, silence}
 use Rattle.client_kinds.proofs.BufferLemmas.{replicate-below}
 
 silent-below : (n : ℕ) → silence n ≡ map (λ i. pos 0) (below n)

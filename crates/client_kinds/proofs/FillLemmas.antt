@@ -12,8 +12,8 @@ use Rattle.std.proofs.lemmas.List.{length-drop, length-map, length-take-le, map-
 use Rattle.std.proofs.lemmas.Slice.{take-put_mid}
 use borrow.Rule.Slice.PartMut.{put_mid}
 use Rattle.std.proofs.lemmas.Bool.{le-leb, le-ltb}
-use Rattle.session_model.specs.Kinds.{tone_sample}
-use Rattle.session_model.specs.Samples.{below}
+use Rattle.port_mixer.specs.session_model.specs.Kinds.{tone_sample}
+use Rattle.port_mixer.specs.session_model.specs.Samples.{below}
 
 map_more : {X Y : Type 0} (f : X → Y) (xs : List X) (x : X) → map f (xs ++ x ∷ []) ≡ map f xs ++ f x ∷ []
 map_more f [] x = refl

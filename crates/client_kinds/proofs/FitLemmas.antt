@@ -6,9 +6,9 @@ use Rattle.std.proofs.Common.{◌≡◌, ℕ, ◌<◌, List, [], ◌++◌, lengt
 use Rattle.std.specs.Prelude.{slice_index_or}
 use Rattle.std.proofs.Math.Seq.{take-append_seam}
 use Rattle.std.proofs.lemmas.List.{ext_get_or, get_or-replicate, length-replicate}
-use Rattle.session_model.specs.Kinds.{filled, fitted}
-use Rattle.session_model.specs.Samples.{silence}
-use Rattle.session_laws.proofs.ActivationLemmas.{get_or-map_below, length-map_below}
+use Rattle.port_mixer.specs.session_model.specs.Kinds.{filled, fitted}
+use Rattle.port_mixer.specs.session_model.specs.Samples.{silence}
+use Rattle.port_mixer.specs.session_laws.proofs.ActivationLemmas.{get_or-map_below, length-map_below}
 
 pub filled-whole : (period : ℕ) (samples : List ℤ) → length samples ≡ period → filled period samples ≡ samples
 filled-whole period samples size = subst (λ n. take n (samples ++ silence period) ≡ samples) size (take-append_seam samples (silence period))

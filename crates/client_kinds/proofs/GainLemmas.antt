@@ -8,7 +8,7 @@ use Rattle.std.specs.Prelude.{FitsSigned}
 use Rattle.std.proofs.lemmas.Int.{ints, to_z-of_z}
 use Rattle.std.proofs.lemmas.Nat.{div_below}
 use Rattle.std.proofs.Math.Nat.{mul-le-mul_right}
-use Rattle.session_model.specs.Samples.{clamp}
+use Rattle.port_mixer.specs.session_model.specs.Samples.{clamp}
 
 -- a sample's magnitude times a smaller one
 times : (a b m : ℕ) → a ≤ 2147483648 → b < m → a * b < 2147483648 * m

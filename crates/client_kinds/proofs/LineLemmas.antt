@@ -10,9 +10,9 @@ use Rattle.std.proofs.Math.Seq.{take-append_seam, take-append-add, take-suc-set}
 use Rattle.std.proofs.lemmas.List.Elements.{All-set}
 use Rattle.std.proofs.lemmas.List.{ext_get_or, get_or-map, get_or-set_other, get_or-take, get_or_past, length-drop, length-map, length-take-le, take-append-le, take_all}
 use Rattle.circular_buffer.specs.Buffer.{Buffer, buffer, keep_last}
-use Rattle.session_model.specs.Kinds.{delayed, input_at}
-use Rattle.session_model.specs.Samples.{below, silence}
-use Rattle.session_laws.proofs.ActivationLemmas.{get_or-map_below, length-map_below}
+use Rattle.port_mixer.specs.session_model.specs.Kinds.{delayed, input_at}
+use Rattle.port_mixer.specs.session_model.specs.Samples.{below, silence}
+use Rattle.port_mixer.specs.session_laws.proofs.ActivationLemmas.{get_or-map_below, length-map_below}
 use Rattle.client_kinds.specs.Lines.{AreQuiet, IsFilled, IsWhole, items_of}
 
 pub kept_whole : (xs : List ℤ) → keep_last (length xs) ([] ++ xs) ≡ xs

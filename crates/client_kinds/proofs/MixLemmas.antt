@@ -5,8 +5,8 @@ use Rattle.std.specs.Int.{w32}
 use Rattle.std.specs.Prelude.{FitsSigned, slice_range}
 use Rattle.std.proofs.lemmas.Int.{ints}
 use Rattle.std.proofs.lemmas.List.{ext_get_or}
-use Rattle.session_model.specs.Samples.{clamp, mix, sample, total}
-use Rattle.session_laws.proofs.ActivationLemmas.{length-map_below, get_or-map_below}
+use Rattle.port_mixer.specs.session_model.specs.Samples.{clamp, mix, sample, total}
+use Rattle.port_mixer.specs.session_laws.proofs.ActivationLemmas.{length-map_below, get_or-map_below}
 use Rattle.port_mixer.specs.Sums.{AreSamples}
 use Rattle.client_kinds.specs.Buffers.{buffers_of}
 

@@ -7,11 +7,11 @@
 use Rattle.std.proofs.Common.{◌≡◌, ℕ, zero, suc, ◌≤◌, Bool, true, false, List, [], ◌∷◌, map, replicate, IsSome, Option, Some, None, option_map, true≢false, refl, sym, ◌∙◌, ap, subst, arith, ℤ}
 use Rattle.std.specs.Prelude.{◌==◌, if◌then◌else◌, slice_get, slice_index_or}
 use Rattle.std.specs.Option.{option_map_or}
-use Rattle.jack_types.specs.declared.kinds.Kind.{Kind}
-use Rattle.jack_types.specs.declared.kinds.Kind.TheVariants.{Pass, Gain, Mix, Delay, Tone, Click, Meter, Guest, Disk}
-use Rattle.jack_types.specs.declared.moments.Moment.{Moment}
-use Rattle.session_model.specs.Kinds.{Memory, Sound, filled, first, fitted, guest_played, guest_turn, outputs_by, play}
-use Rattle.session_model.specs.Samples.{silence}
+use Rattle.port_mixer.specs.jack_types.specs.declared.kinds.Kind.{Kind}
+use Rattle.port_mixer.specs.jack_types.specs.declared.kinds.Kind.TheVariants.{Pass, Gain, Mix, Delay, Tone, Click, Meter, Guest, Disk}
+use Rattle.port_mixer.specs.jack_types.specs.declared.moments.Moment.{Moment}
+use Rattle.port_mixer.specs.session_model.specs.Kinds.{Memory, Sound, filled, first, fitted, guest_played, guest_turn, outputs_by, play}
+use Rattle.port_mixer.specs.session_model.specs.Samples.{silence}
 use Rattle.client_kinds.specs.Benches.{standing}
 use Rattle.client_kinds.specs.Rooms.{HasSums, IsPlain}
 use Rattle.client_kinds.specs.Scores.{Score}

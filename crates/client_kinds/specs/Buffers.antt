@@ -2,8 +2,8 @@
 --     buffers_of count period samples      so many buffers of a period, one after another
 --     with_buffer period place samples buffer      the samples with another buffer at a place
 use Rattle.std.specs.Prelude.{ℕ, ◌+◌, ◌*◌, List, ◌++◌, map, take, drop, slice_range, ℤ}
-use Rattle.session_model.specs.Samples.{below}
-pub use Rattle.session_model.specs.Samples.{channels_of}
+use Rattle.port_mixer.specs.session_model.specs.Samples.{below}
+pub use Rattle.port_mixer.specs.session_model.specs.Samples.{channels_of}
 
 abbrev pub buffers_of : ℕ → ℕ → List ℤ → List (List ℤ)
 buffers_of count period samples = map (λ j. slice_range samples (j * period) (j * period + period)) (below count)

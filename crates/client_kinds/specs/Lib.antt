@@ -9,3 +9,5 @@ pub mod Sounds
 pub mod Standings
 pub mod Voices
 pub mod Turns
+pub use Rattle.port_mixer
+pub use Rattle.port_mixer.specs.session_laws

@@ -4,7 +4,7 @@
 --     AreQuiet reached lines      those from a place on have nothing but silence to play
 --     IsFilled part filled samples      of a buffer the front of these samples, as many as there is room for
 use Rattle.std.specs.Prelude.{◌≡◌, ℕ, ◌≤◌, List, [], map, length, min, slice_index_or, take, ℤ}
-use Rattle.session_model.specs.Samples.{silence}
+use Rattle.port_mixer.specs.session_model.specs.Samples.{silence}
 use Rattle.circular_buffer.specs.Buffer.{Buffer}
 
 abbrev pub items_of : List (Buffer ℤ) → List (List ℤ)

@@ -7,10 +7,10 @@
 --     HasMixed count period inputs sums      the sums are those of the inputs, but of an input alone
 --     IsMixed kind count period inputs sums      the sums of a mix are those of its inputs
 use Rattle.std.specs.Prelude.{◌≡◌, ℕ, ◌*◌, ◌<◌, ◌≤◌, ⊤, List, length, ℤ}
-use Rattle.jack_types.specs.declared.kinds.Kind.{Kind}
-use Rattle.jack_types.specs.declared.kinds.Kind.TheVariants.{Mix, Delay, Tone, Guest, Disk}
+use Rattle.port_mixer.specs.jack_types.specs.declared.kinds.Kind.{Kind}
+use Rattle.port_mixer.specs.jack_types.specs.declared.kinds.Kind.TheVariants.{Mix, Delay, Tone, Guest, Disk}
 use Rattle.circular_buffer.specs.Buffer.{Buffer}
-use Rattle.session_model.specs.Kinds.{Memory, no_memory}
+use Rattle.port_mixer.specs.session_model.specs.Kinds.{Memory, no_memory}
 use Rattle.port_mixer.specs.Sums.{sums_of}
 
 abbrev pub IsKept : Kind → List (Buffer ℤ) → ℕ → Type 0

@@ -6,9 +6,9 @@
 --     IsTold is_dead moment before after      it is told the moment, unless it is dead
 use Rattle.std.specs.Prelude.{◌≡◌, ℕ, List, replicate, ℤ, Option, Some, Bool, true, false, not, ◌==◌, if◌then◌else◌}
 use Rattle.std.specs.Option.{ForSome}
-use Rattle.jack_types.specs.declared.moments.Moment.{Moment}
-use Rattle.session_model.specs.Kinds.{GuestTurn, Sound, fitted}
-use Rattle.session_model.specs.Samples.{silence}
+use Rattle.port_mixer.specs.jack_types.specs.declared.moments.Moment.{Moment}
+use Rattle.port_mixer.specs.session_model.specs.Kinds.{GuestTurn, Sound, fitted}
+use Rattle.port_mixer.specs.session_model.specs.Samples.{silence}
 use Rattle.client_kinds.specs.Scores.{Score}
 
 -- a guest's score, and the numbers that it remembers

@@ -3,11 +3,11 @@
 --     stepped kind memory period inputs      the memory behind the cycle
 use Rattle.std.specs.Prelude.{ℕ, ◌+◌, ◌*◌, ◌%◌, Bool, true, false, List, [], map, fold, take, drop, ℤ, ◌*ℤ◌}
 use Rattle.std.specs.Int.{int_shr}
-use Rattle.jack_types.specs.declared.kinds.Kind.{Kind}
-use Rattle.jack_types.specs.declared.kinds.Kind.TheVariants.{Pass, Gain, Mix, Delay, Tone, Click, Meter, Guest, Disk}
-use Rattle.jack_types.specs.declared.moments.Moment.{Moment}
-use Rattle.session_model.specs.Kinds.{Memory, input_at, delayed, tone_sample, click_sample, peak_with}
-use Rattle.session_model.specs.Samples.{below, clamp, silence, mix}
+use Rattle.port_mixer.specs.jack_types.specs.declared.kinds.Kind.{Kind}
+use Rattle.port_mixer.specs.jack_types.specs.declared.kinds.Kind.TheVariants.{Pass, Gain, Mix, Delay, Tone, Click, Meter, Guest, Disk}
+use Rattle.port_mixer.specs.jack_types.specs.declared.moments.Moment.{Moment}
+use Rattle.port_mixer.specs.session_model.specs.Kinds.{Memory, input_at, delayed, tone_sample, click_sample, peak_with}
+use Rattle.port_mixer.specs.session_model.specs.Samples.{below, clamp, silence, mix}
 
 abbrev pub asks_guest : Kind → Bool
 asks_guest (Guest guest) = true

@@ -3,9 +3,9 @@
 --     IsPlayable kind      the kind's numbers are in range
 --     HasScore bench scores      the scores of the program's guests have the guest's at its place
 use Rattle.std.specs.Prelude.{◌≡◌, ℕ, ◌≤◌, ⊤, List, slice_get, ℤ, negsuc, ◌≤ℤ◌, IsSome, Option}
-use Rattle.jack_types.specs.declared.kinds.Kind.{Kind}
-use Rattle.jack_types.specs.declared.kinds.Kind.TheVariants.{Gain, Delay, Tone, Guest, Disk}
-use Rattle.session_model.specs.Kinds.{Memory}
+use Rattle.port_mixer.specs.jack_types.specs.declared.kinds.Kind.{Kind}
+use Rattle.port_mixer.specs.jack_types.specs.declared.kinds.Kind.TheVariants.{Gain, Delay, Tone, Guest, Disk}
+use Rattle.port_mixer.specs.session_model.specs.Kinds.{Memory}
 use Rattle.client_kinds.specs.Scores.{Score}
 
 pub record Standing : Type 0 where

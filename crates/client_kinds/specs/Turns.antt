@@ -2,8 +2,8 @@
 --     turn_by sound score numbers moment ports input      its turn, by its score and numbers, on planar inputs
 --     IsPlayed ports output turn      the planar outputs are what the turn gives, fitted to the ports
 use Rattle.std.specs.Prelude.{◌≡◌, List, ℤ}
-use Rattle.jack_types.specs.declared.moments.Moment.{Moment}
-use Rattle.session_model.specs.Kinds.{GuestTurn, Sound, fitted}
+use Rattle.port_mixer.specs.jack_types.specs.declared.moments.Moment.{Moment}
+use Rattle.port_mixer.specs.session_model.specs.Kinds.{GuestTurn, Sound, fitted}
 use Rattle.client_kinds.specs.declared.guests.Shape.{Shape}
 use Rattle.client_kinds.specs.Buffers.{buffers_of}
 use Rattle.client_kinds.specs.Scores.{Score}

@@ -1,8 +1,8 @@
 -- The inside of a voice, the part of a bench that asks no guest.
 use Rattle.std.specs.Prelude.{◌≡◌, ℕ, ◌*◌, ◌≤◌, false, [], length, All}
-use Rattle.jack_types.specs.declared.kinds.Kind.{Kind}
-use Rattle.session_model.specs.Kinds.{Memory}
-use Rattle.session_model.specs.Samples.{silence}
+use Rattle.port_mixer.specs.jack_types.specs.declared.kinds.Kind.{Kind}
+use Rattle.port_mixer.specs.session_model.specs.Kinds.{Memory}
+use Rattle.port_mixer.specs.session_model.specs.Samples.{silence}
 use Rattle.client_kinds.specs.Buffers.{channels_of}
 use Rattle.client_kinds.specs.Lines.{AreQuiet, IsWhole, items_of}
 use Rattle.client_kinds.specs.Standings.{IsPlayable}

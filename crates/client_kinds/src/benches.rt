@@ -2,7 +2,7 @@
 
 ghost use Rattle.std.specs.Prelude.{◌≡◌, ◌+◌, ◌*◌, ◌<◌, ◌≤◌, ◌^◌, IfOk, IsTrue, List, length, map};
 ghost use Rattle.port_mixer.specs.Sums.{sums_of};
-ghost use Rattle.session_model.specs.Kinds.{outputs_by, play};
+ghost use Rattle.port_mixer.specs.session_model.specs.Kinds.{outputs_by, play};
 ghost use Rattle.client_kinds.specs.Benches.{standing};
 ghost use Rattle.client_kinds.specs.Buffers.{buffers_of};
 ghost use Rattle.client_kinds.specs.Rooms.{HasMixed, IsMixed, IsRoomy, HasSums};
@@ -15,8 +15,8 @@ use crate::buffers::buffer_at;
 use crate::guests::{Guest, Shape};
 use crate::seats::GuestSeat;
 use crate::voices::Voice;
-use jack_types::{Kind, Memory, Moment};
 use port_mixer::Mixer;
+use port_mixer::jack_types::{Kind, Memory, Moment};
 use std::alloc::Global;
 use std::marker::Model;
 
@@ -162,7 +162,7 @@ fn room_for(alloc: Global, kind: Kind, period: u32) -> Result<Mixer, Memory>
 
 impl<G: Guest> Bench<G> {
     ghost use Rattle.std.specs.Prelude.{◌≡◌, ◌+◌, ◌*◌, ◌<◌, ◌≤◌, ◌^◌, [], false, IfNone, IfOk, IfSome, List, None, is_some, length, map};
-    ghost use Rattle.session_model.specs.Kinds.{first, play};
+    ghost use Rattle.port_mixer.specs.session_model.specs.Kinds.{first, play};
     ghost use Rattle.client_kinds.specs.Buffers.{buffers_of, channels_of};
     ghost use Rattle.client_kinds.specs.Healths.{health_of};
     ghost use Rattle.client_kinds.specs.Scores.{Score};

@@ -1,8 +1,8 @@
 //! Planar buffers.
 
 ghost use Rattle.std.specs.Prelude.{◌≡◌, ℕ, ◌+◌, ◌*◌, ◌<◌, ◌≤◌, List, ℤ, length, replicate, slice_range, take};
-ghost use Rattle.session_model.specs.Kinds.{input_at};
-ghost use Rattle.session_model.specs.Samples.{silence};
+ghost use Rattle.port_mixer.specs.session_model.specs.Kinds.{input_at};
+ghost use Rattle.port_mixer.specs.session_model.specs.Samples.{silence};
 ghost use Rattle.client_kinds.specs.Buffers.{buffers_of, with_buffer};
 
 use crate::guests::Shape;

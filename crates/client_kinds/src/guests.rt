@@ -2,12 +2,12 @@
 
 ghost use Rattle.std.specs.Prelude.{◌≡◌, ◌*◌, ◌≤◌, ◌<◌, ◌+◌, ◌^◌, ℤ, List, None, Option, length, pos};
 ghost use Rattle.std.specs.Option.{ForSome};
-ghost use Rattle.jack_types.specs.declared.moments.Moment.{Moment as MomentValue};
-ghost use Rattle.session_model.specs.Kinds.{Sound};
+ghost use Rattle.port_mixer.specs.jack_types.specs.declared.moments.Moment.{Moment as MomentValue};
+ghost use Rattle.port_mixer.specs.session_model.specs.Kinds.{Sound};
 ghost use Rattle.client_kinds.specs.Scores.{Score};
 ghost use Rattle.client_kinds.specs.Turns.{IsPlayed, turn_by};
 
-use jack_types::Moment;
+use port_mixer::jack_types::Moment;
 
 /// The audio ports of a client, and the frames of a cycle. Buffers are planar: port after port, in
 /// order of birth, a period of samples each.

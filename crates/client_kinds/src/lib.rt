@@ -12,3 +12,4 @@ mod voices;
 pub use benches::{Bench, Health};
 pub use buffers::repeat_first;
 pub use guests::{Guest, Shape};
+pub use port_mixer;

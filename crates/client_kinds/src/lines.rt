@@ -1,8 +1,8 @@
 //! The lines of a delay.
 
 ghost use Rattle.std.specs.Prelude.{◌≡◌, ℕ, ◌+◌, ◌*◌, ◌<◌, ◌≤◌, ◌++◌, List, ℤ, All, IfOk, drop, length, map, replicate, take};
-ghost use Rattle.session_model.specs.Kinds.{delayed};
-ghost use Rattle.session_model.specs.Samples.{below, sample, silence};
+ghost use Rattle.port_mixer.specs.session_model.specs.Kinds.{delayed};
+ghost use Rattle.port_mixer.specs.session_model.specs.Samples.{below, sample, silence};
 ghost use Rattle.client_kinds.specs.Buffers.{buffers_of};
 ghost use Rattle.circular_buffer.specs.Buffer.{buffer};
 ghost use Rattle.client_kinds.specs.Lines.{AreQuiet, IsFilled, IsWhole, items_of};

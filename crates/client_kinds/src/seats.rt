@@ -7,7 +7,7 @@ ghost use Rattle.client_kinds.specs.Seats.{IsTold, Playing, seat_outputs, seated
 
 use crate::buffers::fill_silent;
 use crate::guests::{Guest, Shape};
-use jack_types::Moment;
+use port_mixer::jack_types::Moment;
 use std::marker::Model;
 
 /// A guest, or none.

@@ -3,9 +3,9 @@
 ghost use Rattle.std.specs.Prelude.{◌≡◌, ℕ, ◌+◌, ◌*◌, ◌^◌, ◌<◌, ◌≤◌, ◌%◌, if◌then◌else◌, ◌*ℤ◌, ◌≤ℤ◌, pos, negsuc, length, map, nat_abs, nat_lt, neg_ℤ, max};
 ghost use Rattle.std.specs.Int.{int_shr};
 ghost use Rattle.client_kinds.specs.declared.sounds.TheConstants.{PIECE};
-ghost use Rattle.session_model.specs.Kinds.{peak_with, tone_sample};
-ghost use Rattle.session_model.specs.Samples.{below, clamp, sample, silence};
-ghost use Rattle.session_model.specs.Tempo.{begins_beat};
+ghost use Rattle.port_mixer.specs.session_model.specs.Kinds.{peak_with, tone_sample};
+ghost use Rattle.port_mixer.specs.session_model.specs.Samples.{below, clamp, sample, silence};
+ghost use Rattle.port_mixer.specs.session_model.specs.Tempo.{begins_beat};
 
 /// How many products of a gain are made before they are clamped.
 const PIECE: usize = 64;
@@ -56,7 +56,7 @@ fn fill_piece(x: &[i32], factor: i32, shift: u32, part: &mut [i32])
     let all = &mut room[..];
     let products = &mut all[..x.len()];
     multiply(x, factor, shift, products);
-    samples::settle(products, part);
+    port_mixer::samples::settle(products, part);
 }
 
 /// The samples times a factor, shifted right.

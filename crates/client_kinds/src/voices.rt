@@ -1,8 +1,8 @@
 //! The part of a bench that asks no guest.
 
 ghost use Rattle.std.specs.Prelude.{◌≡◌, ℕ, ◌+◌, ◌*◌, ◌<◌, ◌≤◌, ◌^◌, ◌%◌, [], All, IfOk, fold, length, map, take};
-ghost use Rattle.session_model.specs.Kinds.{click_sample, first, input_at, peak_with};
-ghost use Rattle.session_model.specs.Samples.{below, mix, silence};
+ghost use Rattle.port_mixer.specs.session_model.specs.Kinds.{click_sample, first, input_at, peak_with};
+ghost use Rattle.port_mixer.specs.session_model.specs.Samples.{below, mix, silence};
 ghost use Rattle.client_kinds.specs.Buffers.{buffers_of, channels_of};
 ghost use Rattle.client_kinds.specs.Lines.{AreQuiet, IsWhole, items_of};
 ghost use Rattle.client_kinds.specs.Sounds.{sound};
@@ -14,7 +14,7 @@ use crate::guests::Shape;
 use crate::lines::{fill_delayed, silent_lines, step_lines};
 use crate::sounds::{fill_channel, fill_click, fill_silence, fill_tone, peak_behind, play_gain};
 use circular_buffer::HeapCircularBuffer;
-use jack_types::{Kind, Moment, TransportState};
+use port_mixer::jack_types::{Kind, Moment, TransportState};
 use port_mixer::{Mixer, see_samples};
 use std::alloc::{AllocError, Global};
 use std::marker::Model;
@@ -68,8 +68,8 @@ fn block_room(alloc: Global, kind: Kind, period: u32) -> Result<Vec<i32>, AllocE
 
 impl Voice {
     ghost use Rattle.std.specs.Prelude.{◌≡◌, ℕ, ◌+◌, ◌*◌, ◌<◌, ◌≤◌, ◌^◌, [], IfOk, length, map};
-    ghost use Rattle.session_model.specs.Kinds.{first, outputs_by};
-    ghost use Rattle.session_model.specs.Samples.{below};
+    ghost use Rattle.port_mixer.specs.session_model.specs.Kinds.{first, outputs_by};
+    ghost use Rattle.port_mixer.specs.session_model.specs.Samples.{below};
     ghost use Rattle.client_kinds.specs.Buffers.{buffers_of, channels_of, with_buffer};
     ghost use Rattle.client_kinds.specs.Sounds.{sound, stepped};
     ghost use Rattle.client_kinds.specs.Standings.{IsPlayable, IsDisk};

@@ -7,9 +7,9 @@ use Rattle.std.proofs.lemmas.List.{length-set, set-get_or}
 use Rattle.jack_types.specs.declared.kinds.Kind.{Kind}
 use Rattle.jack_types.specs.declared.kinds.Kind.TheVariants.{Pass, Gain, Mix, Delay, Tone, Click, Meter, Tape, Guest, Midiplay, Midithru, Midilog, Disk}
 use Rattle.session_model.specs.Kinds.{Memory, Sound, first, no_memory}
-use Rattle.client_kinds.specs.Scores.{Score}
-use Rattle.client_kinds.specs.Standings.{HasGuest, HasScore, Standing}
-use Rattle.client_benches.specs.Seen.{Seen, new_bench}
+use Rattle.bench_rack.specs.client_kinds.specs.Scores.{Score}
+use Rattle.bench_rack.specs.client_kinds.specs.Standings.{HasGuest, HasScore, Standing}
+use Rattle.bench_rack.specs.client_benches.specs.Seen.{Seen, new_bench}
 use Rattle.bench_rack.specs.Racks.{Racked}
 use Rattle.client_seats.specs.Owners.{Owned, owner_at, pooled}
 use Rattle.client_seats.specs.Seatings.{IsBare, IsSeating, kind_at, standing_at}

@@ -13,9 +13,9 @@ use Rattle.session_model.specs.Benches.{node_at}
 use Rattle.session_model.specs.Kinds.{first, Memory}
 use Rattle.session_model.specs.State.{OpenClient}
 use Rattle.session_model.specs.Kinds.{Sound}
-use Rattle.client_kinds.specs.Scores.{Score}
+use Rattle.bench_rack.specs.client_kinds.specs.Scores.{Score}
 use Rattle.session_laws.proofs.LoopLemmas.{Contains-cases, Contains-first, Contains-later}
-use Rattle.client_benches.specs.Seen.{Remembered as Kept, Seen, new_bench}
+use Rattle.bench_rack.specs.client_benches.specs.Seen.{Remembered as Kept, Seen, new_bench}
 use Rattle.bench_rack.specs.Racks.{Racked}
 use Rattle.driver_laws.specs.Drivers.{Remembered}
 use Rattle.client_seats.specs.Owners.{Owned, owner_at}

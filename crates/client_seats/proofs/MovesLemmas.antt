@@ -7,8 +7,8 @@ use Rattle.session_model.specs.Benches.{node_at}
 use Rattle.session_model.specs.Kinds.{first, Memory}
 use Rattle.session_model.specs.State.{OpenClient}
 use Rattle.session_model.specs.Kinds.{Sound}
-use Rattle.client_kinds.specs.Scores.{Score}
-use Rattle.client_benches.specs.Seen.{Remembered as Kept}
+use Rattle.bench_rack.specs.client_kinds.specs.Scores.{Score}
+use Rattle.bench_rack.specs.client_benches.specs.Seen.{Remembered as Kept}
 use Rattle.bench_rack.specs.Racks.{Racked}
 use Rattle.driver_laws.specs.Drivers.{Remembered}
 use Rattle.client_seats.specs.Owners.{Owned, owner_at}

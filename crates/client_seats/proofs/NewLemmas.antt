@@ -6,8 +6,8 @@ use Rattle.std.proofs.lemmas.List.{length-map, length-replicate}
 use Rattle.jack_types.specs.declared.kinds.Kind.{Kind}
 use Rattle.jack_types.specs.declared.kinds.Kind.TheVariants.{Pass, Gain, Mix, Delay, Tone, Click, Meter, Tape, Guest, Midiplay, Midithru, Midilog, Disk}
 use Rattle.session_model.specs.Kinds.{first}
-use Rattle.client_kinds.specs.Scores.{Score}
-use Rattle.client_benches.specs.Seen.{Seen, new_bench, new_standing}
+use Rattle.bench_rack.specs.client_kinds.specs.Scores.{Score}
+use Rattle.bench_rack.specs.client_benches.specs.Seen.{Seen, new_bench, new_standing}
 use Rattle.driver_laws.specs.Drivers.{Remembered}
 use Rattle.client_seats.specs.Owners.{Owned}
 use Rattle.client_seats.specs.Seatings.{IsBare, IsScored, IsSeating}

@@ -6,7 +6,7 @@ use Rattle.std.proofs.lemmas.List.{length-map}
 use Rattle.jack_types.specs.declared.ports.Client.{Client}
 use Rattle.port_registry.specs.Registered.{open_client, open_clients}
 use Rattle.std.proofs.Common.{IsSome, true≢false, subst, ◌≡◌, ℕ, zero, suc, ◌<◌, List, [], ◌∷◌, length, get_or, Option, Some, None, sym, arith}
-use Rattle.client_kinds.specs.Scores.{Score}
+use Rattle.bench_rack.specs.client_kinds.specs.Scores.{Score}
 
 pub owner_within : (births : List (Option ℕ)) (p birth : ℕ) → get_or births p None ≡ Some birth → p < length births
 owner_within [] p birth h = cc

@@ -8,10 +8,10 @@ use Rattle.jack_types.specs.declared.kinds.Kind.TheVariants.{Pass, Gain, Mix, De
 use Rattle.session_model.specs.Benches.{Signal, mixed}
 use Rattle.session_model.specs.Kinds.{GuestTurn, Memory, guest_played, guest_turn, silent}
 use Rattle.session_model.specs.Kinds.{Sound}
-use Rattle.client_kinds.specs.Scores.{Score}
-use Rattle.client_kinds.specs.Standings.{HasGuest, HasScore, Standing}
-use Rattle.client_benches.specs.declared.benches.Stint.{Stint}
-use Rattle.client_benches.specs.Seen.{Remembered, kept_after, new_standing, own_sounds, task_in}
+use Rattle.bench_rack.specs.client_kinds.specs.Scores.{Score}
+use Rattle.bench_rack.specs.client_kinds.specs.Standings.{HasGuest, HasScore, Standing}
+use Rattle.bench_rack.specs.client_benches.specs.declared.benches.Stint.{Stint}
+use Rattle.bench_rack.specs.client_benches.specs.Seen.{Remembered, kept_after, new_standing, own_sounds, task_in}
 use Rattle.bench_rack.specs.Racks.{Racked}
 use Rattle.client_seats.specs.Owners.{Owned, owner_at, pooled}
 use Rattle.client_seats.specs.Seatings.{IsBare, IsLent, IsSameBench, IsScored, IsSeating, standing_at}

@@ -12,8 +12,8 @@ use Rattle.std.proofs.lemmas.List.Sorted.{length_permutation}
 use Rattle.session_model.specs.Benches.{node_at}
 use Rattle.session_model.specs.State.{OpenClient}
 use Rattle.session_model.specs.Kinds.{Sound}
-use Rattle.client_kinds.specs.Scores.{Score}
-use Rattle.client_benches.specs.Seen.{Remembered as Kept, Seen}
+use Rattle.bench_rack.specs.client_kinds.specs.Scores.{Score}
+use Rattle.bench_rack.specs.client_benches.specs.Seen.{Remembered as Kept, Seen}
 use Rattle.bench_rack.specs.Racks.{Racked, bench_at}
 use Rattle.client_seats.specs.Owners.{Owned, owner_at}
 use Rattle.client_seats.specs.Seatings.{AreApart, HasBench, HasNoPast, IsSeating, kind_at}

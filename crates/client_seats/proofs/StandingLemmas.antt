@@ -11,8 +11,8 @@ use Rattle.std.proofs.lemmas.List.Sorted.{IsPermutation-refl}
 use Rattle.jack_types.specs.declared.kinds.Kind.{Kind}
 use Rattle.jack_types.specs.declared.kinds.Kind.TheVariants.{Guest, Pass}
 use Rattle.session_model.specs.Kinds.{Memory}
-use Rattle.client_kinds.specs.Standings.{Standing}
-use Rattle.client_benches.specs.Seen.{Seen, cleared, new_bench, new_standing}
+use Rattle.bench_rack.specs.client_kinds.specs.Standings.{Standing}
+use Rattle.bench_rack.specs.client_benches.specs.Seen.{Seen, cleared, new_bench, new_standing}
 use Rattle.bench_rack.specs.Racks.{Racked, bench_at}
 use Rattle.client_seats.specs.Seatings.{HavePeriod, IsBare, IsIdle, kind_at, standing_at}
 use Rattle.client_seats.specs.Moves.{emptied, kinds_of, with_standing}

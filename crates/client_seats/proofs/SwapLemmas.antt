@@ -8,9 +8,9 @@ use Rattle.std.proofs.lemmas.List.{length-set}
 use Rattle.jack_types.specs.declared.kinds.Kind.TheVariants.{Pass}
 use Rattle.session_model.specs.State.{OpenClient}
 use Rattle.session_model.specs.Kinds.{Sound}
-use Rattle.client_kinds.specs.Scores.{Score}
-use Rattle.client_kinds.specs.Standings.{HasGuest}
-use Rattle.client_benches.specs.Seen.{Seen, cleared, new_bench, new_standing}
+use Rattle.bench_rack.specs.client_kinds.specs.Scores.{Score}
+use Rattle.bench_rack.specs.client_kinds.specs.Standings.{HasGuest}
+use Rattle.bench_rack.specs.client_benches.specs.Seen.{Seen, cleared, new_bench, new_standing}
 use Rattle.bench_rack.specs.Racks.{Racked, bench_at}
 use Rattle.client_seats.specs.Owners.{Owned, owner_at, pooled}
 use Rattle.client_seats.specs.Seatings.{HasBench, IsBare, IsLent, IsScored, IsSeating, kind_at}

@@ -11,9 +11,9 @@ use Rattle.session_model.specs.Benches.{node_at}
 use Rattle.session_model.specs.State.{OpenClient}
 use Rattle.session_model.specs.Kinds.{Sound}
 use Rattle.session_laws.proofs.LoopLemmas.{Contains-cases, Contains-first}
-use Rattle.client_kinds.specs.Scores.{Score}
-use Rattle.client_kinds.specs.Standings.{HasGuest, HasScore, Standing}
-use Rattle.client_benches.specs.Seen.{Seen, new_standing}
+use Rattle.bench_rack.specs.client_kinds.specs.Scores.{Score}
+use Rattle.bench_rack.specs.client_kinds.specs.Standings.{HasGuest, HasScore, Standing}
+use Rattle.bench_rack.specs.client_benches.specs.Seen.{Seen, new_standing}
 use Rattle.bench_rack.specs.Racks.{Racked, bench_at}
 use Rattle.driver_laws.specs.Drivers.{Remembered}
 use Rattle.client_seats.specs.Owners.{Owned, owner_at, pooled}

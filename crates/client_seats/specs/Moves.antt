@@ -16,9 +16,9 @@ use Rattle.session_model.specs.Benches.{node_at}
 use Rattle.session_model.specs.Kinds.{Memory, first}
 use Rattle.session_model.specs.State.{OpenClient}
 use Rattle.session_model.specs.Kinds.{Sound}
-use Rattle.client_kinds.specs.Scores.{Score}
-use Rattle.client_kinds.specs.Standings.{HasGuest, Standing}
-use Rattle.client_benches.specs.Seen.{Seen}
+use Rattle.bench_rack.specs.client_kinds.specs.Scores.{Score}
+use Rattle.bench_rack.specs.client_kinds.specs.Standings.{HasGuest, Standing}
+use Rattle.bench_rack.specs.client_benches.specs.Seen.{Seen}
 use Rattle.bench_rack.specs.Racks.{Racked, bench_at, with_bench}
 use Rattle.driver_laws.specs.Drivers.{Remembered}
 use Rattle.client_seats.specs.Owners.{Owned, owner_at, pooled}

@@ -3,7 +3,7 @@
 --     owner_at owned place      who owns the bench at a place
 --     pooled owned guest      the score of a guest that is not lent
 use Rattle.std.specs.Prelude.{ℕ, List, Option, None, slice_index_or}
-use Rattle.client_kinds.specs.Scores.{Score}
+use Rattle.bench_rack.specs.client_kinds.specs.Scores.{Score}
 use Rattle.driver_laws.specs.Drivers.{Remembered}
 
 -- `births` has of each place the birth of the client that owns its bench, if one does; `scores` are those of all guests, as they were

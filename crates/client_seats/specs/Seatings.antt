@@ -14,9 +14,9 @@ use Rattle.jack_types.specs.declared.kinds.Kind.TheVariants.{Guest}
 use Rattle.session_model.specs.Benches.{node_at}
 use Rattle.session_model.specs.Kinds.{Memory, no_memory}
 use Rattle.session_model.specs.State.{OpenClient}
-use Rattle.client_kinds.specs.Scores.{Score}
-use Rattle.client_kinds.specs.Standings.{Standing, HasGuest, HasScore}
-use Rattle.client_benches.specs.Seen.{Seen, cleared, new_standing}
+use Rattle.bench_rack.specs.client_kinds.specs.Scores.{Score}
+use Rattle.bench_rack.specs.client_kinds.specs.Standings.{Standing, HasGuest, HasScore}
+use Rattle.bench_rack.specs.client_benches.specs.Seen.{Seen, cleared, new_standing}
 use Rattle.bench_rack.specs.Racks.{Racked, bench_at}
 use Rattle.driver_laws.specs.Drivers.{Remembered}
 use Rattle.client_seats.specs.Owners.{Owned, owner_at, pooled}

@@ -5,8 +5,8 @@ ghost use Rattle.port_registry.specs.Registered.{open_clients};
 ghost use Rattle.session_model.specs.Benches.{node_at};
 ghost use Rattle.session_model.specs.Kinds.{first};
 ghost use Rattle.jack_types.specs.declared.kinds.Kind.TheVariants.{Guest as GuestKind};
-ghost use Rattle.client_kinds.specs.Scores.{Score};
-ghost use Rattle.client_kinds.specs.Standings.{HasScore};
+ghost use Rattle.bench_rack.specs.client_kinds.specs.Scores.{Score};
+ghost use Rattle.bench_rack.specs.client_kinds.specs.Standings.{HasScore};
 ghost use Rattle.bench_rack.specs.Racks.{bench_at};
 ghost use Rattle.client_seats.specs.Owners.{owner_at, pooled};
 ghost use Rattle.client_seats.specs.Seatings.{HasBench, HasNoPast, IsIdle, IsNobodys, IsRefused, IsSeating, kind_at, standing_at};
@@ -15,7 +15,7 @@ ghost use Rattle.client_seats.specs.Moves.{Gives, IsEquipped, Moves, TakesBack, 
 use crate::owners::Owners;
 use crate::places::{birth_of, has_birth, kind_of, lent_place};
 use bench_rack::Rack;
-use client_kinds::Guest;
+use bench_rack::client_kinds::Guest;
 use jack_types::{Client, Kind};
 
 /// Takes the guest back that is lent to the bench at a place. Its client is noted, and the bench is

@@ -3,8 +3,8 @@
 ghost use Rattle.std.specs.Prelude.{◌≡◌, ℕ, List, None, length};
 ghost use Rattle.session_model.specs.Benches.{Signal};
 ghost use Rattle.session_model.specs.Kinds.{Sound};
-ghost use Rattle.client_kinds.specs.Scores.{Score};
-ghost use Rattle.client_benches.specs.Seen.{Remembered, kept_after};
+ghost use Rattle.bench_rack.specs.client_kinds.specs.Scores.{Score};
+ghost use Rattle.bench_rack.specs.client_benches.specs.Seen.{Remembered, kept_after};
 ghost use Rattle.bench_rack.specs.Racks.{Racked};
 ghost use Rattle.client_seats.specs.Owners.{Owned, owner_at};
 ghost use Rattle.client_seats.specs.Seatings.{IsSameBench, IsSeating, standing_at};

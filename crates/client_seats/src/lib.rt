@@ -10,6 +10,8 @@ mod owners;
 mod places;
 mod seating;
 
+pub use bench_rack;
+pub use bench_rack::bench_crew;
 pub use laws::{a_play_keeps_the_guest, plays_keep_a_seating};
 pub use owners::Owners;
 pub use seating::{peak, seat};

@@ -2,8 +2,8 @@
 
 ghost use Rattle.std.specs.Prelude.{◌≡◌, IfOk, None, Some, map, replicate};
 
-use client_benches::ClientBench;
-use client_kinds::Guest;
+use bench_rack::client_benches::ClientBench;
+use bench_rack::client_kinds::Guest;
 use jack_types::Memory;
 use proof_notes::Log;
 use std::alloc::{AllocError, Global};
@@ -62,7 +62,7 @@ fn fill_pool<G: Guest>(alloc: Global, guests: Vec<G>) -> Result<Vec<Option<G>>, 
 impl<G: Guest> Owners<G> {
     ghost use Rattle.std.specs.Prelude.{◌≡◌, ◌<◌, ◌++◌, ◌∷◌, [], ℕ, List, length, map, None, Some, option_map, slice_set, is_some, IfOk, replicate};
     ghost use Rattle.jack_types.specs.declared.kinds.Kind.{Kind};
-    ghost use Rattle.client_benches.specs.Seen.{new_bench};
+    ghost use Rattle.bench_rack.specs.client_benches.specs.Seen.{new_bench};
     ghost use Rattle.client_seats.specs.Owners.{owner_at, pooled};
     ghost use Rattle.client_seats.specs.Seatings.{IsSeating};
 

@@ -9,7 +9,7 @@ ghost use Rattle.client_seats.specs.Seatings.{IsLent, IsNobodys, kind_at};
 
 use crate::owners::Owners;
 use bench_rack::Rack;
-use client_kinds::Guest;
+use bench_rack::client_kinds::Guest;
 use jack_types::{Client, Kind};
 
 /// Whether two kinds are the same, with all their numbers.

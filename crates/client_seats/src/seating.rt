@@ -17,7 +17,7 @@ use crate::guests::{fetch, give};
 use crate::owners::Owners;
 use crate::places::{birth_of, free_place, is_kind, kind_of, place_of};
 use bench_rack::Rack;
-use client_kinds::Guest;
+use bench_rack::client_kinds::Guest;
 use jack_types::Client;
 
 /// Makes a bench ready for the client of a node, which has none, and answers its place.

@@ -14,3 +14,4 @@ pub use casting::cast;
 pub use laws::a_cast_is_the_stages;
 pub use performing::perform;
 pub use stage::Stage;
+pub use stage_laws::{device_periods, disk_feeds};

@@ -13,10 +13,10 @@ use Rattle.std.proofs.lemmas.List.Elements.{filter-append}
 use Rattle.std.proofs.lemmas.List.Sums.{length-filter}
 use Rattle.session_model.specs.Samples.{below}
 use Rattle.session_laws.proofs.SequentialLemmas.{filter_below-at}
-use Rattle.client_benches.specs.Seen.{Seen}
-use Rattle.client_benches.specs.Wires.{filled_with, no_wire, wire_at}
-use Rattle.client_benches.specs.declared.wires.Source.{Source}
-use Rattle.client_benches.specs.declared.wires.Wire.{Wire}
+use Rattle.bench_rack.specs.client_benches.specs.Seen.{Seen}
+use Rattle.bench_rack.specs.client_benches.specs.Wires.{filled_with, no_wire, wire_at}
+use Rattle.bench_rack.specs.client_benches.specs.declared.wires.Source.{Source}
+use Rattle.bench_rack.specs.client_benches.specs.declared.wires.Wire.{Wire}
 use Rattle.client_wiring.specs.declared.joints.Joint.{Joint}
 use Rattle.client_wiring.specs.declared.joints.Origin.{Origin}
 use Rattle.client_wiring.specs.declared.joints.Origin.TheVariants.{Handed, Kept, Captured}

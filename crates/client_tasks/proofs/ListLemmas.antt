@@ -20,7 +20,7 @@ use Rattle.jack_types.specs.declared.ports.Link.{Link}
 use Rattle.session_model.specs.Activation.{link_at, outgoing}
 use Rattle.session_model.specs.Samples.{below}
 use Rattle.session_laws.proofs.SequentialLemmas.{length-below}
-use Rattle.client_benches.specs.declared.values.Route.{Route}
+use Rattle.bench_rack.specs.client_benches.specs.declared.values.Route.{Route}
 use Rattle.client_wiring.specs.declared.joints.Carried.{Carried}
 use Rattle.client_wiring.specs.declared.joints.Joint.{Joint}
 use Rattle.client_wiring.specs.declared.joints.Origin.TheVariants.{Captured}

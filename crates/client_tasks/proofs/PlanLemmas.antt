@@ -33,8 +33,8 @@ use Rattle.session_laws.proofs.SequentialLemmas.{length-below}
 use Rattle.session_laws.proofs.LoopLemmas.{Contains-first, Contains-later}
 use Rattle.session_laws.proofs.FilterLemmas.{count-cons, map-filter_after}
 use Rattle.port_registry.specs.Registered.{is_of, open_client, open_clients}
-use Rattle.cycle_plan.specs.Layouts.{distinct, link_between, same_link, with_link}
-use Rattle.cycle_plan.specs.Plans.{IsPlanned, Planned, link_in, nodes_of, state_of_plan}
+use Rattle.client_wiring.specs.cycle_plan.specs.Layouts.{distinct, link_between, same_link, with_link}
+use Rattle.client_wiring.specs.cycle_plan.specs.Plans.{IsPlanned, Planned, link_in, nodes_of, state_of_plan}
 use Rattle.client_wiring.specs.declared.joints.Carried.{Carried}
 use Rattle.client_wiring.specs.declared.joints.Joint.{Joint}
 use Rattle.client_wiring.specs.declared.joints.Output.TheVariants.{Audio as AudioOutput, Midi as MidiOutput}

@@ -14,9 +14,9 @@ use Rattle.std.proofs.lemmas.List.Sums.{count_by-le-length, sum_by-cons, sum_by-
 use Rattle.jack_types.specs.declared.kinds.Kind.TheVariants.{Pass}
 use Rattle.session_model.specs.Samples.{below}
 use Rattle.session_laws.proofs.FilterLemmas.{count-append, count-cons}
-use Rattle.client_benches.specs.Seen.{Seen, has_room_at, new_bench, room_count}
-use Rattle.client_benches.specs.Wires.{is_kept, kept_count}
-use Rattle.client_benches.specs.declared.wires.Wire.{Wire}
+use Rattle.bench_rack.specs.client_benches.specs.Seen.{Seen, has_room_at, new_bench, room_count}
+use Rattle.bench_rack.specs.client_benches.specs.Wires.{is_kept, kept_count}
+use Rattle.bench_rack.specs.client_benches.specs.declared.wires.Wire.{Wire}
 use Rattle.bench_rack.specs.Racks.{Racked, bench_at, with_bench}
 use Rattle.client_tasks.specs.Tasks.{IsIdle}
 use Rattle.client_tasks.proofs.ListLemmas.{count-front}

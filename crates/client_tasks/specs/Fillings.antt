@@ -5,8 +5,8 @@
 --     AreJoints nodes joints      the joints of a plan of so many nodes
 --     known_at rack channels silence last joints i      what joint i has its samples from, where they are known
 use Rattle.std.specs.Prelude.{ℕ, ◌<◌, ◌≤◌, ◌==◌, ⊤, All, length, List, [], ℤ, find, Option, Some, None, option_map, slice_index_or}
-use Rattle.client_benches.specs.Seen.{Seen}
-use Rattle.client_benches.specs.declared.wires.Wire.{Wire}
+use Rattle.bench_rack.specs.client_benches.specs.Seen.{Seen}
+use Rattle.bench_rack.specs.client_benches.specs.declared.wires.Wire.{Wire}
 use Rattle.client_wiring.specs.declared.joints.Given.{Given}
 use Rattle.client_wiring.specs.declared.joints.Joint.{Joint}
 use Rattle.client_wiring.specs.declared.joints.Origin.{Origin}

@@ -14,10 +14,10 @@ use Rattle.std.specs.Option.{ForSome}
 use Rattle.jack_types.specs.declared.ports.Link.{Link}
 use Rattle.session_model.specs.Activation.{link_at}
 use Rattle.session_model.specs.Samples.{below}
-use Rattle.client_benches.specs.Seen.{Seen}
-use Rattle.client_benches.specs.declared.benches.Stint.{Stint}
-use Rattle.client_benches.specs.declared.values.Route.{Route}
-use Rattle.client_benches.specs.declared.wires.Wire.{Wire}
+use Rattle.bench_rack.specs.client_benches.specs.Seen.{Seen}
+use Rattle.bench_rack.specs.client_benches.specs.declared.benches.Stint.{Stint}
+use Rattle.bench_rack.specs.client_benches.specs.declared.values.Route.{Route}
+use Rattle.bench_rack.specs.client_benches.specs.declared.wires.Wire.{Wire}
 use Rattle.client_wiring.specs.declared.joints.Carried.{Carried}
 use Rattle.client_wiring.specs.declared.joints.Joint.{Joint}
 use Rattle.client_wiring.specs.declared.joints.Origin.{Origin}

@@ -11,12 +11,12 @@ use Rattle.jack_types.specs.declared.moments.Moment.{Moment}
 use Rattle.jack_types.specs.declared.ports.Link.{Link}
 use Rattle.session_model.specs.Activation.{link_at, outgoing, place_among}
 use Rattle.session_model.specs.Samples.{below}
-use Rattle.client_benches.specs.Seen.{Seen, cleared, has_room_at}
-use Rattle.client_benches.specs.declared.benches.Stint.{Stint}
-use Rattle.client_benches.specs.declared.values.Route.{Route}
-use Rattle.client_benches.specs.declared.wires.Source.{Source}
-use Rattle.client_benches.specs.declared.wires.Source.TheVariants.{Carried as CarriedSource, Kept as KeptSource, Like}
-use Rattle.client_benches.specs.declared.wires.Wire.{Wire}
+use Rattle.bench_rack.specs.client_benches.specs.Seen.{Seen, cleared, has_room_at}
+use Rattle.bench_rack.specs.client_benches.specs.declared.benches.Stint.{Stint}
+use Rattle.bench_rack.specs.client_benches.specs.declared.values.Route.{Route}
+use Rattle.bench_rack.specs.client_benches.specs.declared.wires.Source.{Source}
+use Rattle.bench_rack.specs.client_benches.specs.declared.wires.Source.TheVariants.{Carried as CarriedSource, Kept as KeptSource, Like}
+use Rattle.bench_rack.specs.client_benches.specs.declared.wires.Wire.{Wire}
 use Rattle.client_wiring.specs.Wirings.{Wired}
 use Rattle.client_wiring.specs.declared.joints.Carried.{Carried}
 use Rattle.client_wiring.specs.declared.joints.Joint.{Joint}

@@ -9,7 +9,7 @@ ghost use Rattle.client_tasks.specs.Tasks.{HasRooms, audio_of, routes_of};
 
 use crate::turns::count_from;
 use bench_rack::Rack;
-use client_kinds::Guest;
+use bench_rack::client_kinds::Guest;
 use client_wiring::{Carried, Output};
 use jack_types::Link;
 

@@ -10,7 +10,7 @@ ghost use Rattle.client_tasks.specs.Steps.{with_samples_of};
 ghost use Rattle.client_tasks.specs.Tasks.{AreSet, joint_at, wires_of};
 
 use bench_rack::Rack;
-use client_kinds::Guest;
+use bench_rack::client_kinds::Guest;
 use client_wiring::{Joint, Origin};
 use device_periods::Capture;
 use jack_host::Source;

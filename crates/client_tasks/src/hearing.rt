@@ -9,7 +9,7 @@ ghost use Rattle.client_tasks.specs.Steps.{IsSmall, heard};
 ghost use Rattle.client_tasks.specs.Tasks.{first_like, is_same_channel, wires_of};
 
 use bench_rack::Rack;
-use client_kinds::Guest;
+use bench_rack::client_kinds::Guest;
 use client_wiring::{Joint, Origin};
 
 /// Whether a connection brings this captured channel.

@@ -8,6 +8,8 @@ mod placing;
 mod setting;
 mod turns;
 
+pub use client_wiring;
+pub use device_periods;
 pub use filling::fill_wires;
 pub use placing::place_last;
 pub use setting::set_tasks;

@@ -1,7 +1,7 @@
 //! What the clients of a plan do.
 
 ghost use Rattle.std.specs.Prelude.{◌≡◌, ◌≤◌, ◌<◌, ◌+◌, ◌^◌, ℕ, All, [], length};
-ghost use Rattle.client_kinds.specs.Standings.{HasGuest};
+ghost use Rattle.bench_rack.specs.client_kinds.specs.Standings.{HasGuest};
 ghost use Rattle.client_wiring.specs.Wirings.{wired_of};
 ghost use Rattle.bench_rack.specs.Racks.{bench_at};
 ghost use Rattle.client_tasks.specs.Fillings.{AreJoints};
@@ -11,9 +11,9 @@ use crate::carrying::{carry_all, link_all};
 use crate::hearing::hear_all;
 use crate::turns::begin_all;
 use bench_rack::Rack;
-use client_kinds::Guest;
+use bench_rack::client_kinds::Guest;
 use client_wiring::Wiring;
-use cycle_plan::Plan;
+use client_wiring::cycle_plan::Plan;
 use jack_types::Moment;
 
 /// Sets what the clients of a plan do in the next cycle: a bench a node, from the first on. All benches are idle, and

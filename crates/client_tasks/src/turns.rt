@@ -4,15 +4,15 @@ ghost use Rattle.std.specs.Prelude.{◌≡◌, ◌≤◌, ◌<◌, ◌+◌, ◌^
 ghost use Rattle.std.specs.Option.{ForSome};
 ghost use Rattle.jack_types.specs.declared.ports.Link.{Link as LinkValue};
 ghost use Rattle.jack_types.specs.declared.moments.Moment.{Moment as MomentValue};
-ghost use Rattle.client_benches.specs.Seen.{MayPlay, cleared, moved_to, rested};
+ghost use Rattle.bench_rack.specs.client_benches.specs.Seen.{MayPlay, cleared, moved_to, rested};
 ghost use Rattle.client_wiring.specs.Wirings.{Wired};
 ghost use Rattle.bench_rack.specs.Racks.{bench_at, begun, moved};
 ghost use Rattle.client_tasks.specs.Steps.{count_out};
 ghost use Rattle.client_tasks.specs.Tasks.{AreSet, turn_of as the_turn, widths_at};
 
 use bench_rack::Rack;
-use client_benches::Stint;
-use client_kinds::{Guest, Shape};
+use bench_rack::client_benches::Stint;
+use bench_rack::client_kinds::{Guest, Shape};
 use client_wiring::Wiring;
 use jack_types::{Link, Moment};
 

@@ -14,9 +14,9 @@ use Rattle.session_model.specs.Commands.{after, applies, effect, is_audio, is_in
 use Rattle.session_model.specs.Cycles.{audio_inputs, audio_outputs}
 use Rattle.session_model.specs.Samples.{below}
 use Rattle.session_model.specs.State.{OpenPort, State, capture_port, is_system, opening, playback_port, system_name}
-use Rattle.session_laws.proofs.CycleLemmas.{bytes_same}
-use Rattle.session_laws.proofs.LoopLemmas.{Contains-first, Contains-later}
-use Rattle.session_laws.proofs.SoundLemmas.{refused_not}
+use Rattle.cycle_plan.specs.session_laws.proofs.CycleLemmas.{bytes_same}
+use Rattle.cycle_plan.specs.session_laws.proofs.LoopLemmas.{Contains-first, Contains-later}
+use Rattle.cycle_plan.specs.session_laws.proofs.SoundLemmas.{refused_not}
 
 -- a test of what passes another is as before, where it asks for more
 filter-stronger : {X : Type 0} (p q : X → Bool) (xs : List X) → ((x : X) → p x ≡ true → q x ≡ true) → filter p (filter q xs) ≡ filter p xs

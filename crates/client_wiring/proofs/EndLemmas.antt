@@ -27,16 +27,16 @@ use Rattle.session_model.specs.Cycles.{audio_inputs, audio_outputs, midi_outputs
 use Rattle.session_model.specs.Ids.{connection, connections, name_with, open_port, open_ports, same_id_node, way_of}
 use Rattle.session_model.specs.Soundness.{Apart, IsEnd}
 use Rattle.session_model.specs.State.{Connection, OpenClient, OpenPort, State, is_system, port_named, system_client, system_name}
-use Rattle.session_laws.proofs.CycleLemmas.{bytes_same, filter-passes}
-use Rattle.session_laws.proofs.LoopLemmas.{Contains-first, Contains-later, and_parts}
-use Rattle.session_laws.proofs.PlanLemmas.{find-one}
-use Rattle.session_laws.proofs.SoundLemmas.{Apart-same, contains-map, map-contains}
-use Rattle.session_laws.proofs.PlaceLemmas.{filter-contains}
-use Rattle.session_laws.proofs.WiredLemmas.{AreWired, AreWired-opening, AreWired-replay}
-use Rattle.connection_set.specs.Connections.{IsIdOf, no_edge}
-use Rattle.feedback_edges.specs.Marking.{AreAmong, IsEndOf, IsNode, node_number}
-use Rattle.feedback_edges.proofs.NameLemmas.{same_id_node-is, same_id_node-self}
-use Rattle.port_registry.specs.Registered.{IsRegistered, Registered, open_client, open_clients}
+use Rattle.cycle_plan.specs.session_laws.proofs.CycleLemmas.{bytes_same, filter-passes}
+use Rattle.cycle_plan.specs.session_laws.proofs.LoopLemmas.{Contains-first, Contains-later, and_parts}
+use Rattle.cycle_plan.specs.session_laws.proofs.PlanLemmas.{find-one}
+use Rattle.cycle_plan.specs.session_laws.proofs.SoundLemmas.{Apart-same, contains-map, map-contains}
+use Rattle.cycle_plan.specs.session_laws.proofs.PlaceLemmas.{filter-contains}
+use Rattle.cycle_plan.specs.session_laws.proofs.WiredLemmas.{AreWired, AreWired-opening, AreWired-replay}
+use Rattle.cycle_plan.specs.connection_set.specs.Connections.{IsIdOf, no_edge}
+use Rattle.cycle_plan.specs.feedback_edges.specs.Marking.{AreAmong, IsEndOf, IsNode, node_number}
+use Rattle.cycle_plan.specs.feedback_edges.proofs.NameLemmas.{same_id_node-is, same_id_node-self}
+use Rattle.cycle_plan.specs.port_registry.specs.Registered.{IsRegistered, Registered, open_client, open_clients}
 use Rattle.cycle_plan.specs.Graphs.{state_of}
 use Rattle.cycle_plan.specs.Plans.{IsPlanned, Planned, opening_of, state_of_plan}
 use Rattle.cycle_plan.proofs.NetworkLemmas.{AreAmong-network, at_client, fails}

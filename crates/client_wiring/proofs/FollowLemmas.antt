@@ -17,11 +17,11 @@ use Rattle.session_model.specs.Commands.{after, applies, effect, refusal, refusa
 use Rattle.session_model.specs.Replies.{AreLawful, IsNext}
 use Rattle.session_model.specs.Samples.{below}
 use Rattle.session_model.specs.State.{OpenClient, OpenPort, State, capture_port, client_named, is_system, opening, playback_port, system_client, system_name}
-use Rattle.session_laws.proofs.CycleLemmas.{bytes_same, filter-passes, find-contains, find-passes}
-use Rattle.session_laws.proofs.LoopFreeLemmas.{Contains-append_cases, Contains-append_left}
-use Rattle.session_laws.proofs.LoopLemmas.{Contains-cases, Contains-first}
-use Rattle.session_laws.proofs.PlaceLemmas.{filter-contains, filter-keeps}
-use Rattle.session_laws.proofs.SoundLemmas.{contains-map, find-none, map-contains, refused_not}
+use Rattle.cycle_plan.specs.session_laws.proofs.CycleLemmas.{bytes_same, filter-passes, find-contains, find-passes}
+use Rattle.cycle_plan.specs.session_laws.proofs.LoopFreeLemmas.{Contains-append_cases, Contains-append_left}
+use Rattle.cycle_plan.specs.session_laws.proofs.LoopLemmas.{Contains-cases, Contains-first}
+use Rattle.cycle_plan.specs.session_laws.proofs.PlaceLemmas.{filter-contains, filter-keeps}
+use Rattle.cycle_plan.specs.session_laws.proofs.SoundLemmas.{contains-map, find-none, map-contains, refused_not}
 use lib.Pointwise.{bytes_decides}
 
 none_below : {n : ℕ} → n < 0 → ⊥

@@ -16,13 +16,13 @@ use Rattle.session_model.specs.Cycles.{Settled, audio_inputs, audio_outputs, bir
 use Rattle.session_model.specs.Samples.{silence}
 use Rattle.session_model.specs.Soundness.{IsEnd, IsSound}
 use Rattle.session_model.specs.State.{Connection, OpenClient, OpenPort, State, capture_port, is_active_in, is_system, port_named}
-use Rattle.session_laws.proofs.CycleLemmas.{bytes_same, filter-passes, find-contains, find-passes}
-use Rattle.session_laws.proofs.GraphLemmas.{route-audio}
-use Rattle.session_laws.proofs.LoopLemmas.{Contains-cases, Contains-first, Contains-later, and_parts, and_true}
-use Rattle.session_laws.proofs.PlaceLemmas.{filter-contains, filter-keeps, position-found}
-use Rattle.session_laws.proofs.PlanLemmas.{find-one}
-use Rattle.session_laws.proofs.SoundLemmas.{Apart-same, find-none}
-use Rattle.port_registry.specs.Registered.{open_client, open_clients}
+use Rattle.cycle_plan.specs.session_laws.proofs.CycleLemmas.{bytes_same, filter-passes, find-contains, find-passes}
+use Rattle.cycle_plan.specs.session_laws.proofs.GraphLemmas.{route-audio}
+use Rattle.cycle_plan.specs.session_laws.proofs.LoopLemmas.{Contains-cases, Contains-first, Contains-later, and_parts, and_true}
+use Rattle.cycle_plan.specs.session_laws.proofs.PlaceLemmas.{filter-contains, filter-keeps, position-found}
+use Rattle.cycle_plan.specs.session_laws.proofs.PlanLemmas.{find-one}
+use Rattle.cycle_plan.specs.session_laws.proofs.SoundLemmas.{Apart-same, find-none}
+use Rattle.cycle_plan.specs.port_registry.specs.Registered.{open_client, open_clients}
 use Rattle.cycle_plan.specs.Plans.{IsPlanned, Planned, opening_of, state_of_plan}
 use Rattle.cycle_plan.proofs.NetworkLemmas.{fails}
 use Rattle.client_wiring.specs.declared.joints.Given.{Given}

@@ -6,7 +6,7 @@ use Rattle.jack_types.specs.declared.ports.Link.{Link}
 use Rattle.session_model.specs.Activation.{incoming, link_at, no_link}
 use Rattle.session_model.specs.Benches.{link_place}
 use Rattle.session_model.specs.Samples.{below}
-use Rattle.session_laws.proofs.FilterLemmas.{count-cons, map-filter_after}
+use Rattle.cycle_plan.specs.session_laws.proofs.FilterLemmas.{count-cons, map-filter_after}
 use Rattle.cycle_plan.specs.Layouts.{same_link}
 use Rattle.cycle_plan.proofs.NetworkLemmas.{bool-same}
 use Rattle.client_wiring.specs.Tables.{is_into, link_numbered}

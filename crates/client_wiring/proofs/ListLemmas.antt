@@ -8,8 +8,8 @@ use Rattle.std.proofs.lemmas.Map.Steps.{length-le_from_distinct_below}
 use Rattle.jack_types.specs.declared.ports.Port.{Port}
 use Rattle.session_model.specs.Samples.{below}
 use Rattle.session_model.specs.Soundness.{Apart}
-use Rattle.session_laws.proofs.LoopLemmas.{Contains-cases, Contains-first, Contains-later, or_cases}
-use Rattle.session_laws.proofs.PlanLemmas.{Distinct-from_Apart}
+use Rattle.cycle_plan.specs.session_laws.proofs.LoopLemmas.{Contains-cases, Contains-first, Contains-later, or_cases}
+use Rattle.cycle_plan.specs.session_laws.proofs.PlanLemmas.{Distinct-from_Apart}
 use Rattle.client_wiring.specs.Tables.{class_number, in_class}
 
 pub none_below : {n : ℕ} → n < 0 → ⊥

@@ -21,14 +21,14 @@ use Rattle.session_model.specs.Benches.{port_place}
 use Rattle.session_model.specs.Commands.{is_audio, is_input}
 use Rattle.session_model.specs.Ids.{open_port, open_ports, way_of}
 use Rattle.session_model.specs.State.{OpenPort, is_system, system_name}
-use Rattle.session_laws.proofs.CycleLemmas.{bytes_same, filter-passes}
-use Rattle.session_laws.proofs.ListLemmas.{filter-twice}
-use Rattle.session_laws.proofs.LoopLemmas.{Contains-first, Contains-later, and_parts, and_true}
-use Rattle.session_laws.proofs.PlaceLemmas.{filter-contains, filter-keeps, position-found}
-use Rattle.session_laws.proofs.PlanLemmas.{Distinct-from_Apart}
-use Rattle.session_laws.proofs.SoundLemmas.{Apart-same, contains-map, map-contains}
-use Rattle.feedback_edges.specs.Marking.{node_number}
-use Rattle.port_registry.specs.Registered.{IsPlaced, IsRegistered, Registered, is_of, node_for, system_node}
+use Rattle.cycle_plan.specs.session_laws.proofs.CycleLemmas.{bytes_same, filter-passes}
+use Rattle.cycle_plan.specs.session_laws.proofs.ListLemmas.{filter-twice}
+use Rattle.cycle_plan.specs.session_laws.proofs.LoopLemmas.{Contains-first, Contains-later, and_parts, and_true}
+use Rattle.cycle_plan.specs.session_laws.proofs.PlaceLemmas.{filter-contains, filter-keeps, position-found}
+use Rattle.cycle_plan.specs.session_laws.proofs.PlanLemmas.{Distinct-from_Apart}
+use Rattle.cycle_plan.specs.session_laws.proofs.SoundLemmas.{Apart-same, contains-map, map-contains}
+use Rattle.cycle_plan.specs.feedback_edges.specs.Marking.{node_number}
+use Rattle.cycle_plan.specs.port_registry.specs.Registered.{IsPlaced, IsRegistered, Registered, is_of, node_for, system_node}
 use Rattle.cycle_plan.proofs.NetworkLemmas.{bool-same, fails}
 use Rattle.client_wiring.specs.Tables.{class_number, class_place, in_class, kind_number, number_in_class, way_number}
 use Rattle.client_wiring.proofs.ListLemmas.{place-map, stands}

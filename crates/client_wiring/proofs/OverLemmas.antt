@@ -20,14 +20,14 @@ use Rattle.session_model.specs.Courses.{players}
 use Rattle.session_model.specs.Soundness.{IsEnd}
 use Rattle.session_model.specs.Ids.{connection, connections, name_with}
 use Rattle.session_model.specs.State.{Connection, OpenClient, State, is_direct, is_system, system_client}
-use Rattle.session_laws.proofs.CycleLemmas.{bytes_same}
-use Rattle.session_laws.proofs.EdgeLemmas.{AreApart, AreApart-opening, AreApart-replay, ends_of}
-use Rattle.session_laws.proofs.LoopLemmas.{Contains-first, Contains-later, and_parts, and_true}
-use Rattle.session_laws.proofs.PlaceLemmas.{filter-keeps, position-found, position-passes}
-use Rattle.session_laws.proofs.PlanLemmas.{Distinct-from_Apart}
-use Rattle.session_laws.proofs.SoundLemmas.{map-contains}
-use Rattle.session_laws.proofs.FilterLemmas.{count-cons}
-use Rattle.port_registry.specs.Registered.{open_clients}
+use Rattle.cycle_plan.specs.session_laws.proofs.CycleLemmas.{bytes_same}
+use Rattle.cycle_plan.specs.session_laws.proofs.EdgeLemmas.{AreApart, AreApart-opening, AreApart-replay, ends_of}
+use Rattle.cycle_plan.specs.session_laws.proofs.LoopLemmas.{Contains-first, Contains-later, and_parts, and_true}
+use Rattle.cycle_plan.specs.session_laws.proofs.PlaceLemmas.{filter-keeps, position-found, position-passes}
+use Rattle.cycle_plan.specs.session_laws.proofs.PlanLemmas.{Distinct-from_Apart}
+use Rattle.cycle_plan.specs.session_laws.proofs.SoundLemmas.{map-contains}
+use Rattle.cycle_plan.specs.session_laws.proofs.FilterLemmas.{count-cons}
+use Rattle.cycle_plan.specs.port_registry.specs.Registered.{open_clients}
 use Rattle.cycle_plan.specs.Graphs.{state_of}
 use Rattle.cycle_plan.specs.Layouts.{link_between, same_link}
 use Rattle.cycle_plan.specs.Plans.{IsPlanned, Planned, link_in, opening_of}

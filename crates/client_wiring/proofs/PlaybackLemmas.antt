@@ -13,14 +13,14 @@ use Rattle.session_model.specs.Cycles.{Settled, at_port, audio_inputs, audio_out
 use Rattle.session_model.specs.Samples.{below, silence}
 use Rattle.session_model.specs.Soundness.{IsEnd, IsSound}
 use Rattle.session_model.specs.State.{Connection, OpenClient, OpenPort, State, capture_port, is_system, playback_port, system_name}
-use Rattle.session_laws.proofs.ActivationLemmas.{get_or-map_below, length-below}
-use Rattle.session_laws.proofs.CycleLemmas.{bytes_same}
-use Rattle.session_laws.proofs.FeedbackLemmas.{FeedbackInside, FeedbackInside-opening, FeedbackInside-replay}
-use Rattle.session_laws.proofs.GraphLemmas.{route-audio}
-use Rattle.session_laws.proofs.PlanLemmas.{IsSound-opening}
-use Rattle.session_laws.proofs.SoundLemmas.{IsSound-replay}
-use Rattle.session_laws.proofs.WiredLemmas.{AreWired, AreWired-opening, AreWired-replay}
-use Rattle.port_registry.specs.Registered.{open_clients}
+use Rattle.cycle_plan.specs.session_laws.proofs.ActivationLemmas.{get_or-map_below, length-below}
+use Rattle.cycle_plan.specs.session_laws.proofs.CycleLemmas.{bytes_same}
+use Rattle.cycle_plan.specs.session_laws.proofs.FeedbackLemmas.{FeedbackInside, FeedbackInside-opening, FeedbackInside-replay}
+use Rattle.cycle_plan.specs.session_laws.proofs.GraphLemmas.{route-audio}
+use Rattle.cycle_plan.specs.session_laws.proofs.PlanLemmas.{IsSound-opening}
+use Rattle.cycle_plan.specs.session_laws.proofs.SoundLemmas.{IsSound-replay}
+use Rattle.cycle_plan.specs.session_laws.proofs.WiredLemmas.{AreWired, AreWired-opening, AreWired-replay}
+use Rattle.cycle_plan.specs.port_registry.specs.Registered.{open_clients}
 use Rattle.cycle_plan.specs.Plans.{IsPlanned, Planned, opening_of, state_of_plan}
 use Rattle.cycle_plan.proofs.NetworkLemmas.{bool-same}
 use Rattle.client_wiring.specs.declared.joints.Heard.{Heard}

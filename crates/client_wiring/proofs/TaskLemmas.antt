@@ -18,17 +18,17 @@ use Rattle.session_model.specs.Cycles.{Settled, audio_inputs, audio_outputs, cap
 use Rattle.session_model.specs.Samples.{below, silence}
 use Rattle.session_model.specs.Soundness.{Apart, IsEnd, IsSound}
 use Rattle.session_model.specs.State.{Connection, OpenClient, OpenPort, State, capture_port, is_direct, is_system, system_client}
-use Rattle.session_laws.proofs.CycleLemmas.{bytes_same, filter-passes}
-use Rattle.session_laws.proofs.FeedbackLemmas.{FeedbackInside, FeedbackInside-opening, FeedbackInside-replay}
-use Rattle.session_laws.proofs.GraphLemmas.{route-audio, route-midi}
-use Rattle.session_laws.proofs.LoopLemmas.{Contains-first, Contains-later, and_parts, and_true}
-use Rattle.session_laws.proofs.PlaceLemmas.{filter-contains, position-found, position-passes}
-use Rattle.session_laws.proofs.PlanLemmas.{Apart-below, Distinct-from_Apart, IsSound-opening}
-use Rattle.session_laws.proofs.SequentialLemmas.{Contains-below, outgoing_at}
-use Rattle.session_laws.proofs.SoundLemmas.{Apart-filter, Apart-same, IsSound-replay}
-use Rattle.session_laws.proofs.WiredLemmas.{AreWired, AreWired-opening, AreWired-replay}
-use Rattle.session_laws.proofs.FilterLemmas.{map-filter_after}
-use Rattle.port_registry.specs.Registered.{open_client, open_clients}
+use Rattle.cycle_plan.specs.session_laws.proofs.CycleLemmas.{bytes_same, filter-passes}
+use Rattle.cycle_plan.specs.session_laws.proofs.FeedbackLemmas.{FeedbackInside, FeedbackInside-opening, FeedbackInside-replay}
+use Rattle.cycle_plan.specs.session_laws.proofs.GraphLemmas.{route-audio, route-midi}
+use Rattle.cycle_plan.specs.session_laws.proofs.LoopLemmas.{Contains-first, Contains-later, and_parts, and_true}
+use Rattle.cycle_plan.specs.session_laws.proofs.PlaceLemmas.{filter-contains, position-found, position-passes}
+use Rattle.cycle_plan.specs.session_laws.proofs.PlanLemmas.{Apart-below, Distinct-from_Apart, IsSound-opening}
+use Rattle.cycle_plan.specs.session_laws.proofs.SequentialLemmas.{Contains-below, outgoing_at}
+use Rattle.cycle_plan.specs.session_laws.proofs.SoundLemmas.{Apart-filter, Apart-same, IsSound-replay}
+use Rattle.cycle_plan.specs.session_laws.proofs.WiredLemmas.{AreWired, AreWired-opening, AreWired-replay}
+use Rattle.cycle_plan.specs.session_laws.proofs.FilterLemmas.{map-filter_after}
+use Rattle.cycle_plan.specs.port_registry.specs.Registered.{open_client, open_clients}
 use Rattle.cycle_plan.specs.Layouts.{same_link}
 use Rattle.cycle_plan.specs.Plans.{IsPlanned, Planned, link_in, opening_of, state_of_plan}
 use Rattle.cycle_plan.proofs.NetworkLemmas.{bool-same, fails}

@@ -3,12 +3,12 @@
 --     kept_audio      what an output of a node of a plan's gave in the last cycle
 --     SetsFeedback last now      what the wirings of both say of that
 use Rattle.std.specs.Prelude.{◌≡◌, ℕ, ◌<◌, ◌==◌, Contains, List, length, slice_index_or, ℤ, if◌then◌else◌}
-use Rattle.graph_word.specs.Publications.{IsFront}
+use Rattle.cycle_plan.specs.graph_word.specs.Publications.{IsFront}
 use Rattle.session_model.specs.Benches.{Bench, node_at, outputs_of}
 use Rattle.session_model.specs.Cycles.{Settled}
 use Rattle.session_model.specs.Driving.{kept_from}
 use Rattle.session_model.specs.Samples.{silence}
-use Rattle.port_registry.specs.Registered.{open_clients}
+use Rattle.cycle_plan.specs.port_registry.specs.Registered.{open_clients}
 use Rattle.cycle_plan.specs.Plans.{IsPlanned, Planned, state_of_plan}
 use Rattle.client_wiring.specs.declared.joints.Given.{Given}
 use Rattle.client_wiring.specs.declared.joints.Joint.{Joint}

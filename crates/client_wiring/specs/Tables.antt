@@ -18,7 +18,7 @@ use Rattle.jack_types.specs.declared.ports.Way.{Way}
 use Rattle.jack_types.specs.declared.ports.Way.TheVariants.{In, Out}
 use Rattle.session_model.specs.Ids.{same_id_node, way_of}
 use Rattle.session_model.specs.State.{is_direct}
-use Rattle.feedback_edges.specs.Marking.{node_number}
+use Rattle.cycle_plan.specs.feedback_edges.specs.Marking.{node_number}
 use Rattle.cycle_plan.specs.Layouts.{link_between}
 use Rattle.client_wiring.specs.declared.joints.Carried.{Carried}
 use Rattle.client_wiring.specs.declared.joints.Widths.{Widths}

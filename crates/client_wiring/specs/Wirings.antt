@@ -16,7 +16,7 @@ use Rattle.session_model.specs.Benches.{Bench, Part, Known, Handed as HandedPart
 use Rattle.session_model.specs.Cycles.{Settled, audio_inputs, audio_outputs, edges_into, midi_outputs}
 use Rattle.session_model.specs.Samples.{below, silence}
 use Rattle.session_model.specs.State.{Connection, OpenClient, OpenPort, State, capture_port, playback_port, port_named, system_name}
-use Rattle.port_registry.specs.Registered.{open_clients}
+use Rattle.cycle_plan.specs.port_registry.specs.Registered.{open_clients}
 use Rattle.cycle_plan.specs.Layouts.{same_link}
 use Rattle.cycle_plan.specs.Plans.{Planned, link_in, state_of_plan}
 use Rattle.client_wiring.specs.declared.joints.Carried.{Carried}

@@ -4,12 +4,12 @@ ghost use Rattle.std.specs.Prelude.{◌≡◌, ◌<◌, ◌==◌, ℕ, All};
 ghost use Rattle.std.specs.List.{position_or_len};
 ghost use Rattle.jack_types.specs.declared.ports.Client.{Client as ClientRecord};
 ghost use Rattle.jack_types.specs.declared.ports.Port.{Port as PortRecord};
-ghost use Rattle.connection_set.specs.Connections.{IsIdOf};
+ghost use Rattle.cycle_plan.specs.connection_set.specs.Connections.{IsIdOf};
 ghost use Rattle.client_wiring.specs.Ends.{IsEndAt};
 ghost use Rattle.client_wiring.specs.Tables.{AreIndices, ArePlaces, node_place};
 
 use crate::tables::Tables;
-use feedback_edges::MOST_PORTS;
+use cycle_plan::feedback_edges::MOST_PORTS;
 use jack_types::{Client, ClientId, Node, Port, PortId, PortKind};
 
 /// An end of a connection: what its port carries, its client's node, if that is one, and its place among the ports of its

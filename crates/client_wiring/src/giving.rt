@@ -11,7 +11,7 @@ use crate::ends::place_of;
 use crate::joints::Given;
 use crate::tables::{Tables, way_of};
 use cycle_plan::Plan;
-use feedback_edges::MOST_PORTS;
+use cycle_plan::feedback_edges::MOST_PORTS;
 use jack_types::{Client, Port, PortKind, Way};
 
 /// The audio output of a node that a port is, if it is one.

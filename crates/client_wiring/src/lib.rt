@@ -11,5 +11,6 @@ mod links;
 mod tables;
 pub mod wiring;
 
+pub use cycle_plan;
 pub use joints::{Carried, Given, Heard, Joint, Origin, Output, Sound, Widths};
 pub use wiring::Wiring;

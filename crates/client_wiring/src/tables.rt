@@ -4,11 +4,11 @@ ghost use Rattle.std.specs.Prelude.{◌≡◌, ◌<◌, ℕ, All};
 ghost use Rattle.jack_types.specs.declared.ports.Port.{Port as PortRecord};
 ghost use Rattle.session_model.specs.Ids.{way_of as way_in};
 ghost use Rattle.session_model.specs.Soundness.{Apart};
-ghost use Rattle.feedback_edges.specs.Marking.{IsNode, node_number};
+ghost use Rattle.cycle_plan.specs.feedback_edges.specs.Marking.{IsNode, node_number};
 ghost use Rattle.client_wiring.specs.Tables.{AreCounts, AreIndices, ArePlaces, class_number, kind_number, number_in_class};
 
 use bitflags::Flags;
-use feedback_edges::{MOST_PORTS, number_of};
+use cycle_plan::feedback_edges::{MOST_PORTS, number_of};
 use jack_types::{Node, Port, PortKind, Way};
 
 /// Each node has four classes of ports: by what they carry, and by their way.

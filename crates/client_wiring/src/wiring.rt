@@ -11,7 +11,7 @@ use crate::joining::join_edges;
 use crate::joints::{Carried, Given, Heard, Joint, Widths};
 use crate::tables::{MOST_CLASSES, class_of, count_ports, tables_of};
 use cycle_plan::Plan;
-use feedback_edges::MOST_PORTS;
+use cycle_plan::feedback_edges::MOST_PORTS;
 use jack_types::{Client, Memory, Node, PortKind, Way};
 use std::alloc::Global;
 use std::marker::Model;

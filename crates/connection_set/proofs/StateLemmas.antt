@@ -6,17 +6,17 @@ use Rattle.std.specs.List.{list_any}
 use Rattle.std.specs.Option.{option_map_or, option_map}
 use Rattle.std.specs.Str.{bytes_eq}
 use Rattle.std.proofs.lemmas.List.{map-append, length-map}
-use Rattle.jack_types.specs.Names.{client_part}
-use Rattle.jack_types.specs.declared.commands.Command.TheVariants.{Connect, Disconnect}
-use Rattle.jack_types.specs.declared.ports.Edge.{Edge}
-use Rattle.jack_types.specs.declared.ports.Mark.{Mark}
-use Rattle.jack_types.specs.declared.ports.Port.{Port}
-use Rattle.jack_types.specs.declared.ports.PortId.{PortId}
-use Rattle.jack_types.specs.declared.replies.Refusal.{Refusal}
-use Rattle.jack_types.specs.declared.replies.Refusal.TheVariants.{NoSource, NoDestination, NotOutput, NotInput, TypeDiffers, Inactive, Exists, Full, NotConnected}
-use Rattle.session_model.specs.Commands.{refusal, applies, is_input, types_differ}
-use Rattle.session_model.specs.Ids.{open_port, connection, connections, port_with, name_with}
-use Rattle.session_model.specs.State.{State, OpenPort, Connection, port_named, edge_between, is_active_in}
+use Rattle.session_laws.specs.jack_types.specs.Names.{client_part}
+use Rattle.session_laws.specs.jack_types.specs.declared.commands.Command.TheVariants.{Connect, Disconnect}
+use Rattle.session_laws.specs.jack_types.specs.declared.ports.Edge.{Edge}
+use Rattle.session_laws.specs.jack_types.specs.declared.ports.Mark.{Mark}
+use Rattle.session_laws.specs.jack_types.specs.declared.ports.Port.{Port}
+use Rattle.session_laws.specs.jack_types.specs.declared.ports.PortId.{PortId}
+use Rattle.session_laws.specs.jack_types.specs.declared.replies.Refusal.{Refusal}
+use Rattle.session_laws.specs.jack_types.specs.declared.replies.Refusal.TheVariants.{NoSource, NoDestination, NotOutput, NotInput, TypeDiffers, Inactive, Exists, Full, NotConnected}
+use Rattle.session_laws.specs.session_model.specs.Commands.{refusal, applies, is_input, types_differ}
+use Rattle.session_laws.specs.session_model.specs.Ids.{open_port, connection, connections, port_with, name_with}
+use Rattle.session_laws.specs.session_model.specs.State.{State, OpenPort, Connection, port_named, edge_between, is_active_in}
 use Rattle.session_laws.proofs.CycleLemmas.{bytes_same, find-passes, find-contains}
 use Rattle.session_laws.proofs.LoopLemmas.{Contains-first, Contains-later}
 use Rattle.session_laws.proofs.PlanLemmas.{find-one}

@@ -9,19 +9,19 @@ use Rattle.std.specs.Prelude.{◌≡◌, ℕ, Bool, true, false, not, ◌&&◌, 
 use Rattle.std.specs.List.{list_any}
 use Rattle.std.specs.Option.{option_map_or, option_map}
 use Rattle.std.specs.Str.{bytes_eq}
-use Rattle.jack_types.specs.Names.{client_part}
-use Rattle.jack_types.specs.declared.commands.Command.TheVariants.{Connect, Disconnect}
-use Rattle.jack_types.specs.declared.ports.Edge.{Edge}
-use Rattle.jack_types.specs.declared.ports.Mark.{Mark}
-use Rattle.jack_types.specs.declared.ports.Mark.TheVariants.{Direct}
-use Rattle.jack_types.specs.declared.ports.Port.{Port}
-use Rattle.jack_types.specs.declared.ports.PortId.{PortId}
-use Rattle.jack_types.specs.declared.replies.Refusal.{Refusal}
-use Rattle.jack_types.specs.declared.replies.Refusal.TheVariants.{NoSource, NoDestination, NotOutput, NotInput, TypeDiffers, Inactive, Exists, Full, NotConnected}
-use Rattle.session_model.specs.Commands.{refusal, refusals_of, is_input, types_differ}
-use Rattle.session_model.specs.Ids.{open_port, open_ports, connections}
-use Rattle.session_model.specs.Soundness.{Apart}
-use Rattle.session_model.specs.State.{State, Connection, is_active_in}
+use Rattle.session_laws.specs.jack_types.specs.Names.{client_part}
+use Rattle.session_laws.specs.jack_types.specs.declared.commands.Command.TheVariants.{Connect, Disconnect}
+use Rattle.session_laws.specs.jack_types.specs.declared.ports.Edge.{Edge}
+use Rattle.session_laws.specs.jack_types.specs.declared.ports.Mark.{Mark}
+use Rattle.session_laws.specs.jack_types.specs.declared.ports.Mark.TheVariants.{Direct}
+use Rattle.session_laws.specs.jack_types.specs.declared.ports.Port.{Port}
+use Rattle.session_laws.specs.jack_types.specs.declared.ports.PortId.{PortId}
+use Rattle.session_laws.specs.jack_types.specs.declared.replies.Refusal.{Refusal}
+use Rattle.session_laws.specs.jack_types.specs.declared.replies.Refusal.TheVariants.{NoSource, NoDestination, NotOutput, NotInput, TypeDiffers, Inactive, Exists, Full, NotConnected}
+use Rattle.session_laws.specs.session_model.specs.Commands.{refusal, refusals_of, is_input, types_differ}
+use Rattle.session_laws.specs.session_model.specs.Ids.{open_port, open_ports, connections}
+use Rattle.session_laws.specs.session_model.specs.Soundness.{Apart}
+use Rattle.session_laws.specs.session_model.specs.State.{State, Connection, is_active_in}
 
 -- the edges in the order of making, and for how many there is room
 pub record ConnectionSet : Type 0 where

@@ -2,12 +2,12 @@
 
 ghost use Rattle.std.specs.Prelude.{◌≡◌, ℕ, ◌<◌, filter, not, ◌≤◌, List, [], ◌∷◌, ◌++◌, length, None, Some, IfOk, IfErr, OnOk, OnErr, IsOk};
 ghost use Rattle.std.specs.List.{list_any};
-ghost use Rattle.session_model.specs.Commands.{is_input};
-ghost use Rattle.session_model.specs.Ids.{open_port};
+ghost use Rattle.session_laws.specs.session_model.specs.Commands.{is_input};
+ghost use Rattle.session_laws.specs.session_model.specs.Ids.{open_port};
 ghost use Rattle.connection_set.specs.Connections.{ConnectionSet, connect_refusal, disconnect_refusal, edge_at, is_at, joins as joins_by, with_direct, without_edge, without_port, MakesConnection, RefusesConnect, RefusesDisconnect, TakesConnection, TakesPort};
 
 use bitflags::Flags;
-use jack_types::{Edge, Mark, Memory, Port, PortFlags, PortId, Refusal};
+use session_laws::jack_types::{Edge, Mark, Memory, Port, PortFlags, PortId, Refusal};
 use std::alloc::Global;
 use std::marker::Model;
 

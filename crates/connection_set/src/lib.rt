@@ -7,3 +7,4 @@
 pub mod connections;
 
 pub use connections::Connections;
+pub use session_laws::jack_types;

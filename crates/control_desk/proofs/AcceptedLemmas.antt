@@ -18,7 +18,7 @@ use Rattle.session_model.specs.Histories.{LegalSoFar, accepted, calls_of, state_
 use Rattle.session_model.specs.Scripts.{Script, Planned, planned, planned_of}
 use Rattle.session_model.specs.State.{State, opening}
 use Rattle.session_laws.proofs.ListLemmas.{Each, Each-from_contains, slice_get-map}
-use Rattle.cycle_plan.specs.Plans.{HasTempos}
+use Rattle.call_laws.specs.cycle_plan.specs.Plans.{HasTempos}
 use Rattle.graph_replies.specs.Told.{HasShortDelays}
 use Rattle.call_laws.proofs.ItemLemmas.{contained, length-mapped, mapped_some}
 use Rattle.call_laws.proofs.LaneLemmas.{lanes_all}

@@ -20,7 +20,7 @@ use Rattle.session_laws.proofs.ActivationLemmas.{get_or-map_below}
 use Rattle.session_laws.proofs.HistoryLemmas.{IsNextCall, LegalSoFar-next}
 use Rattle.session_laws.proofs.ListLemmas.{Contains-filtered, map-take}
 use Rattle.session_laws.proofs.SerialLemmas.{plan_of-planned}
-use Rattle.cycle_plan.specs.Graphs.{HasTempo}
+use Rattle.call_laws.specs.cycle_plan.specs.Graphs.{HasTempo}
 use Rattle.graph_replies.specs.Told.{HasShortDelays}
 use Rattle.call_laws.proofs.ItemLemmas.{contained, length-mapped, mapped_some, some-same}
 use Rattle.call_laws.proofs.KeptLemmas.{counts-set, state-answered}

@@ -21,7 +21,7 @@ use Rattle.session_laws.proofs.ListLemmas.{Each, Each-all, Each-append, Each-con
 use Rattle.session_laws.proofs.LoopLemmas.{Contains-first}
 use Rattle.session_laws.proofs.SerialCallsLemmas.{KeepsLanes, Each-counted, calls_at, dos_of}
 use Rattle.session_laws.proofs.SerialLawfulLemmas.{KeepsLanes-phases}
-use Rattle.cycle_plan.specs.Plans.{HasTempos, opening_of}
+use Rattle.call_laws.specs.cycle_plan.specs.Plans.{HasTempos, opening_of}
 use Rattle.call_laws.proofs.RoomLemmas.{accepted-push}
 use Rattle.control_desk.specs.Desks.{Desk, HasSeen, IsDesk, LooksBy, base_of}
 use Rattle.control_desk.specs.Past.{IsNext, Past}

@@ -9,17 +9,17 @@ ghost use Rattle.session_model.specs.Grammar.{IsScript};
 ghost use Rattle.session_model.specs.Histories.{accepted};
 ghost use Rattle.session_model.specs.Replies.{AreLawful};
 ghost use Rattle.session_model.specs.Serial.{answered};
-ghost use Rattle.cycle_plan.specs.Plans.{HasTempos, opening_of};
+ghost use Rattle.call_laws.specs.cycle_plan.specs.Plans.{HasTempos, opening_of};
 ghost use Rattle.control_desk.specs.Desks.{Begins, IsDesk, IsFresh, IsNewDesk, LooksBy, MayBegin, MayStep, Steps, HasSeen, base_of, next_call};
 ghost use Rattle.control_desk.specs.Past.{IsNext};
 
 use crate::history::History;
 use crate::steps::Stepped;
-use cycle_plan::Plan;
+use call_laws::cycle_plan::Plan;
 use graph_word::{Publisher, Reader, meet};
 use jack_types::{Change, Entry, Memory, Reply};
 use lane_calls::PlannedCall;
-use session_script::Script;
+use lane_calls::session_script::Script;
 use std::alloc::Global;
 use std::marker::Model;
 

@@ -11,11 +11,11 @@ ghost use Rattle.session_model.specs.Serial.{answered};
 ghost use Rattle.control_desk.specs.Desks.{made};
 ghost use Rattle.control_desk.specs.Past.{IsNext};
 
-use cycle_plan::Graph;
+use call_laws::cycle_plan::Graph;
 use graph_replies::{Latencies, answer};
 use jack_types::{Call, Change, Entry, Memory, Reply};
+use lane_calls::session_script::Script;
 use lane_calls::{LaneCalls, PlannedCall};
-use session_script::Script;
 use std::alloc::Global;
 use std::marker::Model;
 
@@ -42,7 +42,7 @@ pub struct History {
 impl Model for History {
     ghost use Rattle.std.specs.Prelude.{◌≤◌};
     ghost use Rattle.std.specs.Vec.{vec_capacity};
-    ghost use Rattle.cycle_plan.specs.Graphs.{state_of};
+    ghost use Rattle.call_laws.specs.cycle_plan.specs.Graphs.{state_of};
     ghost use Rattle.control_desk.specs.Past.{IsPast, Past};
 
     ghost Value = { Past };

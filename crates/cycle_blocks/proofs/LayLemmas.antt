@@ -9,10 +9,10 @@ use Rattle.session_model.specs.Kinds.{input_at}
 use Rattle.session_model.specs.Samples.{below, interleaved, sample, silence}
 use Rattle.session_laws.proofs.ActivationLemmas.{get_or-map_below, length-map_below}
 use Rattle.jack_types.specs.declared.kinds.Kind.TheVariants.{Pass}
-use Rattle.client_benches.specs.Seen.{Seen, new_bench}
+use Rattle.bench_rack.specs.client_benches.specs.Seen.{Seen, new_bench}
 use Rattle.bench_rack.specs.Racks.{Racked, bench_at}
-use Rattle.device_periods.specs.Blocks.{IsLaid}
-use Rattle.device_periods.proofs.PeriodLemmas.{laid_whole}
+use Rattle.recorder_rings.specs.device_periods.specs.Blocks.{IsLaid}
+use Rattle.recorder_rings.specs.device_periods.proofs.PeriodLemmas.{laid_whole}
 use Rattle.recorder_rings.specs.Sending.{Sent}
 
 pub sound-past : (rack : Racked) (place input : ℕ) → length rack.benches ≤ place → get_or (bench_at rack place).kept.sounds input [] ≡ []

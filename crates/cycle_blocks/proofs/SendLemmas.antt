@@ -12,8 +12,8 @@ use Rattle.jack_types.specs.declared.replies.Overrun.{Overrun}
 use Rattle.session_model.specs.State.{OpenClient}
 use Rattle.driver_words.specs.Rings.{Sending, items_of}
 use Rattle.bench_rack.specs.Racks.{Racked}
-use Rattle.driver_laws.specs.Cycling.{PutsOne, Idle}
-use Rattle.driver_laws.specs.Drivers.{overruns_on}
+use Rattle.recorder_rings.specs.driver_laws.specs.Cycling.{PutsOne, Idle}
+use Rattle.recorder_rings.specs.driver_laws.specs.Drivers.{overruns_on}
 use Rattle.recorder_rings.specs.Sending.{AreCounted, MayPut, Sent, block_at, channels_at, no_ring, ring_at}
 use Rattle.cycle_blocks.specs.Blocks.{MaySend, Sends, block_by, is_taped}
 use Rattle.cycle_blocks.specs.Steps.{MaySendOne, SendsFirst, SendsOne}

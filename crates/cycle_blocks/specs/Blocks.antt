@@ -13,8 +13,8 @@ use Rattle.session_model.specs.Samples.{below, interleaved}
 use Rattle.session_model.specs.State.{OpenClient}
 use Rattle.driver_words.specs.Rings.{items_of}
 use Rattle.bench_rack.specs.Racks.{Racked, bench_at}
-use Rattle.driver_laws.specs.Cycling.{PutsOne}
-use Rattle.driver_laws.specs.Drivers.{overruns_on}
+use Rattle.recorder_rings.specs.driver_laws.specs.Cycling.{PutsOne}
+use Rattle.recorder_rings.specs.driver_laws.specs.Drivers.{overruns_on}
 use Rattle.recorder_rings.specs.Sending.{AreCounted, Sent, channels_at, ring_at}
 
 -- what the inputs of a node's client got when its bench was last played: so many channels, interleaved, with silence where there is no such input

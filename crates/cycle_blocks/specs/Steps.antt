@@ -7,8 +7,8 @@ use Rattle.jack_types.specs.declared.replies.Overrun.{Overrun}
 use Rattle.session_model.specs.State.{OpenClient}
 use Rattle.driver_words.specs.Rings.{items_of}
 use Rattle.bench_rack.specs.Racks.{Racked}
-use Rattle.driver_laws.specs.Cycling.{PutsOne}
-use Rattle.driver_laws.specs.Drivers.{overruns_on}
+use Rattle.recorder_rings.specs.driver_laws.specs.Cycling.{PutsOne}
+use Rattle.recorder_rings.specs.driver_laws.specs.Drivers.{overruns_on}
 use Rattle.recorder_rings.specs.Sending.{AreCounted, Sent, channels_at, ring_at}
 use Rattle.cycle_blocks.specs.Blocks.{block_by, is_taped}
 

@@ -5,4 +5,5 @@ mod finding;
 mod laying;
 mod sending;
 
+pub use recorder_rings;
 pub use sending::send_blocks;

@@ -7,12 +7,12 @@ use crate::driver::Driver;
 use crate::faults::CycleFault;
 use crate::writing::play_back;
 use client_kinds::Guest;
+use cycle_works::driver_laws::cycling::steps_that_play_are_a_cycle;
+use cycle_works::script_needs::limits::samples_are_few;
 use cycle_works::{
     a_cycle_is_a_step, a_cycle_may_be_played, a_cycle_plays_its_own, a_mix_is_played,
 };
-use driver_laws::cycling::steps_that_play_are_a_cycle;
 use jack_host::{Gate, Source, Store};
-use script_needs::limits::samples_are_few;
 use std::thread::Threads;
 
 impl<S: Source, W: Store, G: Guest + Send> Driver<S, W, G> {
@@ -20,7 +20,7 @@ impl<S: Source, W: Store, G: Guest + Send> Driver<S, W, G> {
     ghost use Rattle.jack_host.specs.Causes.{Rose};
     ghost use Rattle.wave_pcm.specs.Readings.{SameReading};
     ghost use Rattle.driver_words.specs.Tapes.{SameFile, Tape};
-    ghost use Rattle.driver_laws.specs.Cycling.{CyclesOnce, FailsAtRead, FailsAtWrite, MayCycle};
+    ghost use Rattle.cycle_works.specs.driver_laws.specs.Cycling.{CyclesOnce, FailsAtRead, FailsAtWrite, MayCycle};
     ghost use Rattle.cycle_works.specs.Gears.{driver_of};
 
     /// Runs the next cycle of the script: takes the newest plan and begins, steps the transport, captures, lets the clients of

@@ -11,6 +11,7 @@ mod opening;
 mod running;
 mod writing;
 
+pub use cycle_works::script_needs;
 pub use driver::Driver;
 pub use ending::end_rings;
 pub use faults::CycleFault;

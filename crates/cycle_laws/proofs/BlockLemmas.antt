@@ -6,8 +6,8 @@ use Rattle.std.specs.Option.{option_map_or}
 use Rattle.session_model.specs.Kinds.{input_at}
 use Rattle.session_model.specs.Samples.{below, interleaved}
 use Rattle.session_model.specs.Scripts.{ScriptCycle}
-use Rattle.driver_laws.specs.Drivers.{frames_read}
-use Rattle.device_periods.specs.Captures.{Reads}
+use Rattle.plan_transport.specs.driver_laws.specs.Drivers.{frames_read}
+use Rattle.playback_laws.specs.device_periods.specs.Captures.{Reads}
 
 -- the block of so many channels that a node heard, if one did
 abbrev pub block_heard : ℕ → ℕ → (ℕ → List (List ℤ)) → Option ℕ → List ℤ

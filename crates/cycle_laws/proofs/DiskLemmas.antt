@@ -5,7 +5,7 @@ use Rattle.std.proofs.Common.{◌≡◌, ℕ, ◌*◌, get_or, slice_get, Some, 
 use Rattle.std.proofs.lemmas.Option.{get_or_from_slice_get, slice_get-get_or, slice_get_within}
 use Rattle.driver_words.specs.Feeding.{AreForPeriods, Fed, disk_at, no_ring}
 use Rattle.driver_words.specs.Rings.{Getting}
-use Rattle.driver_laws.specs.Drivers.{Driver, IsOwnDisk, greatest_period}
+use Rattle.plan_transport.specs.driver_laws.specs.Drivers.{Driver, IsOwnDisk, greatest_period}
 
 module _ (seen : Fed) (driver : Driver) (channels : seen.channels ≡ driver.script.header.disks) (period : seen.period ≡ greatest_period driver.script) where
   pub disks-are : ((disk : ℕ) (got : Getting) → slice_get seen.disks disk ≡ Some got → IsOwnDisk driver disk got) → AreForPeriods seen

@@ -18,16 +18,16 @@ use Rattle.session_model.specs.State.{OpenClient, system_client}
 use Rattle.client_kinds.specs.Scores.{Score}
 use Rattle.session_laws.proofs.ListLemmas.{Each-contains}
 use Rattle.port_registry.specs.Registered.{open_client, open_clients}
-use Rattle.cycle_plan.specs.Plans.{IsPlanned, Planned}
+use Rattle.plan_transport.specs.cycle_plan.specs.Plans.{IsPlanned, Planned}
 use Rattle.driver_words.specs.Feeding.{AreUpTo, Fed, fed_at}
-use Rattle.driver_laws.specs.Cycling.{MayCycle}
-use Rattle.driver_laws.specs.Drivers.{Driver, run, turn_of}
-use Rattle.driver_laws.specs.Keeping.{AreOfCalls}
-use Rattle.driver_laws.specs.Playing.{fed_now, with_fed}
-use Rattle.disk_feeds.specs.Cycling.{GetsAll, HasFeeds, is_fed}
-use Rattle.task_laws.specs.Calls.{HasOpened}
-use Rattle.task_laws.proofs.CallLemmas.{changes-all, planned-lawful}
-use Rattle.task_laws.proofs.KindLemmas.{opened-kind}
+use Rattle.plan_transport.specs.driver_laws.specs.Cycling.{MayCycle}
+use Rattle.plan_transport.specs.driver_laws.specs.Drivers.{Driver, run, turn_of}
+use Rattle.plan_transport.specs.driver_laws.specs.Keeping.{AreOfCalls}
+use Rattle.plan_transport.specs.driver_laws.specs.Playing.{fed_now, with_fed}
+use Rattle.play_laws.specs.disk_feeds.specs.Cycling.{GetsAll, HasFeeds, is_fed}
+use Rattle.script_needs.specs.task_laws.specs.Calls.{HasOpened}
+use Rattle.script_needs.specs.task_laws.proofs.CallLemmas.{changes-all, planned-lawful}
+use Rattle.script_needs.specs.task_laws.proofs.KindLemmas.{opened-kind}
 use Rattle.play_laws.proofs.PlayLemmas.{node-opened}
 use Rattle.cycle_laws.specs.Gears.{Gear, IsGear, driver_of}
 use Rattle.cycle_laws.specs.Turnings.{Turns}

@@ -6,7 +6,7 @@ use Rattle.std.proofs.Common.{◌≡◌, ℕ, suc, ◌+◌, ◌*◌, ◌<◌, �
 use Rattle.std.proofs.lemmas.List.{length_push}
 use Rattle.session_model.specs.Courses.{no_turn}
 use Rattle.session_model.specs.Scripts.{Script, ScriptCycle, turns}
-use Rattle.driver_laws.specs.Drivers.{Driver, frames_run, run, turn_of}
+use Rattle.plan_transport.specs.driver_laws.specs.Drivers.{Driver, frames_run, run, turn_of}
 use Rattle.cycle_laws.proofs.ListLemmas.{sum-next}
 
 abbrev frames_of : Script → ℕ → ℕ

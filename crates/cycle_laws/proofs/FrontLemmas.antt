@@ -12,7 +12,7 @@ use Rattle.session_laws.proofs.ListLemmas.{map-take}
 use Rattle.session_laws.proofs.LoopLemmas.{Contains-cases, Contains-first, Contains-later}
 use Rattle.graph_word.specs.Publications.{IsFront}
 use Rattle.graph_word.proofs.Fronts.{front_short, take_take}
-use Rattle.driver_laws.specs.Keeping.{AreOfCalls}
+use Rattle.plan_transport.specs.driver_laws.specs.Keeping.{AreOfCalls}
 
 pub front-front : (front middle whole : List Change) → IsFront front middle → IsFront middle whole → IsFront front whole
 front-front front middle whole first second = first ∙ ap (take (length front)) second ∙ take_take (length front) (length middle) whole (front_short front middle first)

@@ -6,10 +6,10 @@ use Rattle.std.proofs.Common.{◌≡◌, ℕ, ◌+◌, ◌*◌, ◌<◌, ◌≤�
 use Rattle.session_model.specs.Scripts.{turns}
 use Rattle.session_model.specs.Kinds.{Sound}
 use Rattle.client_kinds.specs.Scores.{Score}
-use Rattle.driver_laws.specs.Cycling.{MayCycle}
-use Rattle.driver_laws.specs.Drivers.{Driver, channels_on, frames_run, greatest_period, turn_of}
+use Rattle.plan_transport.specs.driver_laws.specs.Cycling.{MayCycle}
+use Rattle.plan_transport.specs.driver_laws.specs.Drivers.{Driver, channels_on, frames_run, greatest_period, turn_of}
 use Rattle.driver_words.specs.Feeding.{MayGet}
-use Rattle.recorder_rings.specs.Sending.{no_ring, ring_at}
+use Rattle.cycle_blocks.specs.recorder_rings.specs.Sending.{no_ring, ring_at}
 use Rattle.cycle_blocks.specs.Blocks.{MaySend}
 use Rattle.cycle_laws.specs.Gears.{Gear, IsGear, driver_of}
 use Rattle.cycle_laws.proofs.DiskLemmas.{disks-are}

@@ -12,15 +12,15 @@ use Rattle.session_model.specs.State.{Connection, playback_port}
 use Rattle.client_kinds.specs.Scores.{Score}
 use Rattle.port_registry.specs.Registered.{open_clients}
 use Rattle.graph_word.specs.declared.plans.Base.{Base}
-use Rattle.cycle_plan.specs.Plans.{IsPlanned, Planned, state_of_plan}
-use Rattle.client_benches.specs.Seen.{Seen, bench_in, new_bench}
-use Rattle.client_wiring.specs.Wirings.{Wired, wired_of}
-use Rattle.client_wiring.specs.declared.joints.Heard.{Heard}
-use Rattle.device_periods.specs.Captures.{Reads}
-use Rattle.driver_laws.specs.Cycling.{MayCycle, StepsOnce}
-use Rattle.driver_laws.specs.Drivers.{Driver, bench_at}
-use Rattle.driver_laws.specs.Playing.{mixed_now, played_now, settled_now}
-use Rattle.playback_mix.specs.Mixes.{channel_mix}
+use Rattle.plan_transport.specs.cycle_plan.specs.Plans.{IsPlanned, Planned, state_of_plan}
+use Rattle.plan_transport.specs.client_benches.specs.Seen.{Seen, bench_in, new_bench}
+use Rattle.playback_laws.specs.client_wiring.specs.Wirings.{Wired, wired_of}
+use Rattle.playback_laws.specs.client_wiring.specs.declared.joints.Heard.{Heard}
+use Rattle.playback_laws.specs.device_periods.specs.Captures.{Reads}
+use Rattle.plan_transport.specs.driver_laws.specs.Cycling.{MayCycle, StepsOnce}
+use Rattle.plan_transport.specs.driver_laws.specs.Drivers.{Driver, bench_at}
+use Rattle.plan_transport.specs.driver_laws.specs.Playing.{mixed_now, played_now, settled_now}
+use Rattle.playback_laws.specs.playback_mix.specs.Mixes.{channel_mix}
 use Rattle.play_laws.specs.Plays.{bench_of}
 use Rattle.cycle_laws.specs.Gears.{Gear, IsGear, driver_of}
 use Rattle.cycle_laws.specs.Turnings.{Turns}

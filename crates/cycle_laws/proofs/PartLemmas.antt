@@ -16,19 +16,19 @@ use Rattle.session_model.specs.Kinds.{Sound}
 use Rattle.client_kinds.specs.Scores.{Score}
 use Rattle.port_registry.specs.Registered.{open_clients}
 use Rattle.graph_word.specs.declared.plans.Base.{Base}
-use Rattle.cycle_plan.specs.Plans.{Planned}
+use Rattle.plan_transport.specs.cycle_plan.specs.Plans.{Planned}
 use Rattle.graph_word.specs.Publications.{IsFront}
 use Rattle.transport.specs.Standings.{Standing}
-use Rattle.driver_laws.specs.Cycling.{MayCycle}
-use Rattle.driver_laws.specs.Drivers.{greatest_period, overruns_on, turn_of}
-use Rattle.driver_laws.specs.Keeping.{AreOfCalls}
+use Rattle.plan_transport.specs.driver_laws.specs.Cycling.{MayCycle}
+use Rattle.plan_transport.specs.driver_laws.specs.Drivers.{greatest_period, overruns_on, turn_of}
+use Rattle.plan_transport.specs.driver_laws.specs.Keeping.{AreOfCalls}
 use Rattle.driver_words.specs.Feeding.{AreUpTo, Fed}
 use Rattle.driver_words.specs.Hearings.{log_at}
-use Rattle.midi_wiring.specs.Hearings.{AreCarried}
-use Rattle.client_seats.specs.Moves.{kinds_of}
-use Rattle.client_seats.specs.Seatings.{IsRefused, memory_of}
-use Rattle.recorder_rings.specs.Sending.{Sent, channels_at, no_ring, ring_at}
-use Rattle.task_laws.specs.Calls.{guests_needed, open_kinds}
+use Rattle.play_laws.specs.midi_wiring.specs.Hearings.{AreCarried}
+use Rattle.play_laws.specs.client_seats.specs.Moves.{kinds_of}
+use Rattle.play_laws.specs.client_seats.specs.Seatings.{IsRefused, memory_of}
+use Rattle.cycle_blocks.specs.recorder_rings.specs.Sending.{Sent, channels_at, no_ring, ring_at}
+use Rattle.script_needs.specs.task_laws.specs.Calls.{guests_needed, open_kinds}
 use Rattle.play_laws.specs.Plays.{PerformsPlan, StandsOn}
 use Rattle.cycle_blocks.specs.Blocks.{block_by, is_taped}
 use Rattle.cycle_laws.specs.Gears.{AreDisks, Gear, IsGear, IsInStep, driver_of}

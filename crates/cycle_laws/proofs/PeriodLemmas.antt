@@ -9,7 +9,7 @@ use Rattle.jack_types.specs.declared.scripts.Body.TheVariants.{Do, Run, Freewhee
 use Rattle.session_model.specs.Grammar.{IsBody, IsScript}
 use Rattle.session_model.specs.Scripts.{Script, Phase, phases_of, with_do}
 use Rattle.session_laws.proofs.ListLemmas.{Each, Each-from_contains}
-use Rattle.driver_laws.specs.Drivers.{greatest_period}
+use Rattle.plan_transport.specs.driver_laws.specs.Drivers.{greatest_period}
 
 -- a line that sets no period
 abbrev Still : Body → Type 0

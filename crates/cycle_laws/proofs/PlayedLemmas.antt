@@ -16,14 +16,14 @@ use Rattle.session_model.specs.State.{OpenClient, capture_port, opening, system_
 use Rattle.client_kinds.specs.Scores.{Score}
 use Rattle.session_laws.proofs.SequentialLemmas.{length-below}
 use Rattle.port_registry.specs.Registered.{open_client, open_clients}
-use Rattle.cycle_plan.specs.Plans.{Planned, state_of_plan}
+use Rattle.plan_transport.specs.cycle_plan.specs.Plans.{Planned, state_of_plan}
 use Rattle.graph_word.specs.declared.plans.Base.{Base}
-use Rattle.driver_laws.specs.Cycling.{MayCycle, StepsOnce}
-use Rattle.driver_laws.specs.Drivers.{Driver, bench_at, content_now, memory_in}
-use Rattle.driver_laws.specs.Keeping.{AreOfCalls}
-use Rattle.driver_laws.specs.Playing.{PlaysOwn, own_course, settled_now}
-use Rattle.midi_wiring.specs.Hearings.{HearsPlan}
-use Rattle.client_seats.proofs.SeatLemmas.{bench-within}
+use Rattle.plan_transport.specs.driver_laws.specs.Cycling.{MayCycle, StepsOnce}
+use Rattle.plan_transport.specs.driver_laws.specs.Drivers.{Driver, bench_at, content_now, memory_in}
+use Rattle.plan_transport.specs.driver_laws.specs.Keeping.{AreOfCalls}
+use Rattle.plan_transport.specs.driver_laws.specs.Playing.{PlaysOwn, own_course, settled_now}
+use Rattle.play_laws.specs.midi_wiring.specs.Hearings.{HearsPlan}
+use Rattle.play_laws.specs.client_seats.proofs.SeatLemmas.{bench-within}
 use Rattle.play_laws.specs.Plays.{PlaysPlan, bench_on, with_log}
 use Rattle.cycle_laws.specs.Gears.{Gear, IsGear, driver_of}
 use Rattle.cycle_laws.specs.Turnings.{Turns}

@@ -15,9 +15,9 @@ use Rattle.session_model.specs.Samples.{below, interleaved}
 use Rattle.session_model.specs.Scripts.{Script}
 use Rattle.session_laws.proofs.SequentialLemmas.{length-below}
 use Rattle.driver_words.specs.Rings.{Getting, Sending, items_of}
-use Rattle.driver_laws.specs.Cycling.{Idle, Lacked, PutsOne, Went}
-use Rattle.driver_laws.specs.Drivers.{Driver, HasOwnRings, IsOwnDisk, IsOwnRing, channels_on, frames_run, greatest_period}
-use Rattle.driver_laws.proofs.PlaceLemmas.{there_too}
+use Rattle.plan_transport.specs.driver_laws.specs.Cycling.{Idle, Lacked, PutsOne, Went}
+use Rattle.plan_transport.specs.driver_laws.specs.Drivers.{Driver, HasOwnRings, IsOwnDisk, IsOwnRing, channels_on, frames_run, greatest_period}
+use Rattle.plan_transport.specs.driver_laws.proofs.PlaceLemmas.{there_too}
 use Rattle.cycle_laws.proofs.ListLemmas.{interleaved-length}
 
 -- what a cycle leaves of a ring: its bounds, and one block more at most

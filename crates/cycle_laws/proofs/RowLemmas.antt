@@ -12,8 +12,8 @@ use Rattle.session_model.specs.State.{opening}
 use Rattle.graph_word.specs.declared.plans.Base.{Base}
 use Rattle.graph_word.specs.declared.view.TakenRow.{TakenRow}
 use Rattle.graph_word.specs.Publications.{Begins, IsFront, Reading, Takes}
-use Rattle.cycle_plan.specs.Plans.{Planned, state_of_plan}
-use Rattle.driver_laws.specs.Drivers.{Driver, HasOwnRows, content_now, graph_now, last_content, run}
+use Rattle.plan_transport.specs.cycle_plan.specs.Plans.{Planned, state_of_plan}
+use Rattle.plan_transport.specs.driver_laws.specs.Drivers.{Driver, HasOwnRows, content_now, graph_now, last_content, run}
 
 last-pushed : (rows : List TakenRow) (row : TakenRow) → last_content (rows ++ row ∷ []) ≡ row.changes
 last-pushed [] row = refl

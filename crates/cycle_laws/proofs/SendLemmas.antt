@@ -11,8 +11,8 @@ use Rattle.std.proofs.lemmas.Option.{slice_get-get_or}
 use Rattle.jack_types.specs.Recorders.{no_format}
 use Rattle.jack_types.specs.declared.files.Format.{Format}
 use Rattle.driver_words.specs.Rings.{Sending, items_of}
-use Rattle.driver_laws.specs.Drivers.{Driver, IsOwnRing, channels_on, frames_run, greatest_period}
-use Rattle.recorder_rings.specs.Sending.{Sent, channels_at, no_ring, ring_at}
+use Rattle.plan_transport.specs.driver_laws.specs.Drivers.{Driver, IsOwnRing, channels_on, frames_run, greatest_period}
+use Rattle.cycle_blocks.specs.recorder_rings.specs.Sending.{Sent, channels_at, no_ring, ring_at}
 
 format-channels : (formats : List Format) (i : ℕ) → get_or (map (λ (format : Format). format.channels) formats) i 0 ≡ (get_or formats i no_format).channels
 format-channels [] i = refl

@@ -19,22 +19,22 @@ use Rattle.session_model.specs.State.{OpenClient, State, opening}
 use Rattle.session_model.specs.Transport.{active_master, shown}
 use Rattle.client_kinds.specs.Scores.{Score}
 use Rattle.port_registry.specs.Registered.{open_clients}
-use Rattle.cycle_plan.specs.Plans.{Planned, state_of_plan}
+use Rattle.plan_transport.specs.cycle_plan.specs.Plans.{Planned, state_of_plan}
 use Rattle.graph_word.specs.declared.plans.Base.{Base}
 use Rattle.graph_word.specs.Publications.{IsFront, Reading}
 use Rattle.transport.specs.Standings.{Standing}
-use Rattle.device_periods.specs.Captures.{Captured, Reads}
+use Rattle.playback_laws.specs.device_periods.specs.Captures.{Captured, Reads}
 use Rattle.driver_words.specs.Feeding.{fed_at}
 use Rattle.driver_words.specs.Hearings.{log_at}
-use Rattle.driver_laws.specs.Cycling.{MayCycle, StepsOnce}
-use Rattle.driver_laws.specs.Drivers.{Driver, bench_at, content_now, graph_now, graph_of, run}
-use Rattle.driver_laws.specs.Keeping.{AreOfCalls}
-use Rattle.driver_laws.specs.Playing.{capture_now, fed_now, kept_now, moment_now, settled_last, settled_now, with_fed}
-use Rattle.client_wiring.specs.Keeping.{GoesOn}
-use Rattle.midi_wiring.specs.Keeping.{BringsCarried, Gave}
-use Rattle.client_seats.specs.Seatings.{memory_of}
-use Rattle.client_seats.proofs.SeatLemmas.{bench-within}
-use Rattle.event_laws.specs.Machine.{BringsEvents}
+use Rattle.plan_transport.specs.driver_laws.specs.Cycling.{MayCycle, StepsOnce}
+use Rattle.plan_transport.specs.driver_laws.specs.Drivers.{Driver, bench_at, content_now, graph_now, graph_of, run}
+use Rattle.plan_transport.specs.driver_laws.specs.Keeping.{AreOfCalls}
+use Rattle.plan_transport.specs.driver_laws.specs.Playing.{capture_now, fed_now, kept_now, moment_now, settled_last, settled_now, with_fed}
+use Rattle.playback_laws.specs.client_wiring.specs.Keeping.{GoesOn}
+use Rattle.play_laws.specs.midi_wiring.specs.Keeping.{BringsCarried, Gave}
+use Rattle.play_laws.specs.client_seats.specs.Seatings.{memory_of}
+use Rattle.play_laws.specs.client_seats.proofs.SeatLemmas.{bench-within}
+use Rattle.play_laws.specs.event_laws.specs.Machine.{BringsEvents}
 use Rattle.play_laws.specs.Plays.{IsSettledOn, bench_of, with_log}
 use Rattle.cycle_laws.specs.Gears.{Gear, IsGear, IsInStep, driver_of}
 use Rattle.cycle_laws.specs.Turnings.{Turns}

@@ -15,19 +15,19 @@ use Rattle.session_model.specs.State.{OpenClient, State}
 use Rattle.session_model.specs.Transport.{active_master, next_row, shown, slow_numbers, timeout_of}
 use Rattle.client_kinds.specs.Scores.{Score}
 use Rattle.port_registry.specs.Registered.{open_clients}
-use Rattle.cycle_plan.specs.Plans.{Planned, state_of_plan}
+use Rattle.plan_transport.specs.cycle_plan.specs.Plans.{Planned, state_of_plan}
 use Rattle.driver_words.specs.Feeding.{AreForPeriods, Fed}
 use Rattle.driver_words.specs.Rings.{Getting, Sending}
 use Rattle.transport.specs.Standings.{HasTarget, Standing}
-use Rattle.bench_rack.specs.Racks.{bench_at as bench_of_rack}
-use Rattle.device_periods.specs.Captures.{Captured}
-use Rattle.driver_laws.specs.Cycling.{GetsOne, MayCycle, PutsOne, StepsOnce}
-use Rattle.driver_laws.specs.Drivers.{HasOwnRings, HasOwnRows, IsOwnDisk, bench_at, block_in, channels_on, content_now, frames_read, frames_run, graph_now, greatest_period, has_disk, has_tape, overruns_on, turn_of, underruns_on}
-use Rattle.driver_laws.specs.Keeping.{AreOfCalls}
-use Rattle.driver_laws.specs.Playing.{adopted_now, last_number, moment_now}
-use Rattle.recorder_rings.specs.Sending.{channels_at, no_ring, ring_at}
+use Rattle.cycle_blocks.specs.bench_rack.specs.Racks.{bench_at as bench_of_rack}
+use Rattle.playback_laws.specs.device_periods.specs.Captures.{Captured}
+use Rattle.plan_transport.specs.driver_laws.specs.Cycling.{GetsOne, MayCycle, PutsOne, StepsOnce}
+use Rattle.plan_transport.specs.driver_laws.specs.Drivers.{HasOwnRings, HasOwnRows, IsOwnDisk, bench_at, block_in, channels_on, content_now, frames_read, frames_run, graph_now, greatest_period, has_disk, has_tape, overruns_on, turn_of, underruns_on}
+use Rattle.plan_transport.specs.driver_laws.specs.Keeping.{AreOfCalls}
+use Rattle.plan_transport.specs.driver_laws.specs.Playing.{adopted_now, last_number, moment_now}
+use Rattle.cycle_blocks.specs.recorder_rings.specs.Sending.{channels_at, no_ring, ring_at}
 use Rattle.cycle_blocks.specs.Blocks.{block_by, is_taped}
-use Rattle.disk_feeds.specs.Cycling.{is_fed}
+use Rattle.play_laws.specs.disk_feeds.specs.Cycling.{is_fed}
 use Rattle.cycle_laws.specs.Gears.{Gear, IsGear, driver_of}
 use Rattle.cycle_laws.specs.Turnings.{Turns}
 use Rattle.cycle_laws.proofs.BlockLemmas.{block-same, frames-of_freewheel, frames-of_run, left-read, left-rest}

@@ -8,16 +8,16 @@ use Rattle.session_model.specs.Transport.{active_master, next_row, shown, slow_n
 use Rattle.session_model.specs.Kinds.{Sound}
 use Rattle.client_kinds.specs.Scores.{Score}
 use Rattle.port_registry.specs.Registered.{open_clients}
-use Rattle.cycle_plan.specs.Plans.{IsPlanned, Planned, state_of_plan}
+use Rattle.plan_transport.specs.cycle_plan.specs.Plans.{IsPlanned, Planned, state_of_plan}
 use Rattle.graph_word.specs.Publications.{Begins, Reading, Takes}
 use Rattle.transport.specs.Standings.{HasTarget}
 use Rattle.wave_pcm.specs.Readings.{SameReading}
-use Rattle.device_periods.specs.Captures.{Reads}
-use Rattle.driver_laws.specs.Keeping.{AreOfCalls}
-use Rattle.driver_laws.specs.Playing.{last_number}
-use Rattle.disk_feeds.specs.Cycling.{GetsAll}
-use Rattle.midi_wiring.specs.Hearings.{AreCarried, HearsPlan}
-use Rattle.client_seats.specs.Moves.{kinds_of}
+use Rattle.playback_laws.specs.device_periods.specs.Captures.{Reads}
+use Rattle.plan_transport.specs.driver_laws.specs.Keeping.{AreOfCalls}
+use Rattle.plan_transport.specs.driver_laws.specs.Playing.{last_number}
+use Rattle.play_laws.specs.disk_feeds.specs.Cycling.{GetsAll}
+use Rattle.play_laws.specs.midi_wiring.specs.Hearings.{AreCarried, HearsPlan}
+use Rattle.play_laws.specs.client_seats.specs.Moves.{kinds_of}
 use Rattle.play_laws.specs.Plays.{PerformsPlan, StandsOn}
 use Rattle.cycle_blocks.specs.Blocks.{Sends}
 use Rattle.cycle_laws.specs.Gears.{Gear, driver_of}

@@ -5,28 +5,28 @@ ghost use Rattle.jack_types.specs.declared.moments.Moment.{Moment as MomentValue
 ghost use Rattle.session_model.specs.Courses.{Course};
 ghost use Rattle.session_model.specs.Kinds.{Sound};
 ghost use Rattle.client_kinds.specs.Scores.{Score};
-ghost use Rattle.cycle_plan.specs.Plans.{Planned};
+ghost use Rattle.plan_transport.specs.cycle_plan.specs.Plans.{Planned};
 ghost use Rattle.driver_words.specs.Feeding.{MayGet};
-ghost use Rattle.driver_laws.specs.Cycling.{MayCycle, StepsOnce};
-ghost use Rattle.driver_laws.specs.Keeping.{AreOfCalls, Fits, Keeps};
+ghost use Rattle.plan_transport.specs.driver_laws.specs.Cycling.{MayCycle, StepsOnce};
+ghost use Rattle.plan_transport.specs.driver_laws.specs.Keeping.{AreOfCalls, Fits, Keeps};
 ghost use Rattle.session_model.specs.Samples.{below, interleaved};
-ghost use Rattle.driver_laws.specs.Playing.{PlaysOwn, played_now};
-ghost use Rattle.playback_mix.specs.Mixes.{channel_mix};
+ghost use Rattle.plan_transport.specs.driver_laws.specs.Playing.{PlaysOwn, played_now};
+ghost use Rattle.playback_laws.specs.playback_mix.specs.Mixes.{channel_mix};
 ghost use Rattle.cycle_blocks.specs.Blocks.{MaySend};
 ghost use Rattle.cycle_laws.specs.Gears.{Gear, IsGear, driver_of};
 ghost use Rattle.cycle_laws.specs.Turnings.{Turns};
 
-use client_wiring::laws::the_device_has_its_ports;
-use disk_feeds::{
+use plan_transport::calls_have_targets;
+use plan_transport::driver_laws::courses::a_script_with_disks_keeps_its_period;
+use plan_transport::driver_laws::cycling::content_is_of_calls;
+use play_laws::a_plan_of_a_scripts_calls_is_not_refused;
+use play_laws::disk_feeds::{
     a_cycle_gets_one_block_of_each_ring, a_cycle_leaves_the_disks_ready,
     a_player_is_given_what_was_got,
 };
-use driver_laws::courses::a_script_with_disks_keeps_its_period;
-use driver_laws::cycling::content_is_of_calls;
-use midi_wiring::laws::a_feedback_edge_brings_what_was_carried;
-use plan_transport::calls_have_targets;
-use play_laws::a_plan_of_a_scripts_calls_is_not_refused;
 use play_laws::laws::{a_stage_plays_its_plan, memories_never_go};
+use play_laws::midi_wiring::laws::a_feedback_edge_brings_what_was_carried;
+use playback_laws::client_wiring::laws::the_device_has_its_ports;
 use playback_laws::mixes::the_mix_is_played;
 use playback_laws::periods::a_period_is_what_the_capture_has;
 use script_needs::limits::{cycles_are_few, periods_are_in_range, samples_are_few};

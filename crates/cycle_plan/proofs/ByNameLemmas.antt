@@ -7,29 +7,29 @@ use Rattle.std.specs.Option.{option_map_or}
 use Rattle.std.specs.Str.{bytes_eq}
 use Rattle.std.proofs.lemmas.Bool.Decides.{nat_tests}
 use Rattle.std.proofs.lemmas.List.{length-map}
-use Rattle.jack_types.specs.Names.{client_part}
-use Rattle.jack_types.specs.declared.ports.Client.{Client}
-use Rattle.jack_types.specs.declared.ports.ClientId.{ClientId}
-use Rattle.jack_types.specs.declared.ports.Edge.{Edge}
-use Rattle.jack_types.specs.declared.ports.Link.{Link}
-use Rattle.jack_types.specs.declared.ports.Node.{Node}
-use Rattle.jack_types.specs.declared.ports.Node.TheVariants.{Capture, Playback, Client as ClientNode}
-use Rattle.jack_types.specs.declared.ports.Port.{Port}
-use Rattle.jack_types.specs.declared.ports.PortId.{PortId}
-use Rattle.jack_types.specs.declared.ports.Way.{Way}
-use Rattle.jack_types.specs.declared.ports.Way.TheVariants.{In, Out}
-use Rattle.session_model.specs.Benches.{place_in}
-use Rattle.session_model.specs.Courses.{players}
-use Rattle.session_model.specs.Ids.{connection, connections, name_with, node_links, node_with, port_with, same_id_node, way_of}
-use Rattle.session_model.specs.Loops.{IsPath, direct_links, leads}
-use Rattle.session_model.specs.Soundness.{Apart}
-use Rattle.session_model.specs.State.{NamedNode, CaptureNode, PlaybackNode, ClientNode as NamedClient, Connection, OpenClient, State, destination_node, is_direct, is_system, same_node, source_node, system_name}
-use Rattle.session_laws.specs.LoopFree.{HasNoLoop, IsLoopFree}
-use Rattle.session_laws.proofs.CycleLemmas.{bytes_same, find-contains, filter-passes}
-use Rattle.session_laws.proofs.ListLemmas.{Contains-filtered, Each, Each-contains, Each-from_contains}
-use Rattle.session_laws.proofs.LoopLemmas.{Contains-first, Contains-later, and_parts}
-use Rattle.session_laws.proofs.PlanLemmas.{find-one}
-use Rattle.session_laws.proofs.SoundLemmas.{Apart-same, map-contains}
+use Rattle.graph_word.specs.jack_types.specs.Names.{client_part}
+use Rattle.graph_word.specs.jack_types.specs.declared.ports.Client.{Client}
+use Rattle.graph_word.specs.jack_types.specs.declared.ports.ClientId.{ClientId}
+use Rattle.graph_word.specs.jack_types.specs.declared.ports.Edge.{Edge}
+use Rattle.graph_word.specs.jack_types.specs.declared.ports.Link.{Link}
+use Rattle.graph_word.specs.jack_types.specs.declared.ports.Node.{Node}
+use Rattle.graph_word.specs.jack_types.specs.declared.ports.Node.TheVariants.{Capture, Playback, Client as ClientNode}
+use Rattle.graph_word.specs.jack_types.specs.declared.ports.Port.{Port}
+use Rattle.graph_word.specs.jack_types.specs.declared.ports.PortId.{PortId}
+use Rattle.graph_word.specs.jack_types.specs.declared.ports.Way.{Way}
+use Rattle.graph_word.specs.jack_types.specs.declared.ports.Way.TheVariants.{In, Out}
+use Rattle.graph_word.specs.session_model.specs.Benches.{place_in}
+use Rattle.graph_word.specs.session_model.specs.Courses.{players}
+use Rattle.graph_word.specs.session_model.specs.Ids.{connection, connections, name_with, node_links, node_with, port_with, same_id_node, way_of}
+use Rattle.graph_word.specs.session_model.specs.Loops.{IsPath, direct_links, leads}
+use Rattle.graph_word.specs.session_model.specs.Soundness.{Apart}
+use Rattle.graph_word.specs.session_model.specs.State.{NamedNode, CaptureNode, PlaybackNode, ClientNode as NamedClient, Connection, OpenClient, State, destination_node, is_direct, is_system, same_node, source_node, system_name}
+use Rattle.port_registry.specs.session_laws.specs.LoopFree.{HasNoLoop, IsLoopFree}
+use Rattle.port_registry.specs.session_laws.proofs.CycleLemmas.{bytes_same, find-contains, filter-passes}
+use Rattle.port_registry.specs.session_laws.proofs.ListLemmas.{Contains-filtered, Each, Each-contains, Each-from_contains}
+use Rattle.port_registry.specs.session_laws.proofs.LoopLemmas.{Contains-first, Contains-later, and_parts}
+use Rattle.port_registry.specs.session_laws.proofs.PlanLemmas.{find-one}
+use Rattle.port_registry.specs.session_laws.proofs.SoundLemmas.{Apart-same, map-contains}
 use Rattle.feedback_edges.specs.Marking.{IsEndOf}
 use Rattle.port_registry.specs.Registered.{IsPlaced, IsRegistered, Registered, has_name, node_for, open_client, open_clients, system_entry, system_node}
 use Rattle.cycle_plan.specs.Graphs.{HaveEnds, IsNetwork, Network, state_of}

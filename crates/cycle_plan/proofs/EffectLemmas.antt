@@ -3,28 +3,28 @@ use Rattle.std.proofs.Common.{◌≡◌, ℕ, ◌≤◌, Bool, true, false, cond
 use Rattle.std.specs.Bool.{⊤}
 use Rattle.std.specs.Str.{bytes_eq}
 use Rattle.std.proofs.lemmas.List.{length-map}
-use Rattle.jack_types.specs.declared.commands.Command.{Command}
-use Rattle.jack_types.specs.declared.commands.Command.TheVariants.{Close, Deactivate, Unregister, Connect, Disconnect}
-use Rattle.jack_types.specs.declared.ports.Client.{Client}
-use Rattle.jack_types.specs.declared.ports.Edge.{Edge}
-use Rattle.jack_types.specs.declared.ports.Mark.{Mark}
-use Rattle.jack_types.specs.declared.ports.Node.TheVariants.{Client as ClientNode}
-use Rattle.jack_types.specs.declared.ports.Port.{Port}
-use Rattle.jack_types.specs.declared.ports.PortKind.TheVariants.{Audio}
-use Rattle.jack_types.specs.declared.ports.Way.{Way}
-use Rattle.jack_types.specs.declared.ports.Way.TheVariants.{In, Out}
-use Rattle.jack_types.specs.declared.replies.No.{No}
-use Rattle.jack_types.specs.declared.replies.No.TheVariants.{Memory, Refused}
-use Rattle.jack_types.specs.declared.replies.Refusal.{Refusal}
-use Rattle.jack_types.specs.declared.replies.Refusal.TheVariants.{Exists, Full, Inactive, IsSystem, NoClient, NoDestination, NoSource, NotActive, NotInput, NotOutput, TypeDiffers}
-use Rattle.session_model.specs.Commands.{after, applies, edges_left, effect, is_input, master_without, refusal, refusals_of, touches}
-use Rattle.session_model.specs.Ids.{connection, connections, open_port, way_of}
-use Rattle.session_model.specs.Loops.{mark_of}
-use Rattle.session_model.specs.State.{Connection, Master, State, is_system}
-use Rattle.session_laws.proofs.CycleLemmas.{bytes_same, filter-passes, find-contains, find-passes}
-use Rattle.session_laws.proofs.LoopLemmas.{Contains-first, Contains-later}
-use Rattle.session_laws.proofs.SoundLemmas.{Apart-same, map-contains, refused_not}
-use Rattle.connection_set.specs.Connections.{RefusesConnect, RefusesDisconnect, TakesConnection, TakesPort, applies_to, connect_refusal, disconnect_refusal, is_at, joins, without_edge, without_port}
+use Rattle.graph_word.specs.jack_types.specs.declared.commands.Command.{Command}
+use Rattle.graph_word.specs.jack_types.specs.declared.commands.Command.TheVariants.{Close, Deactivate, Unregister, Connect, Disconnect}
+use Rattle.graph_word.specs.jack_types.specs.declared.ports.Client.{Client}
+use Rattle.graph_word.specs.jack_types.specs.declared.ports.Edge.{Edge}
+use Rattle.graph_word.specs.jack_types.specs.declared.ports.Mark.{Mark}
+use Rattle.graph_word.specs.jack_types.specs.declared.ports.Node.TheVariants.{Client as ClientNode}
+use Rattle.graph_word.specs.jack_types.specs.declared.ports.Port.{Port}
+use Rattle.graph_word.specs.jack_types.specs.declared.ports.PortKind.TheVariants.{Audio}
+use Rattle.graph_word.specs.jack_types.specs.declared.ports.Way.{Way}
+use Rattle.graph_word.specs.jack_types.specs.declared.ports.Way.TheVariants.{In, Out}
+use Rattle.graph_word.specs.jack_types.specs.declared.replies.No.{No}
+use Rattle.graph_word.specs.jack_types.specs.declared.replies.No.TheVariants.{Memory, Refused}
+use Rattle.graph_word.specs.jack_types.specs.declared.replies.Refusal.{Refusal}
+use Rattle.graph_word.specs.jack_types.specs.declared.replies.Refusal.TheVariants.{Exists, Full, Inactive, IsSystem, NoClient, NoDestination, NoSource, NotActive, NotInput, NotOutput, TypeDiffers}
+use Rattle.graph_word.specs.session_model.specs.Commands.{after, applies, edges_left, effect, is_input, master_without, refusal, refusals_of, touches}
+use Rattle.graph_word.specs.session_model.specs.Ids.{connection, connections, open_port, way_of}
+use Rattle.graph_word.specs.session_model.specs.Loops.{mark_of}
+use Rattle.graph_word.specs.session_model.specs.State.{Connection, Master, State, is_system}
+use Rattle.port_registry.specs.session_laws.proofs.CycleLemmas.{bytes_same, filter-passes, find-contains, find-passes}
+use Rattle.port_registry.specs.session_laws.proofs.LoopLemmas.{Contains-first, Contains-later}
+use Rattle.port_registry.specs.session_laws.proofs.SoundLemmas.{Apart-same, map-contains, refused_not}
+use Rattle.feedback_edges.specs.connection_set.specs.Connections.{RefusesConnect, RefusesDisconnect, TakesConnection, TakesPort, applies_to, connect_refusal, disconnect_refusal, is_at, joins, without_edge, without_port}
 use Rattle.feedback_edges.specs.Marking.{AreAmong, IsEndOf}
 use Rattle.port_registry.proofs.RegisteredLemmas.{at_end, find_none-fresh}
 use Rattle.port_registry.specs.Answers.{Answers, AnswersExactly, IsMemory}

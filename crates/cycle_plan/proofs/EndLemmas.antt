@@ -9,25 +9,25 @@ use Rattle.std.specs.Option.{option_map_or}
 use Rattle.std.specs.Str.{bytes_eq}
 use Rattle.std.proofs.lemmas.Bool.Decides.{nat_tests}
 use Rattle.std.proofs.lemmas.List.{length-map}
-use Rattle.jack_types.specs.Names.{client_part}
-use Rattle.jack_types.specs.declared.ports.Client.{Client}
-use Rattle.jack_types.specs.declared.ports.Edge.{Edge}
-use Rattle.jack_types.specs.declared.ports.Node.TheVariants.{Client as ClientNode}
-use Rattle.jack_types.specs.declared.ports.Port.{Port}
-use Rattle.jack_types.specs.declared.ports.PortId.{PortId}
-use Rattle.jack_types.specs.declared.ports.Way.{Way}
-use Rattle.jack_types.specs.declared.ports.Way.TheVariants.{In, Out}
-use Rattle.session_model.specs.Commands.{edges_left, touches}
-use Rattle.session_model.specs.Ids.{connection, connections, name_with, same_id_node, way_of}
-use Rattle.session_model.specs.Loops.{remark}
-use Rattle.session_model.specs.Soundness.{Apart}
-use Rattle.session_model.specs.State.{Connection, is_system}
-use Rattle.session_laws.proofs.ListLemmas.{Contains-filtered, filter-twice}
-use Rattle.session_laws.proofs.CycleLemmas.{filter-passes}
-use Rattle.session_laws.proofs.LoopLemmas.{Contains-cases, Contains-first, Contains-later, and_parts, and_true, or_cases, or_left, or_right}
-use Rattle.session_laws.proofs.PlanLemmas.{find-one}
-use Rattle.session_laws.proofs.SoundLemmas.{Apart-same, contains-map, map-contains}
-use Rattle.connection_set.specs.Connections.{is_at, same_id, without_port}
+use Rattle.graph_word.specs.jack_types.specs.Names.{client_part}
+use Rattle.graph_word.specs.jack_types.specs.declared.ports.Client.{Client}
+use Rattle.graph_word.specs.jack_types.specs.declared.ports.Edge.{Edge}
+use Rattle.graph_word.specs.jack_types.specs.declared.ports.Node.TheVariants.{Client as ClientNode}
+use Rattle.graph_word.specs.jack_types.specs.declared.ports.Port.{Port}
+use Rattle.graph_word.specs.jack_types.specs.declared.ports.PortId.{PortId}
+use Rattle.graph_word.specs.jack_types.specs.declared.ports.Way.{Way}
+use Rattle.graph_word.specs.jack_types.specs.declared.ports.Way.TheVariants.{In, Out}
+use Rattle.graph_word.specs.session_model.specs.Commands.{edges_left, touches}
+use Rattle.graph_word.specs.session_model.specs.Ids.{connection, connections, name_with, same_id_node, way_of}
+use Rattle.graph_word.specs.session_model.specs.Loops.{remark}
+use Rattle.graph_word.specs.session_model.specs.Soundness.{Apart}
+use Rattle.graph_word.specs.session_model.specs.State.{Connection, is_system}
+use Rattle.port_registry.specs.session_laws.proofs.ListLemmas.{Contains-filtered, filter-twice}
+use Rattle.port_registry.specs.session_laws.proofs.CycleLemmas.{filter-passes}
+use Rattle.port_registry.specs.session_laws.proofs.LoopLemmas.{Contains-cases, Contains-first, Contains-later, and_parts, and_true, or_cases, or_left, or_right}
+use Rattle.port_registry.specs.session_laws.proofs.PlanLemmas.{find-one}
+use Rattle.port_registry.specs.session_laws.proofs.SoundLemmas.{Apart-same, contains-map, map-contains}
+use Rattle.feedback_edges.specs.connection_set.specs.Connections.{is_at, same_id, without_port}
 use Rattle.feedback_edges.specs.Marking.{AreAmong, AreNamed, IsEndOf, ends_by_id}
 use Rattle.port_registry.specs.Registered.{IsRegistered, Registered, is_of}
 use Rattle.cycle_plan.specs.Graphs.{HaveEnds}

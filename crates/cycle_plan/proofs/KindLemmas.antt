@@ -2,18 +2,18 @@
 --     one_client-replay      two open clients that share one are one
 use Rattle.std.proofs.Common.{◌≡◌, ℕ, ◌<◌, Bool, true, false, cond, not, ◌⊎◌, inl, inr, List, [], ◌∷◌, ◌++◌, length, map, filter, find, fold, Contains, Option, Some, None, is_none, is_some, refl, sym, ◌∙◌, ap, ap₂, subst, arith, true≢false, eqb-true}
 use Rattle.std.specs.Str.{bytes_eq}
-use Rattle.jack_types.specs.declared.commands.Change.{Change}
-use Rattle.jack_types.specs.declared.commands.Command.{Command}
-use Rattle.jack_types.specs.declared.commands.Command.TheVariants.{Open, Close, Activate, Deactivate, Register, Unregister, Connect, Disconnect, Start, Stop, Locate, Timeout, Slow, Timebase, TimebaseIf, Release, Latency}
-use Rattle.jack_types.specs.declared.kinds.Kind.{Kind}
-use Rattle.jack_types.specs.declared.kinds.Kind.TheVariants.{Pass, Gain, Mix, Delay, Tone, Click, Meter, Tape, Guest, Midiplay, Midithru, Midilog, Disk}
-use Rattle.jack_types.specs.declared.replies.Refusal.{Refusal}
-use Rattle.jack_types.specs.declared.replies.Refusal.TheVariants.{ClientsFull, InUse, IsOpen}
-use Rattle.session_model.specs.Commands.{after, applies, effect, refusal, refusals_of, replay, shares, with_client}
-use Rattle.session_model.specs.State.{OpenClient, State, opening, system_client}
-use Rattle.session_laws.proofs.ListLemmas.{Each, Each-contains, Each-from_contains, Ordered, Ordered-append, Ordered-filter, Ordered-map, Ordered-weaker}
-use Rattle.session_laws.proofs.LoopLemmas.{Contains-cases, Contains-first, Contains-later}
-use Rattle.session_laws.proofs.SoundLemmas.{find-none, refused_not}
+use Rattle.graph_word.specs.jack_types.specs.declared.commands.Change.{Change}
+use Rattle.graph_word.specs.jack_types.specs.declared.commands.Command.{Command}
+use Rattle.graph_word.specs.jack_types.specs.declared.commands.Command.TheVariants.{Open, Close, Activate, Deactivate, Register, Unregister, Connect, Disconnect, Start, Stop, Locate, Timeout, Slow, Timebase, TimebaseIf, Release, Latency}
+use Rattle.graph_word.specs.jack_types.specs.declared.kinds.Kind.{Kind}
+use Rattle.graph_word.specs.jack_types.specs.declared.kinds.Kind.TheVariants.{Pass, Gain, Mix, Delay, Tone, Click, Meter, Tape, Guest, Midiplay, Midithru, Midilog, Disk}
+use Rattle.graph_word.specs.jack_types.specs.declared.replies.Refusal.{Refusal}
+use Rattle.graph_word.specs.jack_types.specs.declared.replies.Refusal.TheVariants.{ClientsFull, InUse, IsOpen}
+use Rattle.graph_word.specs.session_model.specs.Commands.{after, applies, effect, refusal, refusals_of, replay, shares, with_client}
+use Rattle.graph_word.specs.session_model.specs.State.{OpenClient, State, opening, system_client}
+use Rattle.port_registry.specs.session_laws.proofs.ListLemmas.{Each, Each-contains, Each-from_contains, Ordered, Ordered-append, Ordered-filter, Ordered-map, Ordered-weaker}
+use Rattle.port_registry.specs.session_laws.proofs.LoopLemmas.{Contains-cases, Contains-first, Contains-later}
+use Rattle.port_registry.specs.session_laws.proofs.SoundLemmas.{find-none, refused_not}
 use Rattle.cycle_plan.proofs.NetworkLemmas.{fails}
 
 none_below : {n : ℕ} → n < 0 → ⊥

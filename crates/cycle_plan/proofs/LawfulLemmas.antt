@@ -6,11 +6,11 @@ use Rattle.std.proofs.lemmas.List.{take-append-le}
 use Rattle.std.proofs.Math.Seq.{take-append_seam}
 use Rattle.std.proofs.lemmas.List.Sums.{fold_push}
 use Rattle.std.proofs.lemmas.Option.{slice_get_within}
-use Rattle.jack_types.specs.declared.commands.Change.{Change}
+use Rattle.graph_word.specs.jack_types.specs.declared.commands.Change.{Change}
 use Rattle.graph_word.specs.Publications.{IsFront}
-use Rattle.session_model.specs.Commands.{after, refusal, replay}
-use Rattle.session_model.specs.Replies.{AreLawful, IsNext, is_change}
-use Rattle.session_model.specs.State.{State}
+use Rattle.graph_word.specs.session_model.specs.Commands.{after, refusal, replay}
+use Rattle.graph_word.specs.session_model.specs.Replies.{AreLawful, IsNext, is_change}
+use Rattle.graph_word.specs.session_model.specs.State.{State}
 use Rattle.std.specs.List.{slice_get}
 use Rattle.port_registry.proofs.PlaceLemmas.{slice_get-push}
 

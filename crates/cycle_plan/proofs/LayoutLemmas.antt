@@ -8,22 +8,22 @@ use Rattle.std.proofs.lemmas.Bool.{cases_order}
 use Rattle.std.proofs.lemmas.List.{get_or_default}
 use Rattle.std.proofs.lemmas.List.Quantifiers.{position-Some}
 use Rattle.std.proofs.lemmas.List.Sorted.{IsPermutation-refl, IsPermutation-cons, IsPermutation-middle, IsPermutation-trans, IsPermutation-push_more, IsPermutation-sym}
-use Rattle.jack_types.specs.declared.ports.Client.{Client}
-use Rattle.jack_types.specs.declared.ports.Edge.{Edge}
-use Rattle.jack_types.specs.declared.ports.Link.{Link}
-use Rattle.jack_types.specs.declared.ports.Node.{Node}
-use Rattle.jack_types.specs.declared.ports.Node.TheVariants.{Capture, Playback, Client as ClientNode}
-use Rattle.jack_types.specs.declared.ports.Port.{Port}
-use Rattle.session_model.specs.Activation.{AreLinks}
-use Rattle.session_model.specs.Ids.{node_links, node_with, same_id_node}
-use Rattle.session_model.specs.Loops.{IsPath, Leads}
-use Rattle.session_model.specs.Soundness.{Apart}
-use Rattle.session_model.specs.State.{is_direct}
-use Rattle.session_laws.proofs.LoopLemmas.{Contains-first, Contains-later, Contains-cases, IsPath-append, and_parts, and_true, or_cases, or_left, or_right, leads-is_Leads}
-use Rattle.session_laws.proofs.LoopFreeLemmas.{Contains-append_cases, Contains-append_left, Contains-append_right}
-use Rattle.session_laws.proofs.ListLemmas.{Each, Ordered, Ordered-append, Each-contains, Each-from_contains, Contains-kept}
-use Rattle.session_laws.proofs.SoundLemmas.{Apart-filter, map-contains}
-use Rattle.session_laws.specs.LoopFree.{IsLoopFree}
+use Rattle.graph_word.specs.jack_types.specs.declared.ports.Client.{Client}
+use Rattle.graph_word.specs.jack_types.specs.declared.ports.Edge.{Edge}
+use Rattle.graph_word.specs.jack_types.specs.declared.ports.Link.{Link}
+use Rattle.graph_word.specs.jack_types.specs.declared.ports.Node.{Node}
+use Rattle.graph_word.specs.jack_types.specs.declared.ports.Node.TheVariants.{Capture, Playback, Client as ClientNode}
+use Rattle.graph_word.specs.jack_types.specs.declared.ports.Port.{Port}
+use Rattle.graph_word.specs.session_model.specs.Activation.{AreLinks}
+use Rattle.graph_word.specs.session_model.specs.Ids.{node_links, node_with, same_id_node}
+use Rattle.graph_word.specs.session_model.specs.Loops.{IsPath, Leads}
+use Rattle.graph_word.specs.session_model.specs.Soundness.{Apart}
+use Rattle.graph_word.specs.session_model.specs.State.{is_direct}
+use Rattle.port_registry.specs.session_laws.proofs.LoopLemmas.{Contains-first, Contains-later, Contains-cases, IsPath-append, and_parts, and_true, or_cases, or_left, or_right, leads-is_Leads}
+use Rattle.port_registry.specs.session_laws.proofs.LoopFreeLemmas.{Contains-append_cases, Contains-append_left, Contains-append_right}
+use Rattle.port_registry.specs.session_laws.proofs.ListLemmas.{Each, Ordered, Ordered-append, Each-contains, Each-from_contains, Contains-kept}
+use Rattle.port_registry.specs.session_laws.proofs.SoundLemmas.{Apart-filter, map-contains}
+use Rattle.port_registry.specs.session_laws.specs.LoopFree.{IsLoopFree}
 use Rattle.feedback_edges.proofs.NameLemmas.{same_id_node-is, same_id_node-self}
 use Rattle.cycle_plan.specs.Layouts.{is_player, with_node, ordered, leads_to, place_of, link_between, link_of, same_link, with_link, distinct, JoinsEdges}
 use Rattle.cycle_plan.proofs.NodeLemmas.{no_client}

@@ -1,16 +1,16 @@
 -- Ports come, change and go: each that stays is among the new ones, and the device has no more than before.
 --     Stays old new      what is the same of a registry's ports behind a call that takes none away
 use Rattle.std.proofs.Common.{◌≡◌, ℕ, suc, ◌≤◌, Bool, true, false, cond, not, List, [], ◌∷◌, ◌++◌, length, map, filter, Contains, Result, Ok, Err, OnOk, OnErr, refl, sym, ◌∙◌, ap, subst, arith, append-nil}
-use Rattle.jack_types.specs.Names.{client_part}
-use Rattle.jack_types.specs.declared.kinds.Kind.{Kind}
-use Rattle.jack_types.specs.declared.ports.ClientId.{ClientId}
-use Rattle.jack_types.specs.declared.ports.Port.{Port}
-use Rattle.session_model.specs.Ids.{way_of}
-use Rattle.session_model.specs.State.{is_system, system_name}
-use Rattle.session_laws.proofs.LoopFreeLemmas.{Contains-append_left}
-use Rattle.session_laws.proofs.PlaceLemmas.{filter-keeps}
-use Rattle.session_laws.proofs.SoundLemmas.{map-contains}
-use Rattle.session_laws.proofs.FilterLemmas.{filter-push}
+use Rattle.graph_word.specs.jack_types.specs.Names.{client_part}
+use Rattle.graph_word.specs.jack_types.specs.declared.kinds.Kind.{Kind}
+use Rattle.graph_word.specs.jack_types.specs.declared.ports.ClientId.{ClientId}
+use Rattle.graph_word.specs.jack_types.specs.declared.ports.Port.{Port}
+use Rattle.graph_word.specs.session_model.specs.Ids.{way_of}
+use Rattle.graph_word.specs.session_model.specs.State.{is_system, system_name}
+use Rattle.port_registry.specs.session_laws.proofs.LoopFreeLemmas.{Contains-append_left}
+use Rattle.port_registry.specs.session_laws.proofs.PlaceLemmas.{filter-keeps}
+use Rattle.port_registry.specs.session_laws.proofs.SoundLemmas.{map-contains}
+use Rattle.port_registry.specs.session_laws.proofs.FilterLemmas.{filter-push}
 use Rattle.port_registry.specs.Registered.{Registered, is_named, is_of, with_active, with_opened, with_port, with_slow, without_client, without_port as without_port_of}
 use Rattle.cycle_plan.proofs.EndLemmas.{IsAmong}
 

@@ -5,29 +5,29 @@
 use Rattle.std.proofs.Common.{◌≡◌, ℕ, ◌+◌, ◌<◌, ◌≤◌, Bool, true, false, cond, ◌&&◌, ◌==◌, ◌⊎◌, inl, inr, List, [], ◌∷◌, find, Contains, Option, Some, None, is_none, is_some, refl, sym, ◌∙◌, ap, ap₂, subst, arith, true≢false, eq-eqb, eqb-true}
 use Rattle.std.specs.Option.{option_map, option_map_or}
 use Rattle.std.specs.Str.{bytes_eq}
-use Rattle.jack_types.specs.Names.{client_part}
-use Rattle.jack_types.specs.declared.ports.Client.{Client}
-use Rattle.jack_types.specs.declared.ports.Edge.{Edge}
-use Rattle.jack_types.specs.declared.ports.Node.TheVariants.{Client as ClientNode}
-use Rattle.jack_types.specs.declared.ports.Port.{Port}
-use Rattle.jack_types.specs.declared.ports.PortId.{PortId}
-use Rattle.jack_types.specs.declared.ports.Way.{Way}
-use Rattle.jack_types.specs.declared.ports.Way.TheVariants.{In, Out}
-use Rattle.jack_types.specs.declared.commands.Command.TheVariants.{Close, Deactivate, Unregister}
-use Rattle.jack_types.specs.declared.replies.Refusal.TheVariants.{IsSystem, NoClient, NoPort, NotActive}
-use Rattle.session_model.specs.Commands.{applies, refusal}
-use Rattle.session_model.specs.Ids.{open_port, same_id_node, way_of}
-use Rattle.session_model.specs.Soundness.{Apart}
-use Rattle.session_model.specs.Transport.{active_master}
-use Rattle.session_model.specs.State.{Master, is_active_in, NamedNode, CaptureNode, PlaybackNode, ClientNode as NamedClient, OpenClient, OpenPort, client_named, is_system, same_node}
-use Rattle.session_laws.proofs.CycleLemmas.{bytes_same, find-contains, find-passes}
-use Rattle.session_laws.proofs.ListLemmas.{Each-from_contains}
-use Rattle.session_laws.proofs.SerialLossLemmas.{All-from_each}
-use Rattle.session_laws.proofs.LoopLemmas.{Contains-first, Contains-later, Contains-cases}
-use Rattle.session_laws.proofs.SoundLemmas.{Apart-same}
-use Rattle.connection_set.specs.Connections.{IsIdOf, StandsFor}
+use Rattle.graph_word.specs.jack_types.specs.Names.{client_part}
+use Rattle.graph_word.specs.jack_types.specs.declared.ports.Client.{Client}
+use Rattle.graph_word.specs.jack_types.specs.declared.ports.Edge.{Edge}
+use Rattle.graph_word.specs.jack_types.specs.declared.ports.Node.TheVariants.{Client as ClientNode}
+use Rattle.graph_word.specs.jack_types.specs.declared.ports.Port.{Port}
+use Rattle.graph_word.specs.jack_types.specs.declared.ports.PortId.{PortId}
+use Rattle.graph_word.specs.jack_types.specs.declared.ports.Way.{Way}
+use Rattle.graph_word.specs.jack_types.specs.declared.ports.Way.TheVariants.{In, Out}
+use Rattle.graph_word.specs.jack_types.specs.declared.commands.Command.TheVariants.{Close, Deactivate, Unregister}
+use Rattle.graph_word.specs.jack_types.specs.declared.replies.Refusal.TheVariants.{IsSystem, NoClient, NoPort, NotActive}
+use Rattle.graph_word.specs.session_model.specs.Commands.{applies, refusal}
+use Rattle.graph_word.specs.session_model.specs.Ids.{open_port, same_id_node, way_of}
+use Rattle.graph_word.specs.session_model.specs.Soundness.{Apart}
+use Rattle.graph_word.specs.session_model.specs.Transport.{active_master}
+use Rattle.graph_word.specs.session_model.specs.State.{Master, is_active_in, NamedNode, CaptureNode, PlaybackNode, ClientNode as NamedClient, OpenClient, OpenPort, client_named, is_system, same_node}
+use Rattle.port_registry.specs.session_laws.proofs.CycleLemmas.{bytes_same, find-contains, find-passes}
+use Rattle.port_registry.specs.session_laws.proofs.ListLemmas.{Each-from_contains}
+use Rattle.port_registry.specs.session_laws.proofs.SerialLossLemmas.{All-from_each}
+use Rattle.port_registry.specs.session_laws.proofs.LoopLemmas.{Contains-first, Contains-later, Contains-cases}
+use Rattle.port_registry.specs.session_laws.proofs.SoundLemmas.{Apart-same}
+use Rattle.feedback_edges.specs.connection_set.specs.Connections.{IsIdOf, StandsFor}
 use Rattle.feedback_edges.specs.Marking.{AreAmong, AreNamed, IsEndOf, IsNode, named_node, node_by_name}
-use Rattle.session_laws.proofs.FilterLemmas.{find-map_after}
+use Rattle.port_registry.specs.session_laws.proofs.FilterLemmas.{find-map_after}
 use Rattle.port_registry.proofs.RegisteredLemmas.{find_none-fresh}
 use Rattle.port_registry.specs.Registered.{IsPlaced, IsRegistered, Registered, client_by, is_of, node_for, open_client, open_clients, port_by, system_node, has_name}
 use Rattle.cycle_plan.specs.Graphs.{HaveEnds, Network, state_of, numbers_of}

@@ -8,12 +8,12 @@ use Rattle.std.proofs.lemmas.List.{length-append, take_more}
 use Rattle.std.proofs.lemmas.List.Folds.{position_or_len_push}
 use Rattle.std.proofs.lemmas.List.Sums.{fold_push}
 use Rattle.std.proofs.lemmas.List.Elements.{All-nil, All-cons, All-head, All-tail, filter-append, filter_map-append}
-use Rattle.jack_types.specs.declared.kinds.Kind.TheVariants.{Pass}
-use Rattle.jack_types.specs.declared.ports.Client.{Client}
-use Rattle.jack_types.specs.declared.ports.Edge.{Edge}
-use Rattle.jack_types.specs.declared.ports.Link.{Link}
-use Rattle.session_model.specs.Loops.{Leads, leads}
-use Rattle.session_laws.proofs.LoopLemmas.{leads-is_Leads}
+use Rattle.graph_word.specs.jack_types.specs.declared.kinds.Kind.TheVariants.{Pass}
+use Rattle.graph_word.specs.jack_types.specs.declared.ports.Client.{Client}
+use Rattle.graph_word.specs.jack_types.specs.declared.ports.Edge.{Edge}
+use Rattle.graph_word.specs.jack_types.specs.declared.ports.Link.{Link}
+use Rattle.graph_word.specs.session_model.specs.Loops.{Leads, leads}
+use Rattle.port_registry.specs.session_laws.proofs.LoopLemmas.{leads-is_Leads}
 use Rattle.feedback_edges.specs.Search.{IsMarked, number_links}
 use Rattle.cycle_plan.specs.Layouts.{distinct, is_player, ordered, with_node, with_link, same_link}
 use Rattle.cycle_plan.specs.Searching.{client_number, numbers_lead, place_number}

@@ -7,35 +7,35 @@ use Rattle.std.proofs.lemmas.List.{length-map, length-take-le, take_more}
 use Rattle.std.proofs.lemmas.Option.{none-some, slice_get-get_or}
 use Rattle.std.proofs.lemmas.List.Elements.{filter-append}
 use Rattle.std.proofs.lemmas.List.Sums.{fold_push, length-filter}
-use Rattle.jack_types.specs.Names.{client_part}
-use Rattle.jack_types.specs.declared.commands.Change.{Change}
-use Rattle.jack_types.specs.declared.ports.Client.{Client}
-use Rattle.jack_types.specs.declared.ports.Edge.{Edge}
-use Rattle.jack_types.specs.declared.ports.Link.{Link}
-use Rattle.jack_types.specs.declared.ports.Port.{Port}
-use Rattle.jack_types.specs.declared.ports.Mark.TheVariants.{Direct}
+use Rattle.graph_word.specs.jack_types.specs.Names.{client_part}
+use Rattle.graph_word.specs.jack_types.specs.declared.commands.Change.{Change}
+use Rattle.graph_word.specs.jack_types.specs.declared.ports.Client.{Client}
+use Rattle.graph_word.specs.jack_types.specs.declared.ports.Edge.{Edge}
+use Rattle.graph_word.specs.jack_types.specs.declared.ports.Link.{Link}
+use Rattle.graph_word.specs.jack_types.specs.declared.ports.Port.{Port}
+use Rattle.graph_word.specs.jack_types.specs.declared.ports.Mark.TheVariants.{Direct}
 use Rattle.graph_word.specs.declared.plans.Base.{Base}
-use Rattle.session_model.specs.Activation.{AreLinks, incoming, link_at, no_link}
-use Rattle.session_model.specs.Benches.{IsPlan, place_in}
-use Rattle.session_model.specs.Commands.{after, replay}
-use Rattle.session_model.specs.Courses.{players}
-use Rattle.session_model.specs.Ids.{connection, connections, node_links}
-use Rattle.session_model.specs.Replies.{AreLawful, IsNext}
-use Rattle.session_model.specs.Samples.{below}
-use Rattle.session_model.specs.Soundness.{Apart, IsSound}
-use Rattle.session_model.specs.State.{Connection, OpenClient, State, is_direct, opening}
-use Rattle.session_laws.specs.LoopFree.{HasNoLoop, IsLoopFree}
-use Rattle.session_laws.proofs.LoopFreeLemmas.{HasNoLoop-opening, HasNoLoop-replay}
-use Rattle.session_laws.proofs.PlanLemmas.{IsPlan-from, IsSound-opening}
-use Rattle.session_laws.proofs.ActivationLemmas.{length-below}
-use Rattle.session_laws.proofs.SoundLemmas.{IsSound-replay, contains-map, map-contains}
+use Rattle.graph_word.specs.session_model.specs.Activation.{AreLinks, incoming, link_at, no_link}
+use Rattle.graph_word.specs.session_model.specs.Benches.{IsPlan, place_in}
+use Rattle.graph_word.specs.session_model.specs.Commands.{after, replay}
+use Rattle.graph_word.specs.session_model.specs.Courses.{players}
+use Rattle.graph_word.specs.session_model.specs.Ids.{connection, connections, node_links}
+use Rattle.graph_word.specs.session_model.specs.Replies.{AreLawful, IsNext}
+use Rattle.graph_word.specs.session_model.specs.Samples.{below}
+use Rattle.graph_word.specs.session_model.specs.Soundness.{Apart, IsSound}
+use Rattle.graph_word.specs.session_model.specs.State.{Connection, OpenClient, State, is_direct, opening}
+use Rattle.port_registry.specs.session_laws.specs.LoopFree.{HasNoLoop, IsLoopFree}
+use Rattle.port_registry.specs.session_laws.proofs.LoopFreeLemmas.{HasNoLoop-opening, HasNoLoop-replay}
+use Rattle.port_registry.specs.session_laws.proofs.PlanLemmas.{IsPlan-from, IsSound-opening}
+use Rattle.port_registry.specs.session_laws.proofs.ActivationLemmas.{length-below}
+use Rattle.port_registry.specs.session_laws.proofs.SoundLemmas.{IsSound-replay, contains-map, map-contains}
 use Rattle.port_registry.specs.Registered.{open_client, open_clients}
 use Rattle.cycle_plan.specs.Graphs.{IsNetwork, Network, state_of}
 use Rattle.cycle_plan.specs.Layouts.{CanLayOut, JoinsEdges, LaidOut, distinct, is_player, laid_out, leads_to, link_between, link_of, ordered}
 use Rattle.cycle_plan.specs.Plans.{AreCounts, IsPlanned, LaysOut, Planned, leads_in, link_in, links_of, nodes_of, opening_of}
 use Rattle.cycle_plan.proofs.ByNameLemmas.{IsLoopFree-network, link_in-is, listed-are, links_of-is, nodes_of-is}
-use Rattle.session_laws.proofs.ListLemmas.{Each-from_contains}
-use Rattle.session_laws.proofs.SerialLossLemmas.{All-from_each}
+use Rattle.port_registry.specs.session_laws.proofs.ListLemmas.{Each-from_contains}
+use Rattle.port_registry.specs.session_laws.proofs.SerialLossLemmas.{All-from_each}
 use Rattle.cycle_plan.proofs.NetworkLemmas.{AreAmong-network}
 use Rattle.cycle_plan.proofs.LayoutLemmas.{IsPermutation-ordered}
 

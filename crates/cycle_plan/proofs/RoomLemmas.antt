@@ -4,30 +4,30 @@ use Rattle.std.proofs.Common.{◌≡◌, ℕ, Option, Some, None, is_none, Resul
 use Rattle.std.specs.Option.{option_map}
 use Rattle.std.specs.Str.{bytes_eq}
 use Rattle.std.proofs.lemmas.List.{length-map}
-use Rattle.jack_types.specs.Names.{client_part}
-use Rattle.jack_types.specs.declared.commands.Command.TheVariants.{Open, Register}
-use Rattle.jack_types.specs.declared.kinds.Kind.{Kind}
-use Rattle.jack_types.specs.declared.ports.Client.{Client}
-use Rattle.jack_types.specs.declared.ports.ClientId.{ClientId}
-use Rattle.jack_types.specs.declared.ports.Edge.{Edge}
-use Rattle.jack_types.specs.declared.ports.PortId.{PortId}
-use Rattle.jack_types.specs.declared.ports.PortKind.{PortKind}
-use Rattle.jack_types.specs.declared.replies.No.{No}
-use Rattle.jack_types.specs.declared.replies.Refusal.{Refusal}
-use Rattle.jack_types.specs.declared.replies.Refusal.TheVariants.{IsSystem, NameTaken, NoClient, PortsFull}
-use Rattle.jack_types.specs.declared.ports.Port.{Port}
-use Rattle.jack_types.specs.declared.ports.Way.{Way}
-use Rattle.jack_types.specs.declared.ports.Way.TheVariants.{In, Out}
-use Rattle.session_model.specs.Commands.{applies, is_input, is_way, refusal, refusals_of}
-use Rattle.session_model.specs.Ids.{open_port}
-use Rattle.session_model.specs.Samples.{below}
-use Rattle.session_model.specs.State.{OpenClient, is_system, system_name}
-use Rattle.session_laws.proofs.CycleLemmas.{bytes_same, filter-passes, find-contains, find-passes}
-use Rattle.session_laws.proofs.ListLemmas.{Contains-filtered}
-use Rattle.session_laws.proofs.LoopLemmas.{Contains-cases, Contains-first, Contains-later}
-use Rattle.session_laws.proofs.SequentialLemmas.{length-below}
-use Rattle.session_laws.proofs.SoundLemmas.{refused_not}
-use Rattle.session_laws.proofs.FilterLemmas.{count-cons, find-map_after, length-filter_within}
+use Rattle.graph_word.specs.jack_types.specs.Names.{client_part}
+use Rattle.graph_word.specs.jack_types.specs.declared.commands.Command.TheVariants.{Open, Register}
+use Rattle.graph_word.specs.jack_types.specs.declared.kinds.Kind.{Kind}
+use Rattle.graph_word.specs.jack_types.specs.declared.ports.Client.{Client}
+use Rattle.graph_word.specs.jack_types.specs.declared.ports.ClientId.{ClientId}
+use Rattle.graph_word.specs.jack_types.specs.declared.ports.Edge.{Edge}
+use Rattle.graph_word.specs.jack_types.specs.declared.ports.PortId.{PortId}
+use Rattle.graph_word.specs.jack_types.specs.declared.ports.PortKind.{PortKind}
+use Rattle.graph_word.specs.jack_types.specs.declared.replies.No.{No}
+use Rattle.graph_word.specs.jack_types.specs.declared.replies.Refusal.{Refusal}
+use Rattle.graph_word.specs.jack_types.specs.declared.replies.Refusal.TheVariants.{IsSystem, NameTaken, NoClient, PortsFull}
+use Rattle.graph_word.specs.jack_types.specs.declared.ports.Port.{Port}
+use Rattle.graph_word.specs.jack_types.specs.declared.ports.Way.{Way}
+use Rattle.graph_word.specs.jack_types.specs.declared.ports.Way.TheVariants.{In, Out}
+use Rattle.graph_word.specs.session_model.specs.Commands.{applies, is_input, is_way, refusal, refusals_of}
+use Rattle.graph_word.specs.session_model.specs.Ids.{open_port}
+use Rattle.graph_word.specs.session_model.specs.Samples.{below}
+use Rattle.graph_word.specs.session_model.specs.State.{OpenClient, is_system, system_name}
+use Rattle.port_registry.specs.session_laws.proofs.CycleLemmas.{bytes_same, filter-passes, find-contains, find-passes}
+use Rattle.port_registry.specs.session_laws.proofs.ListLemmas.{Contains-filtered}
+use Rattle.port_registry.specs.session_laws.proofs.LoopLemmas.{Contains-cases, Contains-first, Contains-later}
+use Rattle.port_registry.specs.session_laws.proofs.SequentialLemmas.{length-below}
+use Rattle.port_registry.specs.session_laws.proofs.SoundLemmas.{refused_not}
+use Rattle.port_registry.specs.session_laws.proofs.FilterLemmas.{count-cons, find-map_after, length-filter_within}
 use Rattle.port_registry.proofs.RefusalLemmas.{open-few, register-few}
 use Rattle.port_registry.specs.Answers.{Answers, IsMemory}
 use Rattle.port_registry.specs.Registered.{IsPlaced, IsRegistered, Registered, client_by, client_port, has_name, is_of, open_client, state_of as registry_state, system_entry, system_port, system_ports, unlisted, with_opened, with_port}

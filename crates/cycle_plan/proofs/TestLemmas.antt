@@ -1,16 +1,16 @@
 -- What is laid out by numbers is what is laid out by nodes.
 use Rattle.std.proofs.Common.{◌≡◌, ℕ, ◌+◌, ◌<◌, Bool, true, false, cond, ◌==◌, ◌↔◌, List, [], ◌∷◌, length, filter_map, position, get_or, All, Contains, Option, None, refl, sym, ◌∙◌, ap, ap₂, subst, arith, true≢false, eq-eqb, eqb-true}
 use Rattle.std.specs.List.{cons_option, position_or_len}
-use Rattle.jack_types.specs.declared.ports.Client.{Client}
-use Rattle.jack_types.specs.declared.ports.Edge.{Edge}
-use Rattle.jack_types.specs.declared.ports.Link.{Link}
-use Rattle.jack_types.specs.declared.ports.Node.{Node}
-use Rattle.jack_types.specs.declared.ports.Node.TheVariants.{Capture, Playback, Client as ClientNode}
-use Rattle.jack_types.specs.declared.ports.Port.{Port}
-use Rattle.session_model.specs.Ids.{node_links, node_with, same_id_node}
-use Rattle.session_model.specs.Loops.{Leads}
-use Rattle.session_model.specs.State.{is_direct}
-use Rattle.session_laws.proofs.LoopLemmas.{Contains-first, Contains-later, leads-is_Leads}
+use Rattle.graph_word.specs.jack_types.specs.declared.ports.Client.{Client}
+use Rattle.graph_word.specs.jack_types.specs.declared.ports.Edge.{Edge}
+use Rattle.graph_word.specs.jack_types.specs.declared.ports.Link.{Link}
+use Rattle.graph_word.specs.jack_types.specs.declared.ports.Node.{Node}
+use Rattle.graph_word.specs.jack_types.specs.declared.ports.Node.TheVariants.{Capture, Playback, Client as ClientNode}
+use Rattle.graph_word.specs.jack_types.specs.declared.ports.Port.{Port}
+use Rattle.graph_word.specs.session_model.specs.Ids.{node_links, node_with, same_id_node}
+use Rattle.graph_word.specs.session_model.specs.Loops.{Leads}
+use Rattle.graph_word.specs.session_model.specs.State.{is_direct}
+use Rattle.port_registry.specs.session_laws.proofs.LoopLemmas.{Contains-first, Contains-later, leads-is_Leads}
 use Rattle.feedback_edges.specs.Marking.{AreAmong, node_number}
 use Rattle.feedback_edges.specs.Search.{IsTable, number_links}
 use Rattle.feedback_edges.proofs.NameLemmas.{same_id_node-is, same_id_node-self}

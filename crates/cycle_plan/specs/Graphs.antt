@@ -8,18 +8,18 @@
 --     IsApplied before number command result behind      a command was answered by the definitions, and made of the network what they say
 use Rattle.std.specs.Prelude.{◌≡◌, ℕ, ◌≤◌, ⊤, List, Contains, Option, OnErr, Result, filter, length}
 use Rattle.std.specs.Option.{option_map}
-use Rattle.jack_types.specs.declared.commands.Command.{Command}
-use Rattle.jack_types.specs.declared.commands.Command.TheVariants.{Timebase, TimebaseIf}
-use Rattle.jack_types.specs.declared.ports.Edge.{Edge}
-use Rattle.jack_types.specs.declared.ports.Port.{Port}
-use Rattle.jack_types.specs.declared.ports.Way.TheVariants.{In, Out}
-use Rattle.jack_types.specs.declared.replies.Refusal.{Refusal}
-use Rattle.session_model.specs.Commands.{after, refusal}
-use Rattle.session_model.specs.Grammar.{IsTempo}
-use Rattle.session_model.specs.Ids.{connections, open_ports}
-use Rattle.session_model.specs.State.{Master, State, system_name}
+use Rattle.graph_word.specs.jack_types.specs.declared.commands.Command.{Command}
+use Rattle.graph_word.specs.jack_types.specs.declared.commands.Command.TheVariants.{Timebase, TimebaseIf}
+use Rattle.graph_word.specs.jack_types.specs.declared.ports.Edge.{Edge}
+use Rattle.graph_word.specs.jack_types.specs.declared.ports.Port.{Port}
+use Rattle.graph_word.specs.jack_types.specs.declared.ports.Way.TheVariants.{In, Out}
+use Rattle.graph_word.specs.jack_types.specs.declared.replies.Refusal.{Refusal}
+use Rattle.graph_word.specs.session_model.specs.Commands.{after, refusal}
+use Rattle.graph_word.specs.session_model.specs.Grammar.{IsTempo}
+use Rattle.graph_word.specs.session_model.specs.Ids.{connections, open_ports}
+use Rattle.graph_word.specs.session_model.specs.State.{Master, State, system_name}
 use Rattle.tempo_map.specs.declared.tempos.Tempo.{Tempo}
-use Rattle.connection_set.specs.Connections.{ConnectionSet}
+use Rattle.feedback_edges.specs.connection_set.specs.Connections.{ConnectionSet}
 use Rattle.feedback_edges.specs.Marking.{IsEndOf}
 use Rattle.port_registry.specs.Answers.{AnswersExactly}
 use Rattle.port_registry.specs.Registered.{IsRegistered, Registered, is_of, open_clients}

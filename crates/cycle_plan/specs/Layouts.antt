@@ -7,15 +7,15 @@
 --     CanLayOut clients ports edges      what it takes to lay out a graph
 use Rattle.std.specs.Prelude.{◌≡◌, ℕ, ◌≤◌, Bool, not, ◌&&◌, ◌==◌, ◌↔◌, Contains, List, [], ◌∷◌, ◌++◌, length, filter, filter_map, fold, position, All, Option, Some, None, if◌then◌else◌}
 use Rattle.std.specs.List.{list_any}
-use Rattle.jack_types.specs.declared.ports.Client.{Client}
-use Rattle.jack_types.specs.declared.ports.Edge.{Edge}
-use Rattle.jack_types.specs.declared.ports.Link.{Link}
-use Rattle.jack_types.specs.declared.ports.Node.{Node}
-use Rattle.jack_types.specs.declared.ports.Node.TheVariants.{Capture, Playback, Client as ClientNode}
-use Rattle.jack_types.specs.declared.ports.Port.{Port}
-use Rattle.session_model.specs.Ids.{node_links, node_with, same_id_node}
-use Rattle.session_model.specs.Loops.{leads}
-use Rattle.session_model.specs.State.{is_direct}
+use Rattle.graph_word.specs.jack_types.specs.declared.ports.Client.{Client}
+use Rattle.graph_word.specs.jack_types.specs.declared.ports.Edge.{Edge}
+use Rattle.graph_word.specs.jack_types.specs.declared.ports.Link.{Link}
+use Rattle.graph_word.specs.jack_types.specs.declared.ports.Node.{Node}
+use Rattle.graph_word.specs.jack_types.specs.declared.ports.Node.TheVariants.{Capture, Playback, Client as ClientNode}
+use Rattle.graph_word.specs.jack_types.specs.declared.ports.Port.{Port}
+use Rattle.graph_word.specs.session_model.specs.Ids.{node_links, node_with, same_id_node}
+use Rattle.graph_word.specs.session_model.specs.Loops.{leads}
+use Rattle.graph_word.specs.session_model.specs.State.{is_direct}
 use Rattle.feedback_edges.specs.Marking.{AreAmong}
 
 -- the nodes, each a client, and the links between their places

@@ -4,3 +4,8 @@ pub mod Masters
 pub mod Plans
 pub mod Rewiring
 pub mod Searching
+pub use Rattle.feedback_edges.specs.connection_set
+pub use Rattle.feedback_edges
+pub use Rattle.graph_word
+pub use Rattle.port_registry
+pub use Rattle.port_registry.specs.session_laws

@@ -4,7 +4,7 @@
 use Rattle.std.specs.Prelude.{ℕ, Bool, false, List, Option}
 use Rattle.std.specs.Option.{option_map_or}
 use Rattle.std.specs.Str.{bytes_eq}
-use Rattle.session_model.specs.State.{Master}
+use Rattle.graph_word.specs.session_model.specs.State.{Master}
 use Rattle.cycle_plan.specs.declared.masters.Mastership.{Mastership}
 
 -- the client's name and the numbers of its tempo

@@ -6,23 +6,23 @@
 --     HasTempos changes      where the changes make a master, its numbers are a tempo
 use Rattle.std.specs.Prelude.{◌≡◌, ℕ, ◌+◌, ◌≤◌, ◌↔◌, All, Bool, Contains, List, filter_map, length, map, Option, Some, None, if◌then◌else◌}
 use Rattle.std.specs.List.Sorted.{IsPermutation}
-use Rattle.jack_types.specs.Names.{client_part}
-use Rattle.jack_types.specs.declared.commands.Change.{Change}
-use Rattle.jack_types.specs.declared.ports.Client.{Client}
-use Rattle.jack_types.specs.declared.ports.Link.{Link}
+use Rattle.graph_word.specs.jack_types.specs.Names.{client_part}
+use Rattle.graph_word.specs.jack_types.specs.declared.commands.Change.{Change}
+use Rattle.graph_word.specs.jack_types.specs.declared.ports.Client.{Client}
+use Rattle.graph_word.specs.jack_types.specs.declared.ports.Link.{Link}
 use Rattle.graph_word.specs.declared.plans.Base.{Base}
 use Rattle.graph_word.specs.Publications.{IsFront}
-use Rattle.session_laws.specs.LoopFree.{IsLoopFree}
-use Rattle.session_model.specs.Activation.{AreLinks, incoming}
-use Rattle.session_model.specs.Benches.{IsPlan, place_in}
-use Rattle.session_model.specs.Commands.{replay}
-use Rattle.session_model.specs.Courses.{players}
-use Rattle.session_model.specs.Ids.{node_links}
-use Rattle.session_model.specs.Loops.{direct_links, leads}
-use Rattle.session_model.specs.Replies.{AreLawful}
-use Rattle.session_model.specs.Samples.{below}
-use Rattle.session_model.specs.Soundness.{Apart}
-use Rattle.session_model.specs.State.{ClientNode, Connection, OpenClient, State, is_direct, opening, same_node}
+use Rattle.port_registry.specs.session_laws.specs.LoopFree.{IsLoopFree}
+use Rattle.graph_word.specs.session_model.specs.Activation.{AreLinks, incoming}
+use Rattle.graph_word.specs.session_model.specs.Benches.{IsPlan, place_in}
+use Rattle.graph_word.specs.session_model.specs.Commands.{replay}
+use Rattle.graph_word.specs.session_model.specs.Courses.{players}
+use Rattle.graph_word.specs.session_model.specs.Ids.{node_links}
+use Rattle.graph_word.specs.session_model.specs.Loops.{direct_links, leads}
+use Rattle.graph_word.specs.session_model.specs.Replies.{AreLawful}
+use Rattle.graph_word.specs.session_model.specs.Samples.{below}
+use Rattle.graph_word.specs.session_model.specs.Soundness.{Apart}
+use Rattle.graph_word.specs.session_model.specs.State.{ClientNode, Connection, OpenClient, State, is_direct, opening, same_node}
 use Rattle.port_registry.specs.Registered.{open_clients}
 use Rattle.cycle_plan.specs.Graphs.{HasTempo, IsNetwork, Network, state_of}
 use Rattle.cycle_plan.specs.Layouts.{JoinsEdges, LaidOut, distinct, laid_out, link_between, ordered}

@@ -4,18 +4,18 @@
 --     without_memory answer      what a call of the registry answers where it has room
 --     Joins ports source destination old new      one edge more, with its mark
 use Rattle.std.specs.Prelude.{◌≡◌, ⊤, ℕ, Result, Ok, Err, List, [], ◌∷◌, ◌++◌, Contains, length, nat_lt, if◌then◌else◌}
-use Rattle.jack_types.specs.declared.ports.Edge.{Edge}
-use Rattle.jack_types.specs.declared.ports.Mark.{Mark}
-use Rattle.jack_types.specs.declared.ports.Node.{Node}
-use Rattle.jack_types.specs.declared.ports.Port.{Port}
-use Rattle.jack_types.specs.declared.ports.Way.TheVariants.{In, Out}
-use Rattle.jack_types.specs.declared.replies.No.{No}
-use Rattle.jack_types.specs.declared.replies.No.TheVariants.{Memory, Refused}
-use Rattle.jack_types.specs.declared.replies.Refusal.{Refusal}
-use Rattle.session_model.specs.Ids.{connections, same_id_node, way_of}
-use Rattle.session_model.specs.Loops.{mark_of, remark}
-use Rattle.session_model.specs.State.{Connection}
-use Rattle.connection_set.specs.Connections.{MakesConnection, without_port}
+use Rattle.graph_word.specs.jack_types.specs.declared.ports.Edge.{Edge}
+use Rattle.graph_word.specs.jack_types.specs.declared.ports.Mark.{Mark}
+use Rattle.graph_word.specs.jack_types.specs.declared.ports.Node.{Node}
+use Rattle.graph_word.specs.jack_types.specs.declared.ports.Port.{Port}
+use Rattle.graph_word.specs.jack_types.specs.declared.ports.Way.TheVariants.{In, Out}
+use Rattle.graph_word.specs.jack_types.specs.declared.replies.No.{No}
+use Rattle.graph_word.specs.jack_types.specs.declared.replies.No.TheVariants.{Memory, Refused}
+use Rattle.graph_word.specs.jack_types.specs.declared.replies.Refusal.{Refusal}
+use Rattle.graph_word.specs.session_model.specs.Ids.{connections, same_id_node, way_of}
+use Rattle.graph_word.specs.session_model.specs.Loops.{mark_of, remark}
+use Rattle.graph_word.specs.session_model.specs.State.{Connection}
+use Rattle.feedback_edges.specs.connection_set.specs.Connections.{MakesConnection, without_port}
 use Rattle.feedback_edges.specs.Marking.{AreNamed, ends_by_id}
 
 -- the edges, those of the port taken away where it is at the node

@@ -1,10 +1,10 @@
 -- Inside: the same by the numbers of nodes. No public clause cites this module.
 use Rattle.std.specs.Prelude.{◌≡◌, ℕ, ◌+◌, ◌<◌, Bool, ◌==◌, List, position, slice_index_or, Option, None, if◌then◌else◌}
-use Rattle.jack_types.specs.declared.ports.Client.{Client}
-use Rattle.jack_types.specs.declared.ports.Edge.{Edge}
-use Rattle.jack_types.specs.declared.ports.Link.{Link}
-use Rattle.session_model.specs.Loops.{leads}
-use Rattle.session_model.specs.State.{is_direct}
+use Rattle.graph_word.specs.jack_types.specs.declared.ports.Client.{Client}
+use Rattle.graph_word.specs.jack_types.specs.declared.ports.Edge.{Edge}
+use Rattle.graph_word.specs.jack_types.specs.declared.ports.Link.{Link}
+use Rattle.graph_word.specs.session_model.specs.Loops.{leads}
+use Rattle.graph_word.specs.session_model.specs.State.{is_direct}
 use Rattle.feedback_edges.specs.Search.{number_links, link_by}
 use Rattle.cycle_plan.specs.Layouts.{link_between}
 

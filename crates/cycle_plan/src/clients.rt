@@ -1,9 +1,9 @@
 //! Clients of a graph, as commands change them.
 
 ghost use Rattle.std.specs.Prelude.{◌≡◌, ℕ, Some, IfOk, OnOk, false};
-ghost use Rattle.jack_types.specs.declared.commands.Command.TheVariants.{Activate, Close, Deactivate, Open, Slow};
-ghost use Rattle.session_model.specs.Commands.{refusal};
-ghost use Rattle.session_model.specs.State.{is_system as names_system};
+ghost use Rattle.graph_word.specs.jack_types.specs.declared.commands.Command.TheVariants.{Activate, Close, Deactivate, Open, Slow};
+ghost use Rattle.graph_word.specs.session_model.specs.Commands.{refusal};
+ghost use Rattle.graph_word.specs.session_model.specs.State.{is_system as names_system};
 ghost use Rattle.port_registry.specs.Answers.{AnswersExactly};
 ghost use Rattle.port_registry.specs.Registered.{client_by};
 ghost use Rattle.cycle_plan.specs.Graphs.{IsApplied, IsNetwork, state_of};
@@ -12,7 +12,7 @@ use crate::graph::Graph;
 use crate::masters::leave;
 use crate::rewiring::{drop_client, mark_anew};
 use crate::roomy::refusal_only;
-use jack_types::{Client, ClientName, Kind, Refusal};
+use graph_word::jack_types::{Client, ClientName, Kind, Refusal};
 
 impl Graph {
     /// The client of this name, which may not be `system`.

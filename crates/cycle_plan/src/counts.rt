@@ -1,10 +1,10 @@
 //! How many links come into each node.
 
 ghost use Rattle.std.specs.Prelude.{◌≡◌, ◌≤◌, ◌+◌, length, vec_capacity};
-ghost use Rattle.session_model.specs.Activation.{incoming};
+ghost use Rattle.graph_word.specs.session_model.specs.Activation.{incoming};
 ghost use Rattle.cycle_plan.specs.Plans.{AreCounts};
 
-use jack_types::Link;
+use graph_word::jack_types::Link;
 
 /// How many of the links come into the node, and one for its start.
 fn count_into(links: &[Link], node: u32) -> u32

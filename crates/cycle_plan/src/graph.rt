@@ -1,18 +1,18 @@
 //! A graph as commands change it.
 
 ghost use Rattle.std.specs.Prelude.{◌≡◌, ◌≤◌, IfOk, IsTrue, OnErr, length};
-ghost use Rattle.session_model.specs.Commands.{after, refusal};
-ghost use Rattle.session_model.specs.Replies.{is_change};
-ghost use Rattle.session_model.specs.State.{opening};
+ghost use Rattle.graph_word.specs.session_model.specs.Commands.{after, refusal};
+ghost use Rattle.graph_word.specs.session_model.specs.Replies.{is_change};
+ghost use Rattle.graph_word.specs.session_model.specs.State.{opening};
 ghost use Rattle.port_registry.specs.Answers.{AnswersExactly};
 ghost use Rattle.port_registry.specs.Registered.{client_by};
 ghost use Rattle.cycle_plan.specs.Graphs.{HasTempo, IsNetwork, state_of};
 
 use crate::layout::{MOST_CLIENTS, MOST_LINKS};
 use crate::masters::Mastership;
-use connection_set::Connections;
 use feedback_edges::MOST_PORTS;
-use jack_types::{Client, ClientName, Command, Edge, Memory, Refusal};
+use feedback_edges::connection_set::Connections;
+use graph_word::jack_types::{Client, ClientName, Command, Edge, Memory, Refusal};
 use port_registry::{PortIter, Registry};
 use std::alloc::Global;
 use std::marker::Model;

@@ -1,9 +1,9 @@
 //! A law of graphs.
 
 ghost use Rattle.std.specs.Prelude.{◌≡◌, ℕ, List, Contains, true};
-ghost use Rattle.jack_types.specs.declared.commands.Change.{Change as ChangeValue};
-ghost use Rattle.session_model.specs.Commands.{replay, shares};
-ghost use Rattle.session_model.specs.State.{OpenClient, opening};
+ghost use Rattle.graph_word.specs.jack_types.specs.declared.commands.Change.{Change as ChangeValue};
+ghost use Rattle.graph_word.specs.session_model.specs.Commands.{replay, shares};
+ghost use Rattle.graph_word.specs.session_model.specs.State.{OpenClient, opening};
 
 /// At most one open client has a given recorder, guest or disk file, whatever commands led to the state.
 pub fn one_client_of_each()

@@ -2,17 +2,17 @@
 
 ghost use Rattle.std.specs.Prelude.{◌≡◌, ◌≤◌, [], IfOk, filter, length};
 ghost use Rattle.std.specs.List.Sorted.{IsPermutation};
-ghost use Rattle.jack_types.specs.declared.ports.Client.{Client as ClientRecord};
-ghost use Rattle.session_laws.specs.LoopFree.{IsLoopFree};
-ghost use Rattle.session_model.specs.Activation.{AreLinks};
-ghost use Rattle.session_model.specs.Ids.{node_links};
-ghost use Rattle.session_model.specs.Soundness.{Apart};
+ghost use Rattle.graph_word.specs.jack_types.specs.declared.ports.Client.{Client as ClientRecord};
+ghost use Rattle.port_registry.specs.session_laws.specs.LoopFree.{IsLoopFree};
+ghost use Rattle.graph_word.specs.session_model.specs.Activation.{AreLinks};
+ghost use Rattle.graph_word.specs.session_model.specs.Ids.{node_links};
+ghost use Rattle.graph_word.specs.session_model.specs.Soundness.{Apart};
 ghost use Rattle.cycle_plan.specs.Layouts.{CanLayOut, JoinsEdges, is_player, laid_out};
 
 use crate::links::{link_nodes, node_places};
 use crate::nodes::order_nodes;
 use feedback_edges::node_table;
-use jack_types::{Client, Edge, Link, Memory, Port};
+use graph_word::jack_types::{Client, Edge, Link, Memory, Port};
 use std::alloc::Global;
 use std::marker::Model;
 

@@ -16,6 +16,7 @@ mod rewiring;
 mod roomy;
 mod wires;
 
+pub use feedback_edges;
 pub use graph::Graph;
 pub use layout::Layout;
 pub use plan::Plan;

@@ -3,14 +3,14 @@
 ghost use Rattle.std.specs.Prelude.{◌≡◌, ◌<◌, ◌≤◌, ◌+◌, ℕ, All, IfSome, length, filter_map, slice_index_or, false};
 ghost use Rattle.std.specs.List.{list_any};
 ghost use Rattle.std.specs.Vec.{vec_capacity};
-ghost use Rattle.jack_types.specs.declared.ports.Client.{Client as ClientRecord};
-ghost use Rattle.jack_types.specs.declared.ports.Edge.{Edge as EdgeRecord};
+ghost use Rattle.graph_word.specs.jack_types.specs.declared.ports.Client.{Client as ClientRecord};
+ghost use Rattle.graph_word.specs.jack_types.specs.declared.ports.Edge.{Edge as EdgeRecord};
 ghost use Rattle.cycle_plan.specs.Layouts.{distinct, same_link, with_link};
 ghost use Rattle.cycle_plan.specs.Searching.{ArePlaces, client_number, link_at_numbers};
 
 use crate::nodes::number_of_client;
 use feedback_edges::{MOST_NODES, MOST_PORTS};
-use jack_types::{Client, Edge, Link, Mark};
+use graph_word::jack_types::{Client, Edge, Link, Mark};
 
 /// For each node's number, its place among the plan's nodes.
 pub fn node_places(nodes: &[Client]) -> [Option<u32>; MOST_NODES]

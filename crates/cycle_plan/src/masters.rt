@@ -2,14 +2,14 @@
 
 ghost use Rattle.std.specs.Prelude.{◌≡◌, ℕ};
 ghost use Rattle.std.specs.Option.{option_map};
-ghost use Rattle.jack_types.specs.declared.commands.Command.TheVariants.{Release, Timebase, TimebaseIf, Timeout};
-ghost use Rattle.session_model.specs.Commands.{master_without};
-ghost use Rattle.session_model.specs.Transport.{active_master};
+ghost use Rattle.graph_word.specs.jack_types.specs.declared.commands.Command.TheVariants.{Release, Timebase, TimebaseIf, Timeout};
+ghost use Rattle.graph_word.specs.session_model.specs.Commands.{master_without};
+ghost use Rattle.graph_word.specs.session_model.specs.Transport.{active_master};
 ghost use Rattle.cycle_plan.specs.Graphs.{IsApplied, numbers_of, state_of, tempo_numbers};
 ghost use Rattle.cycle_plan.specs.Masters.{is_led_by as is_led_in, master_of};
 
 use crate::graph::Graph;
-use jack_types::{ClientName, Refusal};
+use graph_word::jack_types::{ClientName, Refusal};
 use tempo_map::Tempo;
 
 /// The client that is the timebase master, with its tempo.

@@ -3,13 +3,13 @@
 ghost use Rattle.std.specs.Prelude.{◌≡◌, ◌<◌, ◌≤◌, ◌+◌, ℕ, All, length, filter, take, slice_index_or, false};
 ghost use Rattle.std.specs.List.{position_or_len};
 ghost use Rattle.std.specs.Vec.{vec_capacity};
-ghost use Rattle.jack_types.specs.declared.ports.Client.{Client as ClientRecord};
-ghost use Rattle.jack_types.specs.declared.ports.Edge.{Edge as EdgeRecord};
+ghost use Rattle.graph_word.specs.jack_types.specs.declared.ports.Client.{Client as ClientRecord};
+ghost use Rattle.graph_word.specs.jack_types.specs.declared.ports.Edge.{Edge as EdgeRecord};
 ghost use Rattle.cycle_plan.specs.Layouts.{is_player, ordered, with_node};
 ghost use Rattle.cycle_plan.specs.Searching.{client_number, numbers_lead};
 
 use feedback_edges::{MOST_NODES, MOST_PORTS, reached};
-use jack_types::{Client, Edge};
+use graph_word::jack_types::{Client, Edge};
 
 /// Whether a client is a node: active, and not `system`.
 fn plays(client: &Client) -> bool

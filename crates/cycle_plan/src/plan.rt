@@ -2,9 +2,9 @@
 
 ghost use Rattle.std.specs.Prelude.{◌≡◌, ◌≤◌, ◌<◌, ◌+◌, IfOk, [], length};
 ghost use Rattle.graph_word.specs.Publications.{IsFront};
-ghost use Rattle.session_model.specs.Activation.{incoming};
-ghost use Rattle.session_model.specs.Replies.{AreLawful};
-ghost use Rattle.session_model.specs.Transport.{active_master};
+ghost use Rattle.graph_word.specs.session_model.specs.Activation.{incoming};
+ghost use Rattle.graph_word.specs.session_model.specs.Replies.{AreLawful};
+ghost use Rattle.graph_word.specs.session_model.specs.Transport.{active_master};
 ghost use Rattle.cycle_plan.specs.Graphs.{numbers_of, tempo_numbers};
 ghost use Rattle.cycle_plan.specs.Plans.{HasTempos, IsPlanned, LaysOut, opening_of, state_of_plan};
 
@@ -12,8 +12,8 @@ use crate::counts::count_links;
 use crate::graph::Graph;
 use crate::layout::{Layout, MOST_CLIENTS};
 use crate::replaying::replay;
+use graph_word::jack_types::{Change, Client, Edge, Link, Memory, Port};
 use graph_word::{Base, Numbered};
-use jack_types::{Change, Client, Edge, Link, Memory, Port};
 use std::alloc::Global;
 use std::marker::Model;
 use tempo_map::Tempo;

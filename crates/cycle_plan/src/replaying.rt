@@ -1,14 +1,14 @@
 //! The changes that a plan lacks, applied to its graph.
 
 ghost use Rattle.std.specs.Prelude.{◌≡◌, ◌≤◌, ◌<◌, ◌++◌, ◌∷◌, [], length, vec_capacity};
-ghost use Rattle.session_model.specs.Commands.{after, replay as replayed};
-ghost use Rattle.session_model.specs.Replies.{IsNext};
-ghost use Rattle.session_model.specs.State.{State};
+ghost use Rattle.graph_word.specs.session_model.specs.Commands.{after, replay as replayed};
+ghost use Rattle.graph_word.specs.session_model.specs.Replies.{IsNext};
+ghost use Rattle.graph_word.specs.session_model.specs.State.{State};
 ghost use Rattle.cycle_plan.specs.Graphs.{HasTempo, state_of};
 ghost use Rattle.cycle_plan.specs.Plans.{CanReplay};
 
 use crate::graph::Graph;
-use jack_types::Change;
+use graph_word::jack_types::Change;
 
 /// Applies the next change, and keeps it.
 fn go_on(graph: &mut Graph, kept: &mut Vec<Change>, change: &Change)

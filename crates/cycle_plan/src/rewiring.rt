@@ -1,15 +1,15 @@
 //! Edges that come and go, with their marks.
 
 ghost use Rattle.std.specs.Prelude.{◌≡◌, ◌≤◌, None, Some, fold};
-ghost use Rattle.jack_types.specs.declared.ports.Node.TheVariants.{Client as ClientNode};
-ghost use Rattle.session_model.specs.Ids.{same_id_node};
-ghost use Rattle.connection_set.specs.Connections.{connect_refusal};
+ghost use Rattle.graph_word.specs.jack_types.specs.declared.ports.Node.TheVariants.{Client as ClientNode};
+ghost use Rattle.graph_word.specs.session_model.specs.Ids.{same_id_node};
+ghost use Rattle.feedback_edges.specs.connection_set.specs.Connections.{connect_refusal};
 ghost use Rattle.feedback_edges.specs.Marking.{AreAmong, IsNode};
 ghost use Rattle.cycle_plan.specs.Rewiring.{Joins, Leaves, without_edges_at};
 
-use connection_set::Connections;
+use feedback_edges::connection_set::Connections;
 use feedback_edges::{mark, remark};
-use jack_types::{ClientId, Node, Port};
+use graph_word::jack_types::{ClientId, Node, Port};
 
 /// Whether a port is one of the client of this id.
 fn is_at(port: &Port, id: ClientId) -> bool

@@ -4,7 +4,7 @@ ghost use Rattle.std.specs.Prelude.{◌≡◌};
 ghost use Rattle.port_registry.specs.Answers.{IsMemory};
 ghost use Rattle.cycle_plan.specs.Rewiring.{without_memory};
 
-use jack_types::{No, Refusal};
+use graph_word::jack_types::{No, Refusal};
 
 /// Done, or why not, of a call that has room.
 pub(crate) fn refusal_only<T: Drop>(answer: Result<T, No>) -> Result<(), Refusal>

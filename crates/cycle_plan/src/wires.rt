@@ -1,13 +1,13 @@
 //! Ports and connections of a graph, as commands change them.
 
 ghost use Rattle.std.specs.Prelude.{◌≡◌, ℕ};
-ghost use Rattle.jack_types.specs.declared.commands.Command.TheVariants.{Connect, Disconnect, Register, Unregister};
+ghost use Rattle.graph_word.specs.jack_types.specs.declared.commands.Command.TheVariants.{Connect, Disconnect, Register, Unregister};
 ghost use Rattle.cycle_plan.specs.Graphs.{IsApplied};
 
 use crate::graph::Graph;
 use crate::rewiring::{join, mark_anew};
 use crate::roomy::refusal_only;
-use jack_types::{PortKind, PortName, Refusal, Way};
+use graph_word::jack_types::{PortKind, PortName, Refusal, Way};
 
 impl Graph {
     /// Registers a port of a client.

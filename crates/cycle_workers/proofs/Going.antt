@@ -2,7 +2,7 @@
 use Rattle.std.proofs.Common.{◌≡◌, ◌≢◌, ℕ, suc, ◌+◌, ◌%◌, ◌<◌, ◌≤◌, true, false, cond, ◌==◌, List, [], ◌∷◌, length, map, get_or, refl, sym, ◌∙◌, ap, subst, arith, true≢false, eq-eqb, ne_eqb}
 use Rattle.std.proofs.lemmas.List.{length-map}
 use Rattle.session_model.specs.Samples.{below}
-use Rattle.session_laws.proofs.SequentialLemmas.{length-below, outgoing_at}
+use Rattle.activation.specs.session_laws.proofs.SequentialLemmas.{length-below, outgoing_at}
 use mathlib.Core.Logic.{dite}
 use native.Mathlib.Decide.{dec_lt, ℕ_discrete}
 use Rattle.jack_types.specs.declared.ports.Link.{Link}

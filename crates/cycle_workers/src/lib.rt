@@ -3,4 +3,5 @@
 
 mod running;
 
+pub use activation;
 pub use running::{run, run_cycle};

@@ -9,7 +9,7 @@ use Rattle.session_model.specs.Kinds.{Sound}
 use Rattle.client_kinds.specs.Scores.{Score}
 use Rattle.wave_pcm.specs.Readings.{SameReading}
 use Rattle.driver_words.specs.Tapes.{Tape}
-use Rattle.driver_laws.specs.Cycling.{FailsAtRead, MayCycle}
+use Rattle.midi_stage.specs.driver_laws.specs.Cycling.{FailsAtRead, MayCycle}
 use Rattle.cycle_laws.specs.Gears.{Gear, IsGear, driver_of}
 use Rattle.cycle_works.specs.Gears.{FailsToRead, with_playback}
 

@@ -25,22 +25,22 @@ use Rattle.session_model.specs.Kinds.{Sound}
 use Rattle.port_registry.specs.Registered.{open_clients}
 use Rattle.graph_word.specs.Publications.{Reading}
 use Rattle.client_kinds.specs.Scores.{Score}
-use Rattle.cycle_plan.specs.Plans.{Planned, nodes_of, opening_of}
+use Rattle.midi_stage.specs.cycle_plan.specs.Plans.{Planned, nodes_of, opening_of}
 use Rattle.transport.specs.Standings.{Standing}
 use Rattle.driver_words.specs.Rings.{Getting, IsOpening, Sending, items_of}
-use Rattle.client_benches.specs.Seen.{Seen, new_bench}
-use Rattle.client_seats.specs.Moves.{kinds_of}
-use Rattle.client_seats.specs.Owners.{Owned}
-use Rattle.client_seats.specs.Seatings.{memories, owned_memories}
-use Rattle.device_periods.specs.Captures.{Captured}
-use Rattle.driver_laws.specs.Drivers.{IsOwnDisk, IsOwnRing, Remembered, frames_run, channels_on, greatest_period, turn_of}
-use Rattle.driver_laws.specs.Openings.{IsNew}
-use Rattle.recorder_rings.specs.Sending.{no_ring}
-use Rattle.task_laws.specs.Calls.{guests_needed, open_kinds}
+use Rattle.midi_stage.specs.client_benches.specs.Seen.{Seen, new_bench}
+use Rattle.client_stage.specs.client_seats.specs.Moves.{kinds_of}
+use Rattle.client_stage.specs.client_seats.specs.Owners.{Owned}
+use Rattle.client_stage.specs.client_seats.specs.Seatings.{memories, owned_memories}
+use Rattle.client_stage.specs.device_periods.specs.Captures.{Captured}
+use Rattle.midi_stage.specs.driver_laws.specs.Drivers.{IsOwnDisk, IsOwnRing, Remembered, frames_run, channels_on, greatest_period, turn_of}
+use Rattle.midi_stage.specs.driver_laws.specs.Openings.{IsNew}
+use Rattle.cycle_laws.specs.recorder_rings.specs.Sending.{no_ring}
+use Rattle.midi_stage.specs.task_laws.specs.Calls.{guests_needed, open_kinds}
 use Rattle.driver_words.specs.Feeding.{AreForPeriods, no_ring as no_disk}
 use Rattle.driver_words.specs.Hearings.{Heard, log_at}
 use Rattle.midi_stage.specs.Standing.{quiet_heard}
-use Rattle.midi_wiring.specs.Hearings.{AreCarried}
+use Rattle.midi_stage.specs.midi_wiring.specs.Hearings.{AreCarried}
 use Rattle.cycle_laws.specs.Gears.{OnStage, StandsOn, Gear, IsGear, driver_of}
 use Rattle.cycle_works.specs.Makings.{AreNewDisks, AreNewRings, IsMade, IsNewStage, IsNewTransport, IsOpeningPlan, IsUnread}
 use Rattle.cycle_works.specs.declared.opening.Made.{Made}

@@ -10,8 +10,8 @@ use Rattle.session_model.specs.Samples.{below, interleaved}
 use Rattle.session_model.specs.Kinds.{Sound}
 use Rattle.client_kinds.specs.Scores.{Score}
 use Rattle.session_laws.proofs.SequentialLemmas.{length-below}
-use Rattle.cycle_plan.specs.Plans.{Planned}
-use Rattle.playback_mix.specs.Mixes.{channel_mix}
+use Rattle.midi_stage.specs.cycle_plan.specs.Plans.{Planned}
+use Rattle.cycle_laws.specs.playback_mix.specs.Mixes.{channel_mix}
 use Rattle.driver_words.specs.Tapes.{Tape}
 use Rattle.cycle_laws.specs.Gears.{Gear, IsGear}
 use Rattle.cycle_laws.specs.Turnings.{Turns}

@@ -15,17 +15,17 @@ use Rattle.std.specs.Vec.{vec_capacity}
 use Rattle.session_model.specs.Scripts.{Script, turns}
 use Rattle.session_model.specs.Transport.{first_row}
 use Rattle.client_kinds.specs.Scores.{Score}
-use Rattle.cycle_plan.specs.Plans.{Planned}
+use Rattle.midi_stage.specs.cycle_plan.specs.Plans.{Planned}
 use Rattle.transport.specs.Standings.{Standing}
-use Rattle.client_benches.specs.Seen.{new_bench}
-use Rattle.disk_feeds.specs.Openings.{IsNew as AreNewFeeds}
+use Rattle.midi_stage.specs.client_benches.specs.Seen.{new_bench}
+use Rattle.client_stage.specs.disk_feeds.specs.Openings.{IsNew as AreNewFeeds}
 use Rattle.driver_words.specs.Feeding.{Fed}
 use Rattle.midi_stage.specs.Standing.{OnMidi, quiet_heard}
-use Rattle.device_periods.specs.Captures.{Captured}
-use Rattle.driver_laws.specs.Drivers.{greatest_period}
-use Rattle.recorder_rings.specs.Openings.{IsNew}
-use Rattle.recorder_rings.specs.Sending.{Sent}
-use Rattle.task_laws.specs.Calls.{open_kinds}
+use Rattle.client_stage.specs.device_periods.specs.Captures.{Captured}
+use Rattle.midi_stage.specs.driver_laws.specs.Drivers.{greatest_period}
+use Rattle.cycle_laws.specs.recorder_rings.specs.Openings.{IsNew}
+use Rattle.cycle_laws.specs.recorder_rings.specs.Sending.{Sent}
+use Rattle.midi_stage.specs.task_laws.specs.Calls.{open_kinds}
 use Rattle.cycle_laws.specs.Gears.{OnStage, StandsOn}
 use Rattle.cycle_works.specs.declared.opening.Lists.{Lists}
 use Rattle.cycle_works.specs.declared.opening.Made.{Made}

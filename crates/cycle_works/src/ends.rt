@@ -2,10 +2,10 @@
 
 use crate::works::Works;
 use client_kinds::Guest;
-use cycle_plan::Plan;
 use graph_word::Reader;
 use jack_host::Source;
 use jack_types::{Logged, Moment, Overrun, Underrun};
+use midi_stage::cycle_plan::Plan;
 use record_ring::{Consumer, Producer};
 use wave_pcm::Wave;
 
@@ -13,16 +13,16 @@ impl<S: Source, G: Guest> Works<S, G> {
     ghost use Rattle.std.specs.Prelude.{◌≡◌, ◌<◌, ◌≤◌, All, false, None, length, slice_set};
     ghost use Rattle.std.specs.Borrow.{sem, Lends};
     ghost use Rattle.graph_word.specs.contracts.reader.Reader.{the_row as the_reader};
-    ghost use Rattle.cycle_plan.specs.contracts.plan.Plan.{the_row as the_plan};
-    ghost use Rattle.cycle_plan.specs.Plans.{Planned};
+    ghost use Rattle.midi_stage.specs.cycle_plan.specs.contracts.plan.Plan.{the_row as the_plan};
+    ghost use Rattle.midi_stage.specs.cycle_plan.specs.Plans.{Planned};
     ghost use Rattle.record_ring.specs.contracts.consumer.Consumer.{the_row as the_consumer};
     ghost use Rattle.record_ring.specs.contracts.producer.Producer.{the_row as the_producer};
-    ghost use Rattle.recorder_rings.specs.Sending.{consumer_at, ring_at};
+    ghost use Rattle.cycle_laws.specs.recorder_rings.specs.Sending.{consumer_at, ring_at};
     ghost use Rattle.cycle_works.specs.contracts.works.Works.{the_row};
     ghost use Rattle.driver_words.specs.Feeding.{disk_at, played_at, producer_at};
     ghost use Rattle.midi_player.specs.Standings.{IsLawful};
-    ghost use Rattle.driver_laws.specs.Drivers.{log_in, peak_in};
-    ghost use Rattle.driver_laws.specs.Keeping.{AreOfCalls};
+    ghost use Rattle.midi_stage.specs.driver_laws.specs.Drivers.{log_in, peak_in};
+    ghost use Rattle.midi_stage.specs.driver_laws.specs.Keeping.{AreOfCalls};
     ghost use Rattle.cycle_laws.specs.Gears.{driver_of};
 
     /// Sets the period of the next cycle, in frames.

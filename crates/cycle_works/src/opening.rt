@@ -2,8 +2,8 @@
 
 ghost use Rattle.std.specs.Prelude.{◌≡◌, ◌<◌, ◌≤◌, IfErr, IfOk, [], ◌∷◌, false, length, map};
 ghost use Rattle.std.specs.Vec.{vec_capacity};
-ghost use Rattle.driver_laws.specs.Openings.{IsNew};
-ghost use Rattle.task_laws.specs.Calls.{guests_needed};
+ghost use Rattle.midi_stage.specs.driver_laws.specs.Openings.{IsNew};
+ghost use Rattle.midi_stage.specs.task_laws.specs.Calls.{guests_needed};
 ghost use Rattle.session_model.specs.Grammar.{IsScript};
 ghost use Rattle.cycle_laws.specs.Gears.{driver_of};
 ghost use Rattle.cycle_works.specs.Makings.{AreNewDisks, AreNewLists, AreNewRings, IsMade, IsNewMidi, IsNewOutfit, IsNewStage, IsNewTransport, IsOpeningPlan, IsRoom, IsUnread};
@@ -12,21 +12,21 @@ use crate::parts::Parts;
 use crate::works::Works;
 use client_kinds::Guest;
 use client_stage::Stage;
-use cycle_plan::Plan;
-use device_periods::Capture;
-use disk_feeds::{DiskFeeds, new_disks_are_ready};
+use client_stage::device_periods::Capture;
+use client_stage::disk_feeds::{DiskFeeds, new_disks_are_ready};
+use cycle_laws::plan_transport::PlanTransport;
+use cycle_laws::recorder_rings::RecorderRings;
 use graph_word::Reader;
 use jack_host::Source;
 use jack_types::{Memory, Moment};
 use midi_stage::MidiStage;
+use midi_stage::cycle_plan::Plan;
 use midi_stage::laws::what_is_carried;
-use plan_transport::PlanTransport;
+use midi_stage::script_needs::{cycles, greatest_period, open_kinds};
+use midi_stage::session_script::Script;
+use midi_stage::task_laws::scripts::kinds_are_of_the_script;
 use proof_notes::Log;
-use recorder_rings::RecorderRings;
-use script_needs::{cycles, greatest_period, open_kinds};
-use session_script::Script;
 use std::alloc::Global;
-use task_laws::scripts::kinds_are_of_the_script;
 use wave_pcm::Wave;
 
 /// What is kept of each cycle.
@@ -278,12 +278,12 @@ fn over<S: Source, G: Guest>(
 impl<S: Source, G: Guest> Works<S, G> {
     ghost use Rattle.std.specs.Prelude.{◌≡◌, ◌*◌, ◌<◌, ◌≤◌, [], IfErr, IfOk, false, length, map};
     ghost use Rattle.session_model.specs.Scripts.{turns};
-    ghost use Rattle.driver_laws.specs.Drivers.{greatest_period};
-    ghost use Rattle.driver_laws.specs.Openings.{IsNew};
-    ghost use Rattle.recorder_rings.specs.Openings.{IsNew as AreNew};
-    ghost use Rattle.task_laws.specs.Calls.{guests_needed};
+    ghost use Rattle.midi_stage.specs.driver_laws.specs.Drivers.{greatest_period};
+    ghost use Rattle.midi_stage.specs.driver_laws.specs.Openings.{IsNew};
+    ghost use Rattle.cycle_laws.specs.recorder_rings.specs.Openings.{IsNew as AreNew};
+    ghost use Rattle.midi_stage.specs.task_laws.specs.Calls.{guests_needed};
     ghost use Rattle.cycle_laws.specs.Gears.{driver_of};
-    ghost use Rattle.disk_feeds.specs.Openings.{IsNew as AreNewFeeds};
+    ghost use Rattle.client_stage.specs.disk_feeds.specs.Openings.{IsNew as AreNewFeeds};
     ghost use Rattle.session_model.specs.Grammar.{IsScript};
 
     /// The works of a script's cycles, with these guests and so many seats for those who play, which take each other's clients

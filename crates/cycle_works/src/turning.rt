@@ -6,12 +6,12 @@ ghost use Rattle.jack_types.specs.declared.moments.Moment.{Moment as MomentValue
 ghost use Rattle.jack_host.specs.Causes.{HasCause};
 ghost use Rattle.session_model.specs.Scripts.{Script as ScriptValue};
 ghost use Rattle.graph_word.specs.Publications.{Begins, Reading, Takes, last_row};
-ghost use Rattle.cycle_plan.specs.Plans.{Planned};
+ghost use Rattle.midi_stage.specs.cycle_plan.specs.Plans.{Planned};
 ghost use Rattle.driver_words.specs.Tapes.{Tape};
 ghost use Rattle.session_model.specs.Samples.{silence};
 ghost use Rattle.wave_pcm.specs.Readings.{SameReading};
-ghost use Rattle.device_periods.specs.Captures.{Reads};
-ghost use Rattle.driver_laws.specs.Cycling.{MayCycle};
+ghost use Rattle.client_stage.specs.device_periods.specs.Captures.{Reads};
+ghost use Rattle.midi_stage.specs.driver_laws.specs.Cycling.{MayCycle};
 ghost use Rattle.cycle_laws.specs.Gears.{IsGear, driver_of};
 ghost use Rattle.cycle_laws.specs.Turnings.{Turns};
 ghost use Rattle.cycle_works.specs.Gears.{FailsToRead};
@@ -20,14 +20,14 @@ ghost use Rattle.cycle_works.specs.Insides.{gear_of};
 use crate::parts::Parts;
 use crate::works::Works;
 use client_kinds::Guest;
-use cycle_blocks::send_blocks;
+use client_stage::device_periods::Capture;
+use cycle_laws::cycle_blocks::send_blocks;
 use cycle_laws::gears::{a_cycle_leaves_the_parts, a_cycle_may_be_played};
-use cycle_plan::Plan;
-use device_periods::Capture;
+use cycle_laws::plan_transport::step_by_plan;
 use graph_word::Reader;
 use jack_host::{Gate, ReadFailed, Source};
+use midi_stage::cycle_plan::Plan;
 use midi_stage::laws::what_is_carried;
-use plan_transport::step_by_plan;
 use std::thread::Threads;
 
 /// The number that the last cycle took, 0 before the first.
@@ -135,10 +135,10 @@ impl<S: Source, G: Guest + Send> Works<S, G> {
     ghost use Rattle.std.specs.Prelude.{◌≡◌, OnErr, OnOk, Option, is_err};
     ghost use Rattle.jack_types.specs.declared.moments.Moment.{Moment as MomentValue};
     ghost use Rattle.jack_host.specs.Causes.{HasCause};
-    ghost use Rattle.cycle_plan.specs.Plans.{Planned};
+    ghost use Rattle.midi_stage.specs.cycle_plan.specs.Plans.{Planned};
     ghost use Rattle.wave_pcm.specs.Readings.{SameReading};
     ghost use Rattle.driver_words.specs.Tapes.{Tape};
-    ghost use Rattle.driver_laws.specs.Cycling.{MayCycle};
+    ghost use Rattle.midi_stage.specs.driver_laws.specs.Cycling.{MayCycle};
     ghost use Rattle.cycle_laws.specs.Gears.{IsGear, driver_of};
     ghost use Rattle.cycle_laws.specs.Turnings.{Turns};
     ghost use Rattle.cycle_works.specs.Gears.{FailsToRead, with_playback};

@@ -3,8 +3,8 @@
 use crate::parts::Parts;
 use client_kinds::Guest;
 use jack_host::Source;
+use midi_stage::session_script::Script;
 use proof_notes::Log;
-use session_script::Script;
 use std::marker::Model;
 
 /// The works of a driver's cycles: they take plans, let their clients play, keep what the report prints, and mix what the

@@ -8,8 +8,8 @@ use Rattle.std.proofs.lemmas.List.Concat.{flat_map-append}
 use Rattle.std.proofs.Math.ListN.{set}
 use Rattle.std.proofs.lemmas.Bool.{ltb-false, ltb-true}
 use Rattle.client_kinds.proofs.BufferLemmas.{place_within, replicate-below}
-use Rattle.session_model.specs.Samples.{below, sample, silence, interleaved}
-use Rattle.session_laws.proofs.ActivationLemmas.{get_or-map_below, length-map_below}
+use Rattle.wave_pcm.specs.session_model.specs.Samples.{below, sample, silence, interleaved}
+use Rattle.client_kinds.specs.session_laws.proofs.ActivationLemmas.{get_or-map_below, length-map_below}
 use Rattle.client_kinds.specs.Buffers.{buffers_of, channels_of, with_buffer}
 use Rattle.device_periods.specs.Blocks.{IsLaid, channel_of}
 use Rattle.wave_pcm.specs.Readings.{GivesPairs}

@@ -4,7 +4,7 @@
 --     Reads left left_after channels count frames      the next frames were read
 use Rattle.std.specs.Prelude.{◌≡◌, ℕ, ◌*◌, ◌<◌, All, List, drop, length, ℤ, ⊤, Option, Some, None}
 use Rattle.client_kinds.specs.Buffers.{channels_of}
-use Rattle.session_model.specs.Samples.{sample}
+use Rattle.wave_pcm.specs.session_model.specs.Samples.{sample}
 use Rattle.wave_pcm.specs.Readings.{Reading}
 
 pub record Captured : Type 0 where

@@ -1,7 +1,7 @@
 //! Interleaved blocks.
 
 ghost use Rattle.std.specs.Prelude.{◌≡◌, ℕ, ◌+◌, ◌*◌, ◌<◌, ◌≤◌, ◌++◌, ◌∷◌, [], List, ℤ, length, map};
-ghost use Rattle.session_model.specs.Samples.{below, interleaved, sample};
+ghost use Rattle.wave_pcm.specs.session_model.specs.Samples.{below, interleaved, sample};
 ghost use Rattle.device_periods.specs.Blocks.{IsLaid, channel_of};
 
 /// Takes every other sample, from the first on.

@@ -2,8 +2,8 @@
 
 ghost use Rattle.std.specs.Prelude.{◌≡◌, ◌+◌, ◌-◌, ◌*◌, ◌%◌, ◌^◌, ◌≤◌, ◌<◌, ◌∷◌, [], false, IfOk, IfSome, IsTrue, OnErr, drop, is_err, length, min, replicate};
 ghost use Rattle.jack_host.specs.Causes.{HasCause};
-ghost use Rattle.session_model.specs.Samples.{silence};
-ghost use Rattle.session_model.specs.WaveFiles.{frame_bytes};
+ghost use Rattle.wave_pcm.specs.session_model.specs.Samples.{silence};
+ghost use Rattle.wave_pcm.specs.session_model.specs.WaveFiles.{frame_bytes};
 ghost use Rattle.client_kinds.specs.Buffers.{buffers_of, channels_of, with_buffer};
 ghost use Rattle.device_periods.specs.Blocks.{channel_of};
 ghost use Rattle.wave_pcm.specs.Readings.{SameReading};
@@ -231,7 +231,7 @@ fn read_period<S: Source>(
 impl<S: Source> Capture<S> {
     ghost use Rattle.std.specs.Prelude.{◌≡◌, ◌≤◌, ◌<◌, ◌*◌, [], false, IfErr, IfOk, OnErr, is_err, length, replicate, slice_index_or};
     ghost use Rattle.jack_host.specs.Causes.{HasCause};
-    ghost use Rattle.session_model.specs.Samples.{silence};
+    ghost use Rattle.wave_pcm.specs.session_model.specs.Samples.{silence};
     ghost use Rattle.wave_pcm.specs.Readings.{SameReading};
 
     /// A capture that is read from where its file stands, by periods of at most so many frames. Where memory lacks, the

@@ -4,12 +4,12 @@ use Rattle.std.specs.Prelude.{ℤ}
 use Rattle.std.proofs.lemmas.List.Sums.{sum_by_push}
 use Rattle.jack_host.specs.Bytes.{Gains}
 use Rattle.jack_types.specs.declared.files.Format.{Format}
-use Rattle.wave_laws.proofs.WaveSamples.{by_width, length-bytes_of}
+use Rattle.wave_write.specs.wave_laws.proofs.WaveSamples.{by_width, length-bytes_of}
 use Rattle.session_model.specs.Rings.{RingBlock, samples_of_blocks}
 use Rattle.session_model.specs.Samples.{width, bytes_of}
 use Rattle.session_model.specs.WaveFiles.{IsFormat, is_width, opening_text}
-use Rattle.driver_words.specs.Rings.{Getting, items_of}
-use Rattle.driver_words.specs.Tapes.{Tape, HasSamples, HasUnfinished, Gained, GainedPart, SameFile}
+use Rattle.record_ring.specs.driver_words.specs.Rings.{Getting, items_of}
+use Rattle.record_ring.specs.driver_words.specs.Tapes.{Tape, HasSamples, HasUnfinished, Gained, GainedPart, SameFile}
 use Rattle.disk_recorder.specs.Recordings.{MayWrite, SameEnds, Writes, Fails, IsCutBehind}
 use Rattle.disk_recorder.proofs.Fronts.{front_append, samples_more}
 

@@ -3,10 +3,10 @@ use Rattle.std.proofs.Common.{◌≡◌, ℕ, ◌+◌, ◌≤◌, true, List, []
 use Rattle.std.specs.Prelude.{Bool, ℤ, Option}
 use Rattle.jack_types.specs.declared.files.Format.{Format}
 use Rattle.record_ring.specs.Rings.{Gets}
-use Rattle.driver_words.specs.Rings.{Getting}
+use Rattle.record_ring.specs.driver_words.specs.Rings.{Getting}
 use Rattle.record_ring.specs.declared.consumer.Got.TheVariants.{Empty, Ended}
 use Rattle.session_model.specs.Rings.{RingBlock, samples_of_blocks}
-use Rattle.driver_words.specs.Tapes.{Tape, HasFront, HasUnfinished}
+use Rattle.record_ring.specs.driver_words.specs.Tapes.{Tape, HasFront, HasUnfinished}
 use Rattle.wave_write.proofs.TapeLemmas.{unfinished-front}
 use Rattle.disk_recorder.specs.Recordings.{MayWrite, SameEnds, FindsNone, Writes, Fails, Breaks}
 use Rattle.disk_recorder.specs.Passing.{Passes}

@@ -1,9 +1,9 @@
 -- What one get and its put do. No public clause cites this module.
 use Rattle.std.specs.Prelude.{◌≡◌, true, length}
-use Rattle.driver_words.specs.Rings.{Getting}
+use Rattle.record_ring.specs.driver_words.specs.Rings.{Getting}
 use Rattle.record_ring.specs.declared.consumer.Got.{Got}
 use Rattle.record_ring.specs.declared.consumer.Got.TheVariants.{Block, Empty, Ended}
-use Rattle.driver_words.specs.Tapes.{Tape}
+use Rattle.record_ring.specs.driver_words.specs.Tapes.{Tape}
 use Rattle.disk_recorder.specs.Recordings.{FindsNone, Writes}
 
 -- a block was written, or none was there

@@ -8,8 +8,8 @@ use Rattle.std.specs.Prelude.{◌≡◌, ℕ, ◌+◌, ◌*◌, ◌<◌, ◌≤�
 use Rattle.session_model.specs.Rings.{RingBlock, samples_of_blocks}
 use Rattle.session_model.specs.Samples.{width, bytes_of}
 use Rattle.session_model.specs.WaveFiles.{IsFormat, opening_text, wave_text}
-use Rattle.driver_words.specs.Rings.{Getting, items_of}
-use Rattle.driver_words.specs.Tapes.{Tape, HasSamples, HasFront, HasUnfinished}
+use Rattle.record_ring.specs.driver_words.specs.Rings.{Getting, items_of}
+use Rattle.record_ring.specs.driver_words.specs.Tapes.{Tape, HasSamples, HasFront, HasUnfinished}
 
 -- no put failed, and the file has no more samples than the blocks got, so that all blocks that the ring may carry fit
 pub record MayWrite (getting : Getting) (tape : Tape) : Type 0 where

@@ -4,4 +4,5 @@
 mod passing;
 mod writing;
 
+pub use wave_write;
 pub use writing::{drain, finish, serve};

@@ -6,10 +6,10 @@ use Rattle.std.proofs.Math.Nat.{add-mul, suc-mul, mul_comm, mul_assoc, mul-le-mu
 use Rattle.std.proofs.lemmas.Bool.{cases_lt}
 use Rattle.std.proofs.lemmas.Grind.{flat_map-append, div_ceil_times}
 use Rattle.std.proofs.lemmas.List.{append-nil, get_or_append_left, get_or-append-add, get_or-map, get_or_past, length-map, map-append}
-use Rattle.session_model.specs.Courses.{DiskFile, block_channel}
-use Rattle.session_model.specs.Disks.{blocks_of}
-use Rattle.session_model.specs.Samples.{below, interleaved, sample, channels_of}
-use Rattle.session_laws.proofs.ActivationLemmas.{get_or-map_below, length-map_below}
+use Rattle.record_ring.specs.session_model.specs.Courses.{DiskFile, block_channel}
+use Rattle.record_ring.specs.session_model.specs.Disks.{blocks_of}
+use Rattle.record_ring.specs.session_model.specs.Samples.{below, interleaved, sample, channels_of}
+use Rattle.cycle_plan.specs.session_laws.proofs.ActivationLemmas.{get_or-map_below, length-map_below}
 
 -- two functions that agree below n
 pub map-below_same : {X : Type 0} (f g : ℕ → X) (n : ℕ) → ((i : ℕ) → i < n → f i ≡ g i) → map f (below n) ≡ map g (below n)

@@ -3,10 +3,10 @@
 use Rattle.std.proofs.Common.{◌≡◌, ℕ, ◌+◌, ◌*◌, cond, if◌then◌else◌, List, map, drop, ℤ, pos, sym, ◌∙◌, ap, arith}
 use Rattle.std.proofs.Math.Nat.{add-mul}
 use Rattle.std.proofs.lemmas.List.{get_or-drop}
-use Rattle.session_model.specs.Courses.{Course, turn, period, captured, frames_before}
-use Rattle.session_model.specs.Samples.{below, sample, silence}
-use Rattle.session_model.specs.Scripts.{ScriptCycle}
-use Rattle.session_laws.proofs.PlaceLemmas.{map-same}
+use Rattle.record_ring.specs.session_model.specs.Courses.{Course, turn, period, captured, frames_before}
+use Rattle.record_ring.specs.session_model.specs.Samples.{below, sample, silence}
+use Rattle.record_ring.specs.session_model.specs.Scripts.{ScriptCycle}
+use Rattle.cycle_plan.specs.session_laws.proofs.PlaceLemmas.{map-same}
 
 -- a channel of the next frames; silence in a freewheel cycle
 abbrev pub channel_of : ScriptCycle → ℕ → ℕ → List ℤ → ℕ → List ℤ

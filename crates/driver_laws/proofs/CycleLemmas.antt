@@ -2,7 +2,7 @@
 --     CyclesOnce-own      a whole cycle
 --     FailsAtWrite-own      one that failed at the playback
 use Rattle.std.proofs.Common.{◌≡◌, ◌+◌, ◌*◌, true, List, drop, ℤ, Some, subst}
-use Rattle.session_model.specs.Courses.{Course, frames_before}
+use Rattle.record_ring.specs.session_model.specs.Courses.{Course, frames_before}
 use Rattle.driver_laws.specs.Drivers.{Driver, run, graph_now}
 use Rattle.driver_laws.specs.Keeping.{Fits, Keeps}
 use Rattle.driver_laws.specs.Cycling.{CyclesOnce, FailsAtWrite, StepsOnce, WritesOnce, Written, WrittenFront}

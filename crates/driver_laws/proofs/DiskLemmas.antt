@@ -10,13 +10,13 @@ use Rattle.std.proofs.lemmas.List.{map-append, length_push}
 use Rattle.std.proofs.lemmas.List.Elements.{All-push, All-map}
 use Rattle.std.proofs.lemmas.List.Folds.{list_any_none}
 use Rattle.std.proofs.lemmas.List.Sums.{sum_by_push}
-use Rattle.jack_types.specs.declared.replies.Underrun.{Underrun}
-use Rattle.session_model.specs.Courses.{Course, is_underrun, is_disk_active, played_before}
-use Rattle.session_model.specs.Disks.{file_blocks}
-use Rattle.session_model.specs.Rings.{RingBlock}
-use Rattle.session_model.specs.Samples.{below}
+use Rattle.record_ring.specs.jack_types.specs.declared.replies.Underrun.{Underrun}
+use Rattle.record_ring.specs.session_model.specs.Courses.{Course, is_underrun, is_disk_active, played_before}
+use Rattle.record_ring.specs.session_model.specs.Disks.{file_blocks}
+use Rattle.record_ring.specs.session_model.specs.Rings.{RingBlock}
+use Rattle.record_ring.specs.session_model.specs.Samples.{below}
 use Rattle.record_ring.specs.Rings.{Gets}
-use Rattle.driver_words.specs.Rings.{Getting}
+use Rattle.record_ring.specs.driver_words.specs.Rings.{Getting}
 use Rattle.record_ring.specs.declared.consumer.Got.TheVariants.{Block, Empty, Ended}
 use Rattle.driver_laws.specs.Keeping.{FitsDisk, IsMiss, KeepsDisk}
 use Rattle.driver_laws.specs.Cycling.{GetsOne, Silent, Heard, Over, Missed}

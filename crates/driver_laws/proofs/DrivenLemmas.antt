@@ -2,18 +2,18 @@
 --     IsDriven-played      where each node's bench is what the machine's recursion makes of it
 use Rattle.std.proofs.Common.{◌≡◌, ℕ, suc, ◌<◌, ◌==◌, List, length, Contains, Option, Some, None, refl, sym, ◌∙◌, ap, subst, eqb-true}
 use Rattle.std.proofs.lemmas.List.{get_or_default}
-use Rattle.jack_types.specs.declared.ports.Link.{Link}
-use Rattle.session_model.specs.Activation.{sequential}
-use Rattle.session_model.specs.Benches.{Bench, bench_after, bench_gives, node_at, IsPlan, IsReady, HaveCycle}
-use Rattle.session_model.specs.Courses.{Course, graph, players}
-use Rattle.session_model.specs.Cycles.{cycle, settled_after, player_born}
-use Rattle.session_model.specs.Driving.{settled_from, IsDriven}
-use Rattle.session_model.specs.Kinds.{Memory}
-use Rattle.session_model.specs.State.{OpenClient, system_client}
-use Rattle.session_laws.proofs.BenchLemmas.{HaveCycle-of_sequential}
-use Rattle.session_laws.proofs.CycleLemmas.{find-passes, find-contains}
-use Rattle.session_laws.proofs.DrivingLemmas.{settled_from-is_settled}
-use Rattle.session_laws.proofs.PlayedLemmas.{memory-kept}
+use Rattle.record_ring.specs.jack_types.specs.declared.ports.Link.{Link}
+use Rattle.record_ring.specs.session_model.specs.Activation.{sequential}
+use Rattle.record_ring.specs.session_model.specs.Benches.{Bench, bench_after, bench_gives, node_at, IsPlan, IsReady, HaveCycle}
+use Rattle.record_ring.specs.session_model.specs.Courses.{Course, graph, players}
+use Rattle.record_ring.specs.session_model.specs.Cycles.{cycle, settled_after, player_born}
+use Rattle.record_ring.specs.session_model.specs.Driving.{settled_from, IsDriven}
+use Rattle.record_ring.specs.session_model.specs.Kinds.{Memory}
+use Rattle.record_ring.specs.session_model.specs.State.{OpenClient, system_client}
+use Rattle.cycle_plan.specs.session_laws.proofs.BenchLemmas.{HaveCycle-of_sequential}
+use Rattle.cycle_plan.specs.session_laws.proofs.CycleLemmas.{find-passes, find-contains}
+use Rattle.cycle_plan.specs.session_laws.proofs.DrivingLemmas.{settled_from-is_settled}
+use Rattle.cycle_plan.specs.session_laws.proofs.PlayedLemmas.{memory-kept}
 
 module _ (course : Course) (k : ℕ) (old_nodes : List OpenClient) (old_benches : ℕ → Bench) (held : ℕ → Option Memory) (driven : IsDriven course k old_nodes old_benches held) where
   pub IsDriven-played : (nodes : List OpenClient) (links : List Link) (before benches : ℕ → Bench) (now_held : ℕ → Option Memory)

@@ -8,13 +8,13 @@ use Rattle.std.proofs.Math.ListN.{get_or-map}
 use Rattle.std.proofs.lemmas.Bool.{cases_lt}
 use Rattle.std.proofs.lemmas.List.{get_or_past}
 use Rattle.std.proofs.lemmas.Option.{slice_get_past, slice_get_within}
-use Rattle.jack_types.specs.declared.replies.Underrun.{Underrun}
-use Rattle.session_model.specs.Courses.{Course, DiskFile, no_disk, disk_file, block_channel, period, fed, is_underrun, played_before}
-use Rattle.session_model.specs.Disks.{file_blocks}
-use Rattle.session_model.specs.Rings.{RingBlock}
-use Rattle.session_model.specs.Samples.{below, sample, channels_of}
-use Rattle.session_model.specs.Scripts.{Script}
-use Rattle.driver_words.specs.Rings.{Getting}
+use Rattle.record_ring.specs.jack_types.specs.declared.replies.Underrun.{Underrun}
+use Rattle.record_ring.specs.session_model.specs.Courses.{Course, DiskFile, no_disk, disk_file, block_channel, period, fed, is_underrun, played_before}
+use Rattle.record_ring.specs.session_model.specs.Disks.{file_blocks}
+use Rattle.record_ring.specs.session_model.specs.Rings.{RingBlock}
+use Rattle.record_ring.specs.session_model.specs.Samples.{below, sample, channels_of}
+use Rattle.record_ring.specs.session_model.specs.Scripts.{Script}
+use Rattle.record_ring.specs.driver_words.specs.Rings.{Getting}
 use Rattle.driver_laws.specs.Drivers.{Driver, run, turn_of, graph_now, has_disk, underruns_on}
 use Rattle.driver_laws.specs.Keeping.{Fits, FitsDisk, Keeps, KeepsDisk, file_block}
 use Rattle.driver_laws.specs.Cycling.{StepsOnce, GetsOne, Silent, Heard, Over, Missed}

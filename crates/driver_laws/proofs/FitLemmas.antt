@@ -8,16 +8,16 @@ use Rattle.std.specs.List.{list_any}
 use Rattle.std.proofs.lemmas.List.{length_push}
 use Rattle.std.proofs.lemmas.List.Elements.{All-take, All-head, All-tail, filter-append}
 use Rattle.std.proofs.lemmas.List.Folds.{list_any-append}
-use Rattle.jack_types.specs.declared.commands.Call.{Call}
-use Rattle.jack_types.specs.declared.commands.Change.{Change}
-use Rattle.jack_types.specs.declared.replies.Underrun.{Underrun}
-use Rattle.session_model.specs.Courses.{Course}
-use Rattle.session_model.specs.Scripts.{Script, Planned, planned}
-use Rattle.session_model.specs.Soundness.{Apart}
-use Rattle.session_laws.proofs.ListLemmas.{map-take}
-use Rattle.session_laws.proofs.LoopLemmas.{Contains-cases, Contains-first, Contains-later}
-use Rattle.graph_word.specs.Publications.{Reading}
-use Rattle.driver_words.specs.Rings.{Getting}
+use Rattle.record_ring.specs.jack_types.specs.declared.commands.Call.{Call}
+use Rattle.record_ring.specs.jack_types.specs.declared.commands.Change.{Change}
+use Rattle.record_ring.specs.jack_types.specs.declared.replies.Underrun.{Underrun}
+use Rattle.record_ring.specs.session_model.specs.Courses.{Course}
+use Rattle.record_ring.specs.session_model.specs.Scripts.{Script, Planned, planned}
+use Rattle.record_ring.specs.session_model.specs.Soundness.{Apart}
+use Rattle.cycle_plan.specs.session_laws.proofs.ListLemmas.{map-take}
+use Rattle.cycle_plan.specs.session_laws.proofs.LoopLemmas.{Contains-cases, Contains-first, Contains-later}
+use Rattle.cycle_plan.specs.graph_word.specs.Publications.{Reading}
+use Rattle.record_ring.specs.driver_words.specs.Rings.{Getting}
 use Rattle.driver_laws.specs.Drivers.{Driver, run, content_now, graph_now, has_disk, underruns_on}
 use Rattle.driver_laws.specs.Keeping.{AreOfCalls, Fits, FitsDisk, Keeps}
 use Rattle.driver_laws.specs.Cycling.{GetsOne, Silent, Heard, Over, Missed, StepsOnce, FailsAtRead, CyclesMany}

@@ -8,11 +8,11 @@ use Rattle.std.proofs.Math.Nat.{add-mul}
 use Rattle.std.proofs.lemmas.Grind.{flat_map-append}
 use Rattle.std.proofs.lemmas.List.{map-append, append-nil, drop-drop}
 use Rattle.std.proofs.lemmas.List.Sums.{sum_by-cons}
-use Rattle.session_model.specs.Courses.{Course, turn, no_turn, frames_before}
-use Rattle.session_model.specs.Playback.{played_in}
-use Rattle.session_model.specs.Samples.{below}
-use Rattle.session_model.specs.Scripts.{turns}
-use Rattle.session_model.specs.Transport.{moment}
+use Rattle.record_ring.specs.session_model.specs.Courses.{Course, turn, no_turn, frames_before}
+use Rattle.record_ring.specs.session_model.specs.Playback.{played_in}
+use Rattle.record_ring.specs.session_model.specs.Samples.{below}
+use Rattle.record_ring.specs.session_model.specs.Scripts.{turns}
+use Rattle.record_ring.specs.session_model.specs.Transport.{moment}
 use Rattle.driver_laws.specs.Drivers.{frames_read}
 use Rattle.driver_laws.specs.Keeping.{run_cycles, played_so_far}
 use Rattle.driver_laws.proofs.NumberLemmas.{filter-below_next}

@@ -9,22 +9,22 @@ use Rattle.std.proofs.lemmas.List.{get_or_past}
 use Rattle.std.proofs.lemmas.List.Elements.{All-cons, All-nil}
 use Rattle.std.proofs.lemmas.Option.{none-some}
 use Rattle.atomic_table.specs.Seated.{TableId}
-use Rattle.jack_types.specs.declared.commands.Call.{Call}
-use Rattle.jack_types.specs.declared.commands.Change.{Change}
-use Rattle.jack_types.specs.declared.commands.Command.{Command}
-use Rattle.jack_types.specs.declared.commands.Command.TheVariants.{Connect}
-use Rattle.jack_types.specs.declared.moments.TransportState.TheVariants.{Stopped}
-use Rattle.jack_types.specs.declared.replies.Underrun.{Underrun}
-use Rattle.jack_types.specs.declared.scripts.Body.TheVariants.{Do, Run}
-use Rattle.session_model.specs.Benches.{no_bench, IsPlan}
-use Rattle.session_model.specs.Courses.{Course}
-use Rattle.session_model.specs.Scripts.{Script}
-use Rattle.session_model.specs.State.{OpenClient, system_client}
-use Rattle.session_model.specs.Transport.{first_row}
-use Rattle.session_laws.proofs.LoopLemmas.{Contains-cases}
-use Rattle.graph_word.specs.declared.view.TakenRow.{TakenRow}
-use Rattle.graph_word.specs.Publications.{Reading}
-use Rattle.driver_words.specs.Tapes.{Tape, SameFile}
+use Rattle.record_ring.specs.jack_types.specs.declared.commands.Call.{Call}
+use Rattle.record_ring.specs.jack_types.specs.declared.commands.Change.{Change}
+use Rattle.record_ring.specs.jack_types.specs.declared.commands.Command.{Command}
+use Rattle.record_ring.specs.jack_types.specs.declared.commands.Command.TheVariants.{Connect}
+use Rattle.record_ring.specs.jack_types.specs.declared.moments.TransportState.TheVariants.{Stopped}
+use Rattle.record_ring.specs.jack_types.specs.declared.replies.Underrun.{Underrun}
+use Rattle.record_ring.specs.jack_types.specs.declared.scripts.Body.TheVariants.{Do, Run}
+use Rattle.record_ring.specs.session_model.specs.Benches.{no_bench, IsPlan}
+use Rattle.record_ring.specs.session_model.specs.Courses.{Course}
+use Rattle.record_ring.specs.session_model.specs.Scripts.{Script}
+use Rattle.record_ring.specs.session_model.specs.State.{OpenClient, system_client}
+use Rattle.record_ring.specs.session_model.specs.Transport.{first_row}
+use Rattle.cycle_plan.specs.session_laws.proofs.LoopLemmas.{Contains-cases}
+use Rattle.cycle_plan.specs.graph_word.specs.declared.view.TakenRow.{TakenRow}
+use Rattle.cycle_plan.specs.graph_word.specs.Publications.{Reading}
+use Rattle.record_ring.specs.driver_words.specs.Tapes.{Tape, SameFile}
 use Rattle.driver_laws.specs.Drivers.{Driver, graph_now}
 use Rattle.driver_laws.specs.Keeping.{Fits, Keeps}
 use Rattle.driver_laws.specs.Cycling.{CyclesOnce, StepsOnce, WritesOnce, Written}

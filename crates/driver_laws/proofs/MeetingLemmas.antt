@@ -2,10 +2,10 @@
 --     Fits-met, Keeps-met
 use Rattle.std.proofs.Common.{◌≡◌, ℕ, ◌≤◌, ◌==◌, List, length, take, slice_get, get_or, All, sym, ◌∙◌, ap, subst, arith}
 use Rattle.std.specs.List.{list_any}
-use Rattle.jack_types.specs.declared.replies.Overrun.{Overrun}
-use Rattle.jack_types.specs.declared.replies.Underrun.{Underrun}
-use Rattle.session_model.specs.Courses.{Course}
-use Rattle.driver_words.specs.Rings.{Sending, Getting}
+use Rattle.record_ring.specs.jack_types.specs.declared.replies.Overrun.{Overrun}
+use Rattle.record_ring.specs.jack_types.specs.declared.replies.Underrun.{Underrun}
+use Rattle.record_ring.specs.session_model.specs.Courses.{Course}
+use Rattle.record_ring.specs.driver_words.specs.Rings.{Sending, Getting}
 use Rattle.driver_laws.specs.Drivers.{Driver, overruns_on, underruns_on, run}
 use Rattle.driver_laws.specs.Keeping.{Fits, FitsDisk, Keeps, KeepsRing, IsLoss}
 use Rattle.driver_laws.specs.Cycling.{HasMetOthers, RingStays, DiskStays}

@@ -9,8 +9,8 @@ use Rattle.std.proofs.lemmas.Bool.{cases_lt}
 use Rattle.std.proofs.lemmas.List.{get_or_append_left, length_push}
 use Rattle.std.proofs.lemmas.List.Elements.{filter-append}
 use Rattle.std.proofs.lemmas.List.Sorted.{IsNonDecreasingBy-push}
-use Rattle.session_model.specs.Samples.{below}
-use Rattle.session_laws.proofs.ListLemmas.{Each-below, filter-same}
+use Rattle.record_ring.specs.session_model.specs.Samples.{below}
+use Rattle.cycle_plan.specs.session_laws.proofs.ListLemmas.{Each-below, filter-same}
 
 pub IsStrictlyIncreasing-push : (xs : List ℕ) (y : ℕ) → IsStrictlyIncreasing xs → All (λ x. x < y) xs → IsStrictlyIncreasing (xs ++ y ∷ [])
 IsStrictlyIncreasing-push xs y rises low k h = go (cases_lt (k + 1) (length xs))

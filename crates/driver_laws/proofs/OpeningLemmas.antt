@@ -3,18 +3,18 @@
 use Rattle.std.proofs.Common.{◌≡◌, ℕ, ◌+◌, ◌*◌, List, [], length, map, drop, slice_get, get_or, Option, Some, None, sym, ◌∙◌, ap, subst, arith}
 use Rattle.std.proofs.Math.Nat.{min-zero}
 use Rattle.std.proofs.lemmas.Option.{slice_get_within, get_or_from_slice_get}
-use Rattle.jack_types.specs.declared.replies.Overrun.{Overrun}
-use Rattle.jack_types.specs.declared.replies.Underrun.{Underrun}
-use Rattle.session_model.specs.Courses.{Course, frames_before}
-use Rattle.session_model.specs.Disks.{file_blocks}
-use Rattle.session_model.specs.Driving.{IsDriven}
-use Rattle.session_model.specs.Kinds.{Memory, Sound}
-use Rattle.session_model.specs.Samples.{below}
-use Rattle.session_model.specs.Scripts.{Script}
-use Rattle.session_model.specs.State.{OpenClient}
-use Rattle.session_model.specs.Transport.{moment, row}
-use Rattle.session_laws.proofs.DrivingLemmas.{IsDriven-none}
-use Rattle.driver_words.specs.Rings.{Sending, Getting}
+use Rattle.record_ring.specs.jack_types.specs.declared.replies.Overrun.{Overrun}
+use Rattle.record_ring.specs.jack_types.specs.declared.replies.Underrun.{Underrun}
+use Rattle.record_ring.specs.session_model.specs.Courses.{Course, frames_before}
+use Rattle.record_ring.specs.session_model.specs.Disks.{file_blocks}
+use Rattle.record_ring.specs.session_model.specs.Driving.{IsDriven}
+use Rattle.record_ring.specs.session_model.specs.Kinds.{Memory, Sound}
+use Rattle.record_ring.specs.session_model.specs.Samples.{below}
+use Rattle.record_ring.specs.session_model.specs.Scripts.{Script}
+use Rattle.record_ring.specs.session_model.specs.State.{OpenClient}
+use Rattle.record_ring.specs.session_model.specs.Transport.{moment, row}
+use Rattle.cycle_plan.specs.session_laws.proofs.DrivingLemmas.{IsDriven-none}
+use Rattle.record_ring.specs.driver_words.specs.Rings.{Sending, Getting}
 use Rattle.driver_laws.specs.Drivers.{Driver, Remembered, run, overruns_on, underruns_on, bench_at, memory_in}
 use Rattle.driver_laws.specs.Keeping.{KeepsRing, KeepsDisk, HasTape, played_so_far, Keeps}
 use Rattle.driver_laws.specs.Openings.{IsEmptyRing, IsEmptyDisk, IsNew}

@@ -5,25 +5,25 @@ use Rattle.std.proofs.Common.{◌≡◌, ℕ, suc, ◌+◌, ◌*◌, ◌<◌, �
 use Rattle.std.specs.List.{list_any}
 use Rattle.std.specs.Str.{bytes_eq}
 use Rattle.std.proofs.lemmas.List.Folds.{list_any-from_Any}
-use Rattle.jack_types.specs.declared.kinds.Kind.{Kind}
-use Rattle.jack_types.specs.declared.kinds.Kind.TheVariants.{Disk}
-use Rattle.jack_types.specs.declared.moments.Moment.{Moment}
-use Rattle.session_model.specs.Benches.{Bench, Task, node_at, outputs_of, task_of, IsPlan, IsReady}
-use Rattle.session_model.specs.Courses.{Course, turn, graph, period, captured, frames_before, players, is_disk}
-use Rattle.session_model.specs.Cycles.{Signals, Settled, cycle, edges_into, input_of, no_signals, was_there, with_block, player_born}
-use Rattle.session_model.specs.Driving.{kept_from, settled_from, IsDriven}
-use Rattle.session_model.specs.Kinds.{Memory, Sound, first}
-use Rattle.session_model.specs.Playback.{played_in}
-use Rattle.session_model.specs.Recorders.{block}
-use Rattle.session_model.specs.Samples.{below, interleaved, mix, silence}
-use Rattle.session_model.specs.Scripts.{Script}
-use Rattle.session_model.specs.State.{State, OpenClient, Connection, playback_port}
-use Rattle.session_model.specs.Transport.{moment, row}
-use Rattle.session_laws.proofs.CycleLemmas.{find-contains}
-use Rattle.session_laws.proofs.DrivingLemmas.{cycle-graph, cycle-frames, input_of-is_mixed}
-use Rattle.session_laws.proofs.FeedbackLemmas.{FeedbackInside}
-use Rattle.session_laws.proofs.PlaceLemmas.{map-after, map-same}
-use Rattle.session_laws.proofs.PlanLemmas.{FeedbackInside-graph}
+use Rattle.record_ring.specs.jack_types.specs.declared.kinds.Kind.{Kind}
+use Rattle.record_ring.specs.jack_types.specs.declared.kinds.Kind.TheVariants.{Disk}
+use Rattle.record_ring.specs.jack_types.specs.declared.moments.Moment.{Moment}
+use Rattle.record_ring.specs.session_model.specs.Benches.{Bench, Task, node_at, outputs_of, task_of, IsPlan, IsReady}
+use Rattle.record_ring.specs.session_model.specs.Courses.{Course, turn, graph, period, captured, frames_before, players, is_disk}
+use Rattle.record_ring.specs.session_model.specs.Cycles.{Signals, Settled, cycle, edges_into, input_of, no_signals, was_there, with_block, player_born}
+use Rattle.record_ring.specs.session_model.specs.Driving.{kept_from, settled_from, IsDriven}
+use Rattle.record_ring.specs.session_model.specs.Kinds.{Memory, Sound, first}
+use Rattle.record_ring.specs.session_model.specs.Playback.{played_in}
+use Rattle.record_ring.specs.session_model.specs.Recorders.{block}
+use Rattle.record_ring.specs.session_model.specs.Samples.{below, interleaved, mix, silence}
+use Rattle.record_ring.specs.session_model.specs.Scripts.{Script}
+use Rattle.record_ring.specs.session_model.specs.State.{State, OpenClient, Connection, playback_port}
+use Rattle.record_ring.specs.session_model.specs.Transport.{moment, row}
+use Rattle.cycle_plan.specs.session_laws.proofs.CycleLemmas.{find-contains}
+use Rattle.cycle_plan.specs.session_laws.proofs.DrivingLemmas.{cycle-graph, cycle-frames, input_of-is_mixed}
+use Rattle.cycle_plan.specs.session_laws.proofs.FeedbackLemmas.{FeedbackInside}
+use Rattle.cycle_plan.specs.session_laws.proofs.PlaceLemmas.{map-after, map-same}
+use Rattle.cycle_plan.specs.session_laws.proofs.PlanLemmas.{FeedbackInside-graph}
 use Rattle.driver_laws.specs.Drivers.{Driver, run, turn_of, graph_now, has_disk, bench_at, memory_in}
 use Rattle.driver_laws.specs.Keeping.{Fits, Keeps}
 use Rattle.driver_laws.specs.Cycling.{StepsOnce, PlaysOnce}

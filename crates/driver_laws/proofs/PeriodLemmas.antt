@@ -1,13 +1,13 @@
 -- A script with disks keeps its first period.
 --     period-first      in every cycle
 use Rattle.std.proofs.Common.{◌≡◌, ℕ, zero, suc, ◌+◌, ◌<◌, false, List, [], ◌∷◌, ◌++◌, length, take, replicate, get_or, slice_get, Some, refl, sym, ◌∙◌, ap, subst, arith, append_assoc, true≢false}
-use Rattle.jack_types.specs.declared.scripts.Body.{Body}
-use Rattle.jack_types.specs.declared.scripts.Body.TheVariants.{Do, Run, Freewheel, Lane, Period}
-use Rattle.jack_types.specs.declared.commands.Command.{Command}
-use Rattle.session_model.specs.Courses.{no_turn}
-use Rattle.session_model.specs.Grammar.{IsBody, IsScript, is_period_line}
-use Rattle.session_model.specs.Scripts.{Script, Phase, ScriptCycle, with_do, phases, phases_of, turns, turns_from}
-use Rattle.session_laws.proofs.ListLemmas.{Each, Each-append}
+use Rattle.record_ring.specs.jack_types.specs.declared.scripts.Body.{Body}
+use Rattle.record_ring.specs.jack_types.specs.declared.scripts.Body.TheVariants.{Do, Run, Freewheel, Lane, Period}
+use Rattle.record_ring.specs.jack_types.specs.declared.commands.Command.{Command}
+use Rattle.record_ring.specs.session_model.specs.Courses.{no_turn}
+use Rattle.record_ring.specs.session_model.specs.Grammar.{IsBody, IsScript, is_period_line}
+use Rattle.record_ring.specs.session_model.specs.Scripts.{Script, Phase, ScriptCycle, with_do, phases, phases_of, turns, turns_from}
+use Rattle.cycle_plan.specs.session_laws.proofs.ListLemmas.{Each, Each-append}
 use Rattle.driver_laws.specs.Drivers.{turn_of}
 
 -- phases and turns of one period

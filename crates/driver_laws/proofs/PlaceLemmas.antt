@@ -7,7 +7,7 @@ use Rattle.std.proofs.Common.{◌≡◌, ℕ, zero, suc, ◌<◌, Bool, true, fa
 use Rattle.std.specs.List.{list_any}
 use Rattle.std.proofs.lemmas.List.Folds.{list_any-append}
 use Rattle.std.proofs.lemmas.Option.{none-some}
-use Rattle.jack_types.specs.declared.replies.Underrun.{Underrun}
+use Rattle.record_ring.specs.jack_types.specs.declared.replies.Underrun.{Underrun}
 
 pub none_below : {n : ℕ} → n < 0 → ⊥
 none_below h = omega (arith, h)

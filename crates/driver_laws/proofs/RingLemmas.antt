@@ -8,12 +8,12 @@ use Rattle.std.proofs.lemmas.List.{map-append, append-nil, length-map}
 use Rattle.std.proofs.lemmas.List.Elements.{All-push, All-map}
 use Rattle.std.proofs.lemmas.List.Folds.{list_any-append, list_any_none}
 use Rattle.std.proofs.lemmas.List.Sums.{length-filter}
-use Rattle.jack_types.specs.declared.replies.Overrun.{Overrun}
-use Rattle.session_model.specs.Courses.{Course}
-use Rattle.session_model.specs.Recorders.{block, is_taping, is_lost, kept_before}
-use Rattle.session_model.specs.Rings.{RingBlock}
-use Rattle.session_model.specs.Samples.{below}
-use Rattle.driver_words.specs.Rings.{Sending, Puts, IsFull}
+use Rattle.record_ring.specs.jack_types.specs.declared.replies.Overrun.{Overrun}
+use Rattle.record_ring.specs.session_model.specs.Courses.{Course}
+use Rattle.record_ring.specs.session_model.specs.Recorders.{block, is_taping, is_lost, kept_before}
+use Rattle.record_ring.specs.session_model.specs.Rings.{RingBlock}
+use Rattle.record_ring.specs.session_model.specs.Samples.{below}
+use Rattle.record_ring.specs.driver_words.specs.Rings.{Sending, Puts, IsFull}
 use Rattle.driver_laws.specs.Keeping.{is_kept, kept_blocks, IsLoss, KeepsRing}
 use Rattle.driver_laws.specs.Cycling.{PutsOne, Idle, Went, Lacked}
 use Rattle.driver_laws.proofs.PlaceLemmas.{or_false, or_true}

@@ -4,11 +4,11 @@
 use Rattle.std.proofs.Common.{◌≡◌, ◌≢◌, ℕ, zero, suc, ◌+◌, ◌-◌, ◌<◌, ◌≤◌, ◌==◌, List, [], ◌∷◌, ◌++◌, length, take, slice_index_or, replicate, sum_by, refl, sym, ◌∙◌, ap, subst, arith, eq-eqb, ne_eqb}
 use Rattle.std.specs.List.{position_or_len}
 use Rattle.std.proofs.lemmas.List.Sums.{sum_by_from}
-use Rattle.session_model.specs.Courses.{Course, turn, no_turn}
-use Rattle.session_model.specs.Disks.{segment_start}
-use Rattle.session_model.specs.Scripts.{Phase, ScriptCycle, phases, turns, turns_from}
-use Rattle.jack_types.specs.declared.replies.Overrun.{Overrun}
-use Rattle.session_model.specs.Recorders.{IsAfterSegment, kept_before}
+use Rattle.record_ring.specs.session_model.specs.Courses.{Course, turn, no_turn}
+use Rattle.record_ring.specs.session_model.specs.Disks.{segment_start}
+use Rattle.record_ring.specs.session_model.specs.Scripts.{Phase, ScriptCycle, phases, turns, turns_from}
+use Rattle.record_ring.specs.jack_types.specs.declared.replies.Overrun.{Overrun}
+use Rattle.record_ring.specs.session_model.specs.Recorders.{IsAfterSegment, kept_before}
 use Rattle.driver_laws.specs.Keeping.{kept_blocks}
 use Rattle.driver_laws.specs.Segments.{cycles_before}
 use Rattle.driver_laws.proofs.RingLemmas.{kept_blocks-counted}

@@ -6,18 +6,18 @@
 use Rattle.std.proofs.Common.{◌≡◌, ℕ, suc, ◌+◌, ◌*◌, Bool, true, false, List, [], ◌∷◌, ◌++◌, length, map, take, drop, slice_get, Some, None, Option, refl, sym, ◌∙◌, ap, subst, arith}
 use Rattle.std.proofs.lemmas.List.{length_push, length-map}
 use Rattle.std.proofs.lemmas.Option.{slice_get_within}
-use Rattle.session_model.specs.Benches.{IsPlan}
-use Rattle.session_model.specs.Courses.{Course, turn, graph, number, frames_before}
-use Rattle.session_model.specs.Cycles.{player_born}
-use Rattle.session_model.specs.Driving.{IsDriven}
-use Rattle.session_model.specs.Playback.{played_in}
-use Rattle.session_model.specs.Samples.{below}
-use Rattle.session_model.specs.Scripts.{Script}
-use Rattle.session_model.specs.Transport.{moment, row}
-use Rattle.graph_word.specs.declared.view.TakenRow.{TakenRow}
-use Rattle.graph_word.specs.Publications.{Reading}
-use Rattle.driver_words.specs.Rings.{Sending, Getting}
-use Rattle.driver_words.specs.Tapes.{Tape}
+use Rattle.record_ring.specs.session_model.specs.Benches.{IsPlan}
+use Rattle.record_ring.specs.session_model.specs.Courses.{Course, turn, graph, number, frames_before}
+use Rattle.record_ring.specs.session_model.specs.Cycles.{player_born}
+use Rattle.record_ring.specs.session_model.specs.Driving.{IsDriven}
+use Rattle.record_ring.specs.session_model.specs.Playback.{played_in}
+use Rattle.record_ring.specs.session_model.specs.Samples.{below}
+use Rattle.record_ring.specs.session_model.specs.Scripts.{Script}
+use Rattle.record_ring.specs.session_model.specs.Transport.{moment, row}
+use Rattle.cycle_plan.specs.graph_word.specs.declared.view.TakenRow.{TakenRow}
+use Rattle.cycle_plan.specs.graph_word.specs.Publications.{Reading}
+use Rattle.record_ring.specs.driver_words.specs.Rings.{Sending, Getting}
+use Rattle.record_ring.specs.driver_words.specs.Tapes.{Tape}
 use Rattle.driver_laws.specs.Drivers.{Driver, run, turn_of, frames_read, graph_of, last_content, content_now, graph_now, has_tape, has_disk, overruns_on, underruns_on, bench_at, memory_in, block_in}
 use Rattle.driver_laws.specs.Keeping.{Fits, Keeps, KeepsRing, KeepsDisk, HasTape, HasTapeFront, played_so_far}
 use Rattle.driver_laws.specs.Cycling.{StepsOnce, PlaysOnce, WritesOnce, Written, WrittenFront, KeepsBut}

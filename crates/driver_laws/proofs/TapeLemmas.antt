@@ -4,22 +4,22 @@ use Rattle.std.proofs.Common.{◌≡◌, ℕ, suc, ◌<◌, Bool, true, List, []
 use Rattle.std.specs.List.{position_or_len}
 use Rattle.std.specs.Option.{option_map_or}
 use Rattle.std.specs.Str.{bytes_eq}
-use Rattle.jack_types.specs.Recorders.{no_format}
-use Rattle.jack_types.specs.declared.kinds.Kind.{Kind}
-use Rattle.jack_types.specs.declared.kinds.Kind.TheVariants.{Tape}
-use Rattle.jack_types.specs.declared.ports.Link.{Link}
-use Rattle.session_model.specs.Benches.{node_at, IsPlan}
-use Rattle.session_model.specs.Commands.{shares}
-use Rattle.session_model.specs.Courses.{Course, graph, period, players}
-use Rattle.session_model.specs.Driving.{IsDriven}
-use Rattle.session_model.specs.Kinds.{input_at}
-use Rattle.session_model.specs.Recorders.{block, is_tape, taping}
-use Rattle.session_model.specs.Samples.{below, interleaved}
-use Rattle.session_model.specs.Scripts.{Script}
-use Rattle.session_model.specs.State.{State, OpenClient, system_client}
-use Rattle.session_laws.proofs.CycleLemmas.{find-passes, find-contains}
-use Rattle.session_laws.proofs.DrivingLemmas.{block-is_got}
-use Rattle.session_laws.proofs.PlaceLemmas.{position-passes, position-found, filter-contains}
+use Rattle.record_ring.specs.jack_types.specs.Recorders.{no_format}
+use Rattle.record_ring.specs.jack_types.specs.declared.kinds.Kind.{Kind}
+use Rattle.record_ring.specs.jack_types.specs.declared.kinds.Kind.TheVariants.{Tape}
+use Rattle.record_ring.specs.jack_types.specs.declared.ports.Link.{Link}
+use Rattle.record_ring.specs.session_model.specs.Benches.{node_at, IsPlan}
+use Rattle.record_ring.specs.session_model.specs.Commands.{shares}
+use Rattle.record_ring.specs.session_model.specs.Courses.{Course, graph, period, players}
+use Rattle.record_ring.specs.session_model.specs.Driving.{IsDriven}
+use Rattle.record_ring.specs.session_model.specs.Kinds.{input_at}
+use Rattle.record_ring.specs.session_model.specs.Recorders.{block, is_tape, taping}
+use Rattle.record_ring.specs.session_model.specs.Samples.{below, interleaved}
+use Rattle.record_ring.specs.session_model.specs.Scripts.{Script}
+use Rattle.record_ring.specs.session_model.specs.State.{State, OpenClient, system_client}
+use Rattle.cycle_plan.specs.session_laws.proofs.CycleLemmas.{find-passes, find-contains}
+use Rattle.cycle_plan.specs.session_laws.proofs.DrivingLemmas.{block-is_got}
+use Rattle.cycle_plan.specs.session_laws.proofs.PlaceLemmas.{position-passes, position-found, filter-contains}
 use Rattle.driver_laws.specs.Drivers.{Driver, graph_now, has_tape, bench_at, memory_in, block_at, block_in}
 
 -- two kinds that record on one recorder share it

@@ -4,19 +4,19 @@
 use Rattle.std.proofs.Common.{◌≡◌, ℕ, false, cond, List, [], map, ℤ, Contains, refl, sym, ◌∙◌, ap, ap₂}
 use Rattle.std.specs.Option.{option_map_or}
 use Rattle.std.specs.Str.{bytes_eq}
-use Rattle.jack_types.specs.Names.{client_part}
-use Rattle.jack_types.specs.declared.events.Event.{Event}
-use Rattle.jack_types.specs.declared.ports.Link.{Link}
-use Rattle.jack_types.specs.declared.ports.Mark.{Mark}
-use Rattle.jack_types.specs.declared.ports.Mark.TheVariants.{Direct, Feedback}
-use Rattle.session_model.specs.Benches.{Bench, Known, task_of, audio_part_of, midi_part_of, marked_part, fixed_audio, fixed_midi, node_at, place_in, outputs_of}
-use Rattle.session_model.specs.Courses.{Course}
-use Rattle.session_model.specs.Cycles.{Signals, Settled, edges_into, audio_inputs, midi_inputs, audio_outputs, midi_outputs, at_port, captured_at}
-use Rattle.session_model.specs.Kinds.{Memory}
-use Rattle.session_model.specs.Samples.{silence}
-use Rattle.session_model.specs.State.{State, OpenClient, OpenPort, Connection, is_system}
-use Rattle.session_laws.proofs.CycleLemmas.{map_filter-same}
-use Rattle.session_laws.proofs.PlaceLemmas.{map-same}
+use Rattle.record_ring.specs.jack_types.specs.Names.{client_part}
+use Rattle.record_ring.specs.jack_types.specs.declared.events.Event.{Event}
+use Rattle.record_ring.specs.jack_types.specs.declared.ports.Link.{Link}
+use Rattle.record_ring.specs.jack_types.specs.declared.ports.Mark.{Mark}
+use Rattle.record_ring.specs.jack_types.specs.declared.ports.Mark.TheVariants.{Direct, Feedback}
+use Rattle.record_ring.specs.session_model.specs.Benches.{Bench, Known, task_of, audio_part_of, midi_part_of, marked_part, fixed_audio, fixed_midi, node_at, place_in, outputs_of}
+use Rattle.record_ring.specs.session_model.specs.Courses.{Course}
+use Rattle.record_ring.specs.session_model.specs.Cycles.{Signals, Settled, edges_into, audio_inputs, midi_inputs, audio_outputs, midi_outputs, at_port, captured_at}
+use Rattle.record_ring.specs.session_model.specs.Kinds.{Memory}
+use Rattle.record_ring.specs.session_model.specs.Samples.{silence}
+use Rattle.record_ring.specs.session_model.specs.State.{State, OpenClient, OpenPort, Connection, is_system}
+use Rattle.cycle_plan.specs.session_laws.proofs.CycleLemmas.{map_filter-same}
+use Rattle.cycle_plan.specs.session_laws.proofs.PlaceLemmas.{map-same}
 
 -- what an output port gives where the capture's ports are silent
 abbrev plain_audio : State → ℕ → List OpenClient → (ℕ → Bench) → List ℕ → List ℤ

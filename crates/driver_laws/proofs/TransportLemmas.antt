@@ -5,12 +5,12 @@
 use Rattle.std.proofs.Common.{◌≡◌, ℕ, zero, suc, ◌+◌, ◌-◌, List, [], ◌∷◌, length, take, drop, slice_get, slice_index, slice_index_or, get_or, Some, refl, sym, ◌∙◌, ap, ap₂, arith}
 use Rattle.std.proofs.Math.Seq.{take-nil}
 use Rattle.std.proofs.lemmas.List.{get_or-take}
-use Rattle.jack_types.specs.declared.commands.Change.{Change}
-use Rattle.session_model.specs.Courses.{Course, period, graph, number, adopted}
-use Rattle.session_model.specs.Scripts.{Script}
-use Rattle.session_model.specs.State.{State}
-use Rattle.session_model.specs.Transport.{Row, row, moment, next_row, shown, slow_numbers, timeout_of, active_master}
-use Rattle.graph_word.specs.declared.view.TakenRow.{TakenRow}
+use Rattle.record_ring.specs.jack_types.specs.declared.commands.Change.{Change}
+use Rattle.record_ring.specs.session_model.specs.Courses.{Course, period, graph, number, adopted}
+use Rattle.record_ring.specs.session_model.specs.Scripts.{Script}
+use Rattle.record_ring.specs.session_model.specs.State.{State}
+use Rattle.record_ring.specs.session_model.specs.Transport.{Row, row, moment, next_row, shown, slow_numbers, timeout_of, active_master}
+use Rattle.cycle_plan.specs.graph_word.specs.declared.view.TakenRow.{TakenRow}
 use Rattle.driver_laws.specs.Drivers.{Driver, run, turn_of, graph_of, last_content, content_now, graph_now}
 use Rattle.driver_laws.specs.Keeping.{Fits}
 use Rattle.driver_laws.specs.Cycling.{StepsOnce}

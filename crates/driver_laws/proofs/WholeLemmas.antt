@@ -2,15 +2,15 @@
 --     samples-recorded      the blocks put are what the recorder's file has
 --     Lost-from_ring, Played-from_ring      a ring's overruns, and a disk's underruns, are ones that can be
 use Rattle.std.proofs.Common.{◌≡◌, ℕ, ◌+◌, Bool, false, not, List, [], ◌∷◌, ◌++◌, length, map, filter, flat_map, IsTrue, IsSome, IsNone, All, refl, sym, ◌∙◌, ap, subst, get_or, slice_index_or}
-use Rattle.jack_types.specs.declared.replies.Overrun.{Overrun}
-use Rattle.jack_types.specs.declared.replies.Underrun.{Underrun}
-use Rattle.session_model.specs.Courses.{Course, turn, underruns_of}
-use Rattle.session_model.specs.Disks.{Played, IsBehindRing, IsSerial}
-use Rattle.session_model.specs.Recorders.{Lost, IsAfterSegment, block, recorded}
-use Rattle.session_model.specs.Samples.{below}
-use Rattle.session_model.specs.Scripts.{turns}
-use Rattle.driver_words.specs.Rings.{Sending, Getting}
-use Rattle.session_model.specs.Rings.{samples_of_blocks}
+use Rattle.record_ring.specs.jack_types.specs.declared.replies.Overrun.{Overrun}
+use Rattle.record_ring.specs.jack_types.specs.declared.replies.Underrun.{Underrun}
+use Rattle.record_ring.specs.session_model.specs.Courses.{Course, turn, underruns_of}
+use Rattle.record_ring.specs.session_model.specs.Disks.{Played, IsBehindRing, IsSerial}
+use Rattle.record_ring.specs.session_model.specs.Recorders.{Lost, IsAfterSegment, block, recorded}
+use Rattle.record_ring.specs.session_model.specs.Samples.{below}
+use Rattle.record_ring.specs.session_model.specs.Scripts.{turns}
+use Rattle.record_ring.specs.driver_words.specs.Rings.{Sending, Getting}
+use Rattle.record_ring.specs.session_model.specs.Rings.{samples_of_blocks}
 use Rattle.driver_laws.specs.Keeping.{is_kept, kept_blocks, KeepsRing, KeepsDisk}
 
 samples-map : (course : Course) (recorder : ℕ) (is : List ℕ) → samples_of_blocks (map (λ i. record { cycle = i + 1; samples = block course recorder (i + 1) }) is) ≡ flat_map (λ i. block course recorder (i + 1)) is

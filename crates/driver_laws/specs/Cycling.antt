@@ -8,23 +8,23 @@
 --     FailsAtRead, FailsAtWrite      a cycle that failed
 --     HasMetOthers driver after      its lent ends met others
 use Rattle.std.specs.Prelude.{◌≡◌, ℕ, zero, suc, ◌+◌, ◌*◌, ◌≤◌, ◌<◌, Bool, true, false, List, [], ◌∷◌, ◌++◌, length, drop, slice_get, All, ℤ, Some, None}
-use Rattle.jack_types.specs.declared.ports.Link.{Link}
-use Rattle.jack_types.specs.declared.replies.Overrun.{Overrun}
-use Rattle.jack_types.specs.declared.replies.Underrun.{Underrun}
-use Rattle.session_model.specs.Activation.{sequential}
-use Rattle.session_model.specs.Benches.{Bench, bench_after, bench_gives, node_at, IsPlan, IsReady}
-use Rattle.session_model.specs.Courses.{Course}
-use Rattle.session_model.specs.Cycles.{player_born}
-use Rattle.session_model.specs.Driving.{settled_from}
-use Rattle.session_model.specs.Recorders.{block}
-use Rattle.session_model.specs.Rings.{RingBlock}
-use Rattle.session_model.specs.Scripts.{turns}
-use Rattle.session_model.specs.Transport.{moment, next_row, row, slow_numbers, timeout_of}
-use Rattle.graph_word.specs.Publications.{Reading, Takes, Begins}
+use Rattle.record_ring.specs.jack_types.specs.declared.ports.Link.{Link}
+use Rattle.record_ring.specs.jack_types.specs.declared.replies.Overrun.{Overrun}
+use Rattle.record_ring.specs.jack_types.specs.declared.replies.Underrun.{Underrun}
+use Rattle.record_ring.specs.session_model.specs.Activation.{sequential}
+use Rattle.record_ring.specs.session_model.specs.Benches.{Bench, bench_after, bench_gives, node_at, IsPlan, IsReady}
+use Rattle.record_ring.specs.session_model.specs.Courses.{Course}
+use Rattle.record_ring.specs.session_model.specs.Cycles.{player_born}
+use Rattle.record_ring.specs.session_model.specs.Driving.{settled_from}
+use Rattle.record_ring.specs.session_model.specs.Recorders.{block}
+use Rattle.record_ring.specs.session_model.specs.Rings.{RingBlock}
+use Rattle.record_ring.specs.session_model.specs.Scripts.{turns}
+use Rattle.record_ring.specs.session_model.specs.Transport.{moment, next_row, row, slow_numbers, timeout_of}
+use Rattle.cycle_plan.specs.graph_word.specs.Publications.{Reading, Takes, Begins}
 use Rattle.record_ring.specs.Rings.{Gets}
-use Rattle.driver_words.specs.Rings.{Sending, Getting, Puts, IsFull}
+use Rattle.record_ring.specs.driver_words.specs.Rings.{Sending, Getting, Puts, IsFull}
 use Rattle.record_ring.specs.declared.consumer.Got.TheVariants.{Block, Empty, Ended}
-use Rattle.driver_words.specs.Tapes.{Tape, SameFile}
+use Rattle.record_ring.specs.driver_words.specs.Tapes.{Tape, SameFile}
 use Rattle.driver_laws.specs.Drivers.{Driver, run, turn_of, frames_read, content_now, graph_now, has_tape, has_disk, overruns_on, underruns_on, bench_at, memory_in, block_in, HasOwnRows, HasOwnRings, HasPlayback}
 use Rattle.driver_laws.specs.Keeping.{AreOfCalls, Fits, Keeps, HasTape, HasTapeFront, played_so_far}
 use Rattle.driver_laws.specs.Playing.{adopted_now, moment_now}

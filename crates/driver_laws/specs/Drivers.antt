@@ -8,25 +8,25 @@
 use Rattle.std.specs.Prelude.{◌≡◌, ℕ, ◌+◌, ◌*◌, ◌≤◌, ◌==◌, Bool, false, List, [], ◌∷◌, fold, length, map, filter, find, position, slice_get, slice_index_or, sum_by, take, ℤ, Option, Some, is_some, max, option_map, if◌then◌else◌}
 use Rattle.std.specs.Option.{option_map_or}
 use Rattle.std.specs.List.{list_any}
-use Rattle.jack_types.specs.Recorders.{no_format}
-use Rattle.jack_types.specs.declared.commands.Change.{Change}
-use Rattle.jack_types.specs.declared.events.Logged.{Logged}
-use Rattle.jack_types.specs.declared.moments.Moment.{Moment}
-use Rattle.jack_types.specs.declared.replies.Overrun.{Overrun}
-use Rattle.jack_types.specs.declared.replies.Underrun.{Underrun}
-use Rattle.session_model.specs.Benches.{Bench, no_bench}
-use Rattle.session_model.specs.Commands.{replay}
-use Rattle.session_model.specs.Courses.{no_turn, players, is_disk}
-use Rattle.session_model.specs.Kinds.{Memory, Sound, input_at}
-use Rattle.session_model.specs.Recorders.{is_tape}
-use Rattle.session_model.specs.Samples.{below, interleaved}
-use Rattle.session_model.specs.Scripts.{Phase, Script, ScriptCycle, phases, turns}
-use Rattle.session_model.specs.State.{State, OpenClient, opening}
-use Rattle.session_model.specs.Transport.{Row}
-use Rattle.graph_word.specs.declared.view.TakenRow.{TakenRow}
-use Rattle.graph_word.specs.Publications.{IsFront, Reading}
-use Rattle.driver_words.specs.Rings.{Sending, Getting, items_of}
-use Rattle.driver_words.specs.Tapes.{Tape}
+use Rattle.record_ring.specs.jack_types.specs.Recorders.{no_format}
+use Rattle.record_ring.specs.jack_types.specs.declared.commands.Change.{Change}
+use Rattle.record_ring.specs.jack_types.specs.declared.events.Logged.{Logged}
+use Rattle.record_ring.specs.jack_types.specs.declared.moments.Moment.{Moment}
+use Rattle.record_ring.specs.jack_types.specs.declared.replies.Overrun.{Overrun}
+use Rattle.record_ring.specs.jack_types.specs.declared.replies.Underrun.{Underrun}
+use Rattle.record_ring.specs.session_model.specs.Benches.{Bench, no_bench}
+use Rattle.record_ring.specs.session_model.specs.Commands.{replay}
+use Rattle.record_ring.specs.session_model.specs.Courses.{no_turn, players, is_disk}
+use Rattle.record_ring.specs.session_model.specs.Kinds.{Memory, Sound, input_at}
+use Rattle.record_ring.specs.session_model.specs.Recorders.{is_tape}
+use Rattle.record_ring.specs.session_model.specs.Samples.{below, interleaved}
+use Rattle.record_ring.specs.session_model.specs.Scripts.{Phase, Script, ScriptCycle, phases, turns}
+use Rattle.record_ring.specs.session_model.specs.State.{State, OpenClient, opening}
+use Rattle.record_ring.specs.session_model.specs.Transport.{Row}
+use Rattle.cycle_plan.specs.graph_word.specs.declared.view.TakenRow.{TakenRow}
+use Rattle.cycle_plan.specs.graph_word.specs.Publications.{IsFront, Reading}
+use Rattle.record_ring.specs.driver_words.specs.Rings.{Sending, Getting, items_of}
+use Rattle.record_ring.specs.driver_words.specs.Tapes.{Tape}
 
 -- a client's memory, by its birth
 pub record Remembered : Type 0 where

@@ -4,23 +4,23 @@
 use Rattle.std.specs.Prelude.{◌≡◌, ℕ, ◌+◌, ◌*◌, ◌≤◌, ◌<◌, ◌&&◌, ◌==◌, Bool, true, not, List, length, map, take, drop, filter, flat_map, slice_get, slice_index_or, All, Contains, ℤ, IsTrue, IfSome, Option, Some, min}
 use Rattle.std.specs.List.{list_any}
 use Rattle.std.specs.List.Sorted.{IsStrictlyIncreasing, IsNonDecreasing}
-use Rattle.jack_types.specs.declared.commands.Call.{Call}
-use Rattle.jack_types.specs.declared.commands.Change.{Change}
-use Rattle.jack_types.specs.declared.replies.Overrun.{Overrun}
-use Rattle.jack_types.specs.declared.replies.Underrun.{Underrun}
-use Rattle.session_model.specs.Courses.{Course, DiskFile, turn, frames_before, disk_file, block_channel, is_underrun, is_disk_active, played_before}
-use Rattle.session_model.specs.Disks.{file_blocks}
-use Rattle.session_model.specs.Driving.{IsDriven}
-use Rattle.session_model.specs.Playback.{played_in}
-use Rattle.session_model.specs.Recorders.{block, is_taping, is_lost, kept_before}
-use Rattle.session_model.specs.Rings.{RingBlock}
-use Rattle.session_model.specs.Samples.{below, interleaved}
-use Rattle.session_model.specs.Scripts.{Script, Planned, planned}
-use Rattle.session_model.specs.Soundness.{Apart}
-use Rattle.session_model.specs.Transport.{moment, row}
-use Rattle.graph_word.specs.declared.view.TakenRow.{TakenRow}
-use Rattle.driver_words.specs.Rings.{Sending, Getting}
-use Rattle.driver_words.specs.Tapes.{Tape, HasSamples, HasUnfinished}
+use Rattle.record_ring.specs.jack_types.specs.declared.commands.Call.{Call}
+use Rattle.record_ring.specs.jack_types.specs.declared.commands.Change.{Change}
+use Rattle.record_ring.specs.jack_types.specs.declared.replies.Overrun.{Overrun}
+use Rattle.record_ring.specs.jack_types.specs.declared.replies.Underrun.{Underrun}
+use Rattle.record_ring.specs.session_model.specs.Courses.{Course, DiskFile, turn, frames_before, disk_file, block_channel, is_underrun, is_disk_active, played_before}
+use Rattle.record_ring.specs.session_model.specs.Disks.{file_blocks}
+use Rattle.record_ring.specs.session_model.specs.Driving.{IsDriven}
+use Rattle.record_ring.specs.session_model.specs.Playback.{played_in}
+use Rattle.record_ring.specs.session_model.specs.Recorders.{block, is_taping, is_lost, kept_before}
+use Rattle.record_ring.specs.session_model.specs.Rings.{RingBlock}
+use Rattle.record_ring.specs.session_model.specs.Samples.{below, interleaved}
+use Rattle.record_ring.specs.session_model.specs.Scripts.{Script, Planned, planned}
+use Rattle.record_ring.specs.session_model.specs.Soundness.{Apart}
+use Rattle.record_ring.specs.session_model.specs.Transport.{moment, row}
+use Rattle.cycle_plan.specs.graph_word.specs.declared.view.TakenRow.{TakenRow}
+use Rattle.record_ring.specs.driver_words.specs.Rings.{Sending, Getting}
+use Rattle.record_ring.specs.driver_words.specs.Tapes.{Tape, HasSamples, HasUnfinished}
 use Rattle.driver_laws.specs.Drivers.{Driver, run, overruns_on, underruns_on, bench_at, memory_in}
 
 -- the changes are commands of calls of the script, each call taken at most once

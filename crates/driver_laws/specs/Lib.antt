@@ -4,3 +4,8 @@ pub mod Cycling
 pub mod Playing
 pub mod Openings
 pub mod Segments
+pub use Rattle.cycle_plan
+pub use Rattle.cycle_plan.specs.graph_word
+pub use Rattle.cycle_plan.specs.port_registry
+pub use Rattle.cycle_plan.specs.session_laws
+pub use Rattle.record_ring.specs.session_model

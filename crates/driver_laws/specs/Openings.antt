@@ -1,10 +1,10 @@
 -- A driver before its first cycle.
 --     IsNew script scores driver      nothing was taken, put, got or played
 use Rattle.std.specs.Prelude.{◌≡◌, ℕ, false, List, [], length, map, slice_get, All, None, Some}
-use Rattle.session_model.specs.Kinds.{Sound}
-use Rattle.session_model.specs.Scripts.{Script}
-use Rattle.session_model.specs.Transport.{first_row}
-use Rattle.driver_words.specs.Rings.{Sending, Getting}
+use Rattle.record_ring.specs.session_model.specs.Kinds.{Sound}
+use Rattle.record_ring.specs.session_model.specs.Scripts.{Script}
+use Rattle.record_ring.specs.session_model.specs.Transport.{first_row}
+use Rattle.record_ring.specs.driver_words.specs.Rings.{Sending, Getting}
 use Rattle.driver_laws.specs.Drivers.{Driver, IsOwnDisk, IsOwnRing}
 
 -- a recorder's ring that nothing was put into, of the script's capacity

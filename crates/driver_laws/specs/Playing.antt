@@ -5,23 +5,23 @@
 use Rattle.std.specs.Prelude.{◌≡◌, ℕ, ◌+◌, ◌*◌, ◌<◌, ◌==◌, Bool, List, [], ◌∷◌, ◌++◌, length, map, drop, slice_get, slice_index, slice_index_or, ℤ, Option, Some, None, unwrap_or, if◌then◌else◌}
 use Rattle.std.specs.List.{list_any}
 use Rattle.std.specs.Option.{option_map_or}
-use Rattle.jack_types.specs.declared.commands.Change.{Change}
-use Rattle.jack_types.specs.declared.kinds.Kind.{Kind}
-use Rattle.jack_types.specs.declared.kinds.Kind.TheVariants.{Disk}
-use Rattle.jack_types.specs.declared.moments.Moment.{Moment}
-use Rattle.jack_types.specs.declared.ports.Link.{Link}
-use Rattle.jack_types.specs.declared.replies.Underrun.{Underrun}
-use Rattle.session_model.specs.Activation.{sequential}
-use Rattle.session_model.specs.Benches.{Bench, bench_after, bench_gives, node_at, outputs_of, IsPlan, IsReady}
-use Rattle.session_model.specs.Courses.{Course}
-use Rattle.session_model.specs.Cycles.{Signals, Settled, edges_into, no_signals, player_born}
-use Rattle.session_model.specs.Driving.{kept_from}
-use Rattle.session_model.specs.Kinds.{Memory, first}
-use Rattle.session_model.specs.Rings.{RingBlock}
-use Rattle.session_model.specs.Samples.{below, interleaved, mix, sample, silence, channels_of}
-use Rattle.session_model.specs.State.{Connection, playback_port}
-use Rattle.session_model.specs.Transport.{next_row, shown, slow_numbers, timeout_of, active_master}
-use Rattle.driver_words.specs.Rings.{Getting}
+use Rattle.record_ring.specs.jack_types.specs.declared.commands.Change.{Change}
+use Rattle.record_ring.specs.jack_types.specs.declared.kinds.Kind.{Kind}
+use Rattle.record_ring.specs.jack_types.specs.declared.kinds.Kind.TheVariants.{Disk}
+use Rattle.record_ring.specs.jack_types.specs.declared.moments.Moment.{Moment}
+use Rattle.record_ring.specs.jack_types.specs.declared.ports.Link.{Link}
+use Rattle.record_ring.specs.jack_types.specs.declared.replies.Underrun.{Underrun}
+use Rattle.record_ring.specs.session_model.specs.Activation.{sequential}
+use Rattle.record_ring.specs.session_model.specs.Benches.{Bench, bench_after, bench_gives, node_at, outputs_of, IsPlan, IsReady}
+use Rattle.record_ring.specs.session_model.specs.Courses.{Course}
+use Rattle.record_ring.specs.session_model.specs.Cycles.{Signals, Settled, edges_into, no_signals, player_born}
+use Rattle.record_ring.specs.session_model.specs.Driving.{kept_from}
+use Rattle.record_ring.specs.session_model.specs.Kinds.{Memory, first}
+use Rattle.record_ring.specs.session_model.specs.Rings.{RingBlock}
+use Rattle.record_ring.specs.session_model.specs.Samples.{below, interleaved, mix, sample, silence, channels_of}
+use Rattle.record_ring.specs.session_model.specs.State.{Connection, playback_port}
+use Rattle.record_ring.specs.session_model.specs.Transport.{next_row, shown, slow_numbers, timeout_of, active_master}
+use Rattle.record_ring.specs.driver_words.specs.Rings.{Getting}
 use Rattle.driver_laws.specs.Drivers.{Driver, run, turn_of, content_now, graph_now, underruns_on, bench_at, memory_in}
 
 -- a course of the driver's script and scores, for what reads nothing else of a course

@@ -1,7 +1,7 @@
 -- Where the segments of a script begin.
 --     cycles_before script phase      the cycles of the first phases
 use Rattle.std.specs.Prelude.{ℕ, take, sum_by}
-use Rattle.session_model.specs.Scripts.{Script, Phase, phases}
+use Rattle.record_ring.specs.session_model.specs.Scripts.{Script, Phase, phases}
 
 -- the cycles of the phases before this one
 abbrev pub cycles_before : Script → ℕ → ℕ

@@ -1,10 +1,10 @@
 //! Laws of the courses that a driver fits and keeps, from its opening on.
 
 ghost use Rattle.std.specs.Prelude.{◌≡◌, ◌+◌, ◌<◌, ℕ, List, Some, length};
-ghost use Rattle.session_model.specs.Courses.{Course};
-ghost use Rattle.session_model.specs.Grammar.{IsScript};
-ghost use Rattle.session_model.specs.Kinds.{Sound};
-ghost use Rattle.session_model.specs.Scripts.{Script, turns};
+ghost use Rattle.record_ring.specs.session_model.specs.Courses.{Course};
+ghost use Rattle.record_ring.specs.session_model.specs.Grammar.{IsScript};
+ghost use Rattle.record_ring.specs.session_model.specs.Kinds.{Sound};
+ghost use Rattle.record_ring.specs.session_model.specs.Scripts.{Script, turns};
 ghost use Rattle.driver_laws.specs.Cycling.{CyclesMany, FailsAtRead, HasMetOthers, StepsOnce};
 ghost use Rattle.driver_laws.specs.Drivers.{Driver, turn_of};
 ghost use Rattle.driver_laws.specs.Keeping.{Fits, Keeps};

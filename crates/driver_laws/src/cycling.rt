@@ -2,8 +2,8 @@
 
 ghost use Rattle.std.specs.Prelude.{◌≡◌, ◌+◌, ℤ, List, Some, true};
 ghost use Rattle.atomic_table.specs.Seated.{TableId};
-ghost use Rattle.session_model.specs.Courses.{Course, graph};
-ghost use Rattle.session_model.specs.Playback.{played_in};
+ghost use Rattle.record_ring.specs.session_model.specs.Courses.{Course, graph};
+ghost use Rattle.record_ring.specs.session_model.specs.Playback.{played_in};
 ghost use Rattle.driver_laws.specs.Cycling.{CyclesOnce, FailsAtWrite, KeepsBut, PlaysOnce, StepsOnce, WritesOnce, Written, WrittenFront};
 ghost use Rattle.driver_laws.specs.Drivers.{Driver, content_now, graph_now, run};
 ghost use Rattle.driver_laws.specs.Keeping.{AreOfCalls, Fits, Keeps};

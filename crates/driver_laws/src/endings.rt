@@ -1,15 +1,15 @@
 //! Laws of what rings and playback have behind the last cycle, in the words of the definitions.
 
 ghost use Rattle.std.specs.Prelude.{◌≡◌, ◌+◌, ◌<◌, ◌≤◌, ℕ, All, IsNone, IsSome, List, false, length};
-ghost use Rattle.jack_types.specs.declared.replies.Overrun.{Overrun as OverrunValue};
-ghost use Rattle.jack_types.specs.declared.replies.Underrun.{Underrun as UnderrunValue};
-ghost use Rattle.session_model.specs.Courses.{Course, turn, underruns_of};
-ghost use Rattle.session_model.specs.Disks.{IsBehindRing, IsSerial, Played, segment_start};
-ghost use Rattle.session_model.specs.Playback.{played_back};
-ghost use Rattle.session_model.specs.Recorders.{IsAfterSegment, Lost, kept_before, recorded};
-ghost use Rattle.session_model.specs.Scripts.{turns};
-ghost use Rattle.driver_words.specs.Rings.{Getting, Sending};
-ghost use Rattle.session_model.specs.Rings.{samples_of_blocks};
+ghost use Rattle.record_ring.specs.jack_types.specs.declared.replies.Overrun.{Overrun as OverrunValue};
+ghost use Rattle.record_ring.specs.jack_types.specs.declared.replies.Underrun.{Underrun as UnderrunValue};
+ghost use Rattle.record_ring.specs.session_model.specs.Courses.{Course, turn, underruns_of};
+ghost use Rattle.record_ring.specs.session_model.specs.Disks.{IsBehindRing, IsSerial, Played, segment_start};
+ghost use Rattle.record_ring.specs.session_model.specs.Playback.{played_back};
+ghost use Rattle.record_ring.specs.session_model.specs.Recorders.{IsAfterSegment, Lost, kept_before, recorded};
+ghost use Rattle.record_ring.specs.session_model.specs.Scripts.{turns};
+ghost use Rattle.record_ring.specs.driver_words.specs.Rings.{Getting, Sending};
+ghost use Rattle.record_ring.specs.session_model.specs.Rings.{samples_of_blocks};
 ghost use Rattle.driver_laws.specs.Keeping.{KeepsDisk, KeepsRing, kept_blocks, played_so_far};
 ghost use Rattle.driver_laws.specs.Segments.{cycles_before};
 

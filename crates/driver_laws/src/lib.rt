@@ -4,3 +4,5 @@
 pub mod courses;
 pub mod cycling;
 pub mod endings;
+
+pub use cycle_plan;

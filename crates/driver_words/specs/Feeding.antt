@@ -8,7 +8,7 @@
 --     AreUpTo k seen      no underrun is of a later cycle
 use Rattle.std.specs.Prelude.{◌≡◌, ℕ, ◌+◌, ◌*◌, ◌<◌, ◌≤◌, false, List, [], length, map, slice_index, slice_index_or, All, ℤ, Option, None}
 use Rattle.std.specs.Option.{option_map_or}
-use Rattle.jack_types.specs.declared.replies.Underrun.{Underrun}
+use Rattle.session_model.specs.jack_types.specs.declared.replies.Underrun.{Underrun}
 use Rattle.session_model.specs.Samples.{channels_of}
 use Rattle.driver_words.specs.Rings.{Sending, Getting}
 

@@ -4,10 +4,10 @@
 --     listed_for lists kind      the list that a client plays
 use Rattle.std.specs.Prelude.{ℕ, ◌==◌, List, [], find, slice_index_or}
 use Rattle.std.specs.Option.{option_map_or}
-use Rattle.jack_types.specs.declared.events.Event.{Event}
-use Rattle.jack_types.specs.declared.events.Logged.{Logged}
-use Rattle.jack_types.specs.declared.kinds.Kind.{Kind}
-use Rattle.jack_types.specs.declared.kinds.Kind.TheVariants.{Midiplay}
+use Rattle.session_model.specs.jack_types.specs.declared.events.Event.{Event}
+use Rattle.session_model.specs.jack_types.specs.declared.events.Logged.{Logged}
+use Rattle.session_model.specs.jack_types.specs.declared.kinds.Kind.{Kind}
+use Rattle.session_model.specs.jack_types.specs.declared.kinds.Kind.TheVariants.{Midiplay}
 
 -- the events that the MIDI output of this birth carries
 pub record Carried : Type 0 where

@@ -7,7 +7,7 @@
 --     Gained old new bytes, GainedPart old new bytes      all of the bytes were appended, or a front of them
 use Rattle.std.specs.Prelude.{◌≡◌, ℕ, ◌+◌, ◌≤◌, ◌⊎◌, Bool, false, List, ◌++◌, length, take, drop, slice_get, slice_range, ℤ, Option, IfSome, is_some}
 use Rattle.std.specs.Option.{ForSome}
-use Rattle.jack_types.specs.declared.files.Format.{Format}
+use Rattle.session_model.specs.jack_types.specs.declared.files.Format.{Format}
 use Rattle.jack_host.specs.Bytes.{Gains}
 use Rattle.session_model.specs.Samples.{bytes_of}
 use Rattle.session_model.specs.WaveFiles.{IsFormat, opening_text, wave_text}

@@ -1,20 +1,20 @@
 -- Where nodes are those of their names, the loop test by ids is that by names.
 use Rattle.std.proofs.Common.{◌≡◌, ℕ, Bool, true, false, cond, ◌&&◌, ◌||◌, ◌==◌, ◌↔◌, List, [], ◌∷◌, map, filter, Contains, Some, refl, sym, ◌∙◌, ap, ap₂, subst, true≢false, eq-eqb, eqb-true}
 use Rattle.std.specs.Option.{option_map_or}
-use Rattle.jack_types.specs.declared.ports.Edge.{Edge}
-use Rattle.jack_types.specs.declared.ports.Mark.TheVariants.{Direct, Feedback}
-use Rattle.jack_types.specs.declared.ports.Node.{Node}
-use Rattle.jack_types.specs.declared.ports.Node.TheVariants.{Capture, Playback, Client}
-use Rattle.jack_types.specs.declared.ports.Port.{Port}
-use Rattle.jack_types.specs.declared.ports.PortId.{PortId}
-use Rattle.jack_types.specs.declared.ports.Way.{Way}
-use Rattle.jack_types.specs.declared.ports.Way.TheVariants.{In, Out}
-use Rattle.session_model.specs.Ids.{node_with, name_with, port_with, node_links, connection, connections, same_id_node, way_of}
-use Rattle.session_model.specs.Loops.{Leads, leads, direct_links, closes_loop}
-use Rattle.session_model.specs.State.{same_node, source_node, destination_node, Connection, is_direct}
-use Rattle.session_laws.proofs.LoopLemmas.{Contains-first, Contains-later, leads-is_Leads}
-use Rattle.session_laws.proofs.PlanLemmas.{find-one}
-use Rattle.session_laws.proofs.SoundLemmas.{contains-map, map-contains}
+use Rattle.connection_set.specs.jack_types.specs.declared.ports.Edge.{Edge}
+use Rattle.connection_set.specs.jack_types.specs.declared.ports.Mark.TheVariants.{Direct, Feedback}
+use Rattle.connection_set.specs.jack_types.specs.declared.ports.Node.{Node}
+use Rattle.connection_set.specs.jack_types.specs.declared.ports.Node.TheVariants.{Capture, Playback, Client}
+use Rattle.connection_set.specs.jack_types.specs.declared.ports.Port.{Port}
+use Rattle.connection_set.specs.jack_types.specs.declared.ports.PortId.{PortId}
+use Rattle.connection_set.specs.jack_types.specs.declared.ports.Way.{Way}
+use Rattle.connection_set.specs.jack_types.specs.declared.ports.Way.TheVariants.{In, Out}
+use Rattle.connection_set.specs.session_model.specs.Ids.{node_with, name_with, port_with, node_links, connection, connections, same_id_node, way_of}
+use Rattle.connection_set.specs.session_model.specs.Loops.{Leads, leads, direct_links, closes_loop}
+use Rattle.connection_set.specs.session_model.specs.State.{same_node, source_node, destination_node, Connection, is_direct}
+use Rattle.connection_set.specs.session_laws.proofs.LoopLemmas.{Contains-first, Contains-later, leads-is_Leads}
+use Rattle.connection_set.specs.session_laws.proofs.PlanLemmas.{find-one}
+use Rattle.connection_set.specs.session_laws.proofs.SoundLemmas.{contains-map, map-contains}
 use Rattle.feedback_edges.specs.Marking.{AreNamed, IsEndOf, named_node, node_by_name, ends_by_id, AreAmong}
 use Rattle.connection_set.specs.Connections.{IsIdOf}
 

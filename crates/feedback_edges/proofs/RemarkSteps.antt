@@ -2,14 +2,14 @@
 use Rattle.std.proofs.Common.{◌≡◌, ◌↔◌, Contains, ℕ, zero, suc, ◌+◌, ◌<◌, Bool, true, false, cond, List, [], ◌∷◌, ◌++◌, length, set, get_or, take, drop, refl, sym, ◌∙◌, ap, ap₂, subst, arith, true≢false, add-one}
 use Rattle.std.proofs.Math.Seq.{drop-cons}
 use Rattle.std.proofs.lemmas.List.{take_more, take_more_set, take_all, take-append-drop, drop_all, drop-set-lt, get_or_default, get_or-map, length-map, map-set}
-use Rattle.jack_types.specs.declared.ports.Mark.{Mark}
-use Rattle.jack_types.specs.declared.ports.Mark.TheVariants.{Direct, Feedback}
-use Rattle.jack_types.specs.declared.ports.Edge.{Edge}
-use Rattle.jack_types.specs.declared.ports.Port.{Port}
-use Rattle.session_model.specs.Ids.{connection, connections, node_links, node_with, same_id_node}
-use Rattle.session_model.specs.Loops.{Leads, leads, closes_loop, mark_of, tested_edge, remark_from}
-use Rattle.session_model.specs.State.{Connection, is_direct}
-use Rattle.session_laws.proofs.LoopLemmas.{leads-is_Leads}
+use Rattle.connection_set.specs.jack_types.specs.declared.ports.Mark.{Mark}
+use Rattle.connection_set.specs.jack_types.specs.declared.ports.Mark.TheVariants.{Direct, Feedback}
+use Rattle.connection_set.specs.jack_types.specs.declared.ports.Edge.{Edge}
+use Rattle.connection_set.specs.jack_types.specs.declared.ports.Port.{Port}
+use Rattle.connection_set.specs.session_model.specs.Ids.{connection, connections, node_links, node_with, same_id_node}
+use Rattle.connection_set.specs.session_model.specs.Loops.{Leads, leads, closes_loop, mark_of, tested_edge, remark_from}
+use Rattle.connection_set.specs.session_model.specs.State.{Connection, is_direct}
+use Rattle.connection_set.specs.session_laws.proofs.LoopLemmas.{leads-is_Leads}
 use Rattle.connection_set.specs.Connections.{edge_at, no_edge, with_direct}
 use Rattle.feedback_edges.specs.Marking.{AreAmong, AreNamed, ends_by_id, node_number}
 use Rattle.feedback_edges.specs.Search.{IsTable, link_by, number_links, ClosesNone}

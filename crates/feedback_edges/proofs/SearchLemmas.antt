@@ -2,13 +2,13 @@
 use Rattle.std.proofs.Common.{◌≡◌, ℕ, zero, suc, ◌<◌, ◌≤◌, Bool, true, false, cond, not, ◌⊎◌, ◌↔◌, inl, inr, List, [], ◌∷◌, ◌++◌, length, filter, set, get_or, replicate, All, Contains, refl, sym, ◌∙◌, ap, subst, arith, true≢false, get_or-set_same, get_or-set_other}
 use Rattle.std.proofs.lemmas.Bool.{cases_eq, cases_order}
 use Rattle.std.proofs.lemmas.List.{get_or_past, get_or-replicate, length-replicate, length-set}
-use Rattle.jack_types.specs.declared.ports.Edge.{Edge}
-use Rattle.session_model.specs.Loops.{IsPath, Leads}
-use Rattle.session_model.specs.State.{is_direct}
-use Rattle.session_laws.proofs.LoopLemmas.{IsPath-append}
-use Rattle.session_laws.proofs.SoundLemmas.{contains-map, map-contains}
-use Rattle.session_laws.proofs.ListLemmas.{Contains-filtered, Contains-kept}
-use Rattle.session_laws.proofs.CycleLemmas.{filter-passes}
+use Rattle.connection_set.specs.jack_types.specs.declared.ports.Edge.{Edge}
+use Rattle.connection_set.specs.session_model.specs.Loops.{IsPath, Leads}
+use Rattle.connection_set.specs.session_model.specs.State.{is_direct}
+use Rattle.connection_set.specs.session_laws.proofs.LoopLemmas.{IsPath-append}
+use Rattle.connection_set.specs.session_laws.proofs.SoundLemmas.{contains-map, map-contains}
+use Rattle.connection_set.specs.session_laws.proofs.ListLemmas.{Contains-filtered, Contains-kept}
+use Rattle.connection_set.specs.session_laws.proofs.CycleLemmas.{filter-passes}
 use Rattle.feedback_edges.specs.Search.{link_by, number_links, IsMarked, Passes, AreLed, unmarked}
 
 none_below : {n : ℕ} → n < 0 → ⊥

@@ -5,17 +5,17 @@ use Rattle.std.proofs.Math.Seq.{drop-cons}
 use Rattle.std.proofs.lemmas.Bool.{cases_eq}
 use Rattle.std.proofs.lemmas.List.{get_or_default, get_or-replicate, drop_all}
 use Rattle.std.proofs.lemmas.List.Elements.{All-replicate}
-use Rattle.jack_types.specs.declared.ports.Edge.{Edge}
-use Rattle.jack_types.specs.declared.ports.Node.{Node}
-use Rattle.jack_types.specs.declared.ports.Node.TheVariants.{Capture, Playback, Client}
-use Rattle.jack_types.specs.declared.ports.Port.{Port}
-use Rattle.jack_types.specs.declared.ports.PortId.{PortId}
-use Rattle.session_model.specs.Ids.{node_with, node_links}
-use Rattle.session_model.specs.Loops.{IsPath, Leads}
-use Rattle.session_model.specs.State.{is_direct}
-use Rattle.session_laws.proofs.SoundLemmas.{contains-map, map-contains}
-use Rattle.session_laws.proofs.PlaceLemmas.{map-after}
-use Rattle.session_laws.proofs.CycleLemmas.{map_filter-same}
+use Rattle.connection_set.specs.jack_types.specs.declared.ports.Edge.{Edge}
+use Rattle.connection_set.specs.jack_types.specs.declared.ports.Node.{Node}
+use Rattle.connection_set.specs.jack_types.specs.declared.ports.Node.TheVariants.{Capture, Playback, Client}
+use Rattle.connection_set.specs.jack_types.specs.declared.ports.Port.{Port}
+use Rattle.connection_set.specs.jack_types.specs.declared.ports.PortId.{PortId}
+use Rattle.connection_set.specs.session_model.specs.Ids.{node_with, node_links}
+use Rattle.connection_set.specs.session_model.specs.Loops.{IsPath, Leads}
+use Rattle.connection_set.specs.session_model.specs.State.{is_direct}
+use Rattle.connection_set.specs.session_laws.proofs.SoundLemmas.{contains-map, map-contains}
+use Rattle.connection_set.specs.session_laws.proofs.PlaceLemmas.{map-after}
+use Rattle.connection_set.specs.session_laws.proofs.CycleLemmas.{map_filter-same}
 use Rattle.connection_set.specs.Connections.{IsIdOf}
 use Rattle.feedback_edges.specs.Marking.{node_number, AreAmong}
 use Rattle.feedback_edges.specs.Search.{number_with, IsTable, link_by, number_links}

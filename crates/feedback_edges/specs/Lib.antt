@@ -1,2 +1,3 @@
 pub mod Marking
 pub mod Search
+pub use Rattle.connection_set

@@ -2,15 +2,15 @@
 --     AreAmong ports edges      what `leads`, `mark` and `remark` ask of ports and edges
 --     AreNamed ports edges      the nodes of the ports are those of their names, and edges go from outputs to inputs
 use Rattle.std.specs.Prelude.{◌≡◌, ℕ, ◌+◌, ◌<◌, List, All, Contains, map}
-use Rattle.jack_types.specs.declared.ports.Edge.{Edge}
-use Rattle.jack_types.specs.declared.ports.Node.{Node}
-use Rattle.jack_types.specs.declared.ports.Node.TheVariants.{Capture, Playback, Client}
-use Rattle.jack_types.specs.declared.ports.Port.{Port}
-use Rattle.jack_types.specs.declared.ports.PortId.{PortId}
-use Rattle.jack_types.specs.declared.ports.Way.{Way}
-use Rattle.jack_types.specs.declared.ports.Way.TheVariants.{In, Out}
-use Rattle.session_model.specs.Ids.{same_id_node, way_of}
-use Rattle.session_model.specs.State.{NamedNode, same_node, source_node, destination_node}
+use Rattle.connection_set.specs.jack_types.specs.declared.ports.Edge.{Edge}
+use Rattle.connection_set.specs.jack_types.specs.declared.ports.Node.{Node}
+use Rattle.connection_set.specs.jack_types.specs.declared.ports.Node.TheVariants.{Capture, Playback, Client}
+use Rattle.connection_set.specs.jack_types.specs.declared.ports.Port.{Port}
+use Rattle.connection_set.specs.jack_types.specs.declared.ports.PortId.{PortId}
+use Rattle.connection_set.specs.jack_types.specs.declared.ports.Way.{Way}
+use Rattle.connection_set.specs.jack_types.specs.declared.ports.Way.TheVariants.{In, Out}
+use Rattle.connection_set.specs.session_model.specs.Ids.{same_id_node, way_of}
+use Rattle.connection_set.specs.session_model.specs.State.{NamedNode, same_node, source_node, destination_node}
 use Rattle.connection_set.specs.Connections.{IsIdOf}
 
 -- capture, playback, and the clients by their ids

@@ -3,11 +3,11 @@
 --     number_links table edges      the numbers of the nodes that direct edges join
 --     IsMarked marked n      the node of this number is marked
 use Rattle.std.specs.Prelude.{◌≡◌, ℕ, ◌<◌, Bool, true, false, not, List, map, filter, length, slice_index, slice_index_or}
-use Rattle.jack_types.specs.declared.ports.Edge.{Edge}
-use Rattle.jack_types.specs.declared.ports.Port.{Port}
-use Rattle.session_model.specs.Ids.{node_with}
-use Rattle.session_model.specs.Loops.{Leads}
-use Rattle.session_model.specs.State.{is_direct}
+use Rattle.connection_set.specs.jack_types.specs.declared.ports.Edge.{Edge}
+use Rattle.connection_set.specs.jack_types.specs.declared.ports.Port.{Port}
+use Rattle.connection_set.specs.session_model.specs.Ids.{node_with}
+use Rattle.connection_set.specs.session_model.specs.Loops.{Leads}
+use Rattle.connection_set.specs.session_model.specs.State.{is_direct}
 use Rattle.feedback_edges.specs.Marking.{node_number}
 
 abbrev pub number_with : List Port → ℕ → ℕ

@@ -5,6 +5,7 @@ pub mod marking;
 pub mod numbers;
 pub mod searching;
 
+pub use connection_set;
 pub use marking::{leads, mark, remark};
 pub use numbers::{MOST_NODES, MOST_PORTS, node_table, number_of};
 pub use searching::reached;

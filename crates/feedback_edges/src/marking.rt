@@ -1,10 +1,10 @@
 //! Marks of edges.
 
 ghost use Rattle.std.specs.Prelude.{◌≡◌, ◌<◌, ◌↔◌, All, Contains, IsTrue, length, not};
-ghost use Rattle.jack_types.specs.declared.ports.Edge.{Edge as EdgeRecord};
-ghost use Rattle.jack_types.specs.declared.ports.Way.TheVariants.{In, Out};
-ghost use Rattle.session_model.specs.Ids.{connections as edges_by_name, node_links, way_of};
-ghost use Rattle.session_model.specs.Loops.{Leads, mark_of, remark as remark_of};
+ghost use Rattle.connection_set.specs.jack_types.specs.declared.ports.Edge.{Edge as EdgeRecord};
+ghost use Rattle.connection_set.specs.jack_types.specs.declared.ports.Way.TheVariants.{In, Out};
+ghost use Rattle.connection_set.specs.session_model.specs.Ids.{connections as edges_by_name, node_links, way_of};
+ghost use Rattle.connection_set.specs.session_model.specs.Loops.{Leads, mark_of, remark as remark_of};
 ghost use Rattle.connection_set.specs.Connections.{edge_at};
 ghost use Rattle.feedback_edges.specs.Marking.{AreAmong, AreNamed, IsNode, ends_by_id};
 ghost use Rattle.feedback_edges.specs.Search.{ClosesNone};
@@ -12,7 +12,7 @@ ghost use Rattle.feedback_edges.specs.Search.{ClosesNone};
 use crate::numbers::{MOST_PORTS, node_table, number_of};
 use crate::searching::leads_between;
 use connection_set::Connections;
-use jack_types::{Edge, Mark, Node, Port};
+use connection_set::jack_types::{Edge, Mark, Node, Port};
 
 /// Whether direct edges lead from the one node to the other, or the two are one.
 ///

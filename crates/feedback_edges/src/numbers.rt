@@ -1,11 +1,11 @@
 //! The nodes of ports, by numbers.
 
 ghost use Rattle.std.specs.Prelude.{◌≡◌, ◌<◌, ℕ, All};
-ghost use Rattle.jack_types.specs.declared.ports.Port.{Port as PortRecord};
+ghost use Rattle.connection_set.specs.jack_types.specs.declared.ports.Port.{Port as PortRecord};
 ghost use Rattle.feedback_edges.specs.Marking.{IsNode, node_number};
 ghost use Rattle.feedback_edges.specs.Search.{IsTable};
 
-use jack_types::{Node, Port};
+use connection_set::jack_types::{Node, Port};
 
 /// The greatest number of ports: 32 of each of 64 clients, and 16 of `system`.
 pub const MOST_PORTS: usize = 2064;

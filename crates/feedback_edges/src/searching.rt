@@ -1,12 +1,12 @@
 //! The search for a path over direct edges, by marks on the nodes that were reached.
 
 ghost use Rattle.std.specs.Prelude.{◌≡◌, ◌<◌, ◌↔◌, ℕ, List, All, Contains, IsTrue, true, false};
-ghost use Rattle.jack_types.specs.declared.ports.Edge.{Edge as EdgeRecord};
-ghost use Rattle.session_model.specs.Loops.{Leads};
+ghost use Rattle.connection_set.specs.jack_types.specs.declared.ports.Edge.{Edge as EdgeRecord};
+ghost use Rattle.connection_set.specs.session_model.specs.Loops.{Leads};
 ghost use Rattle.feedback_edges.specs.Search.{AreLed, IsMarked, Passes, number_links, unmarked};
 
 use crate::numbers::{MOST_NODES, MOST_PORTS};
-use jack_types::{Edge, Mark};
+use connection_set::jack_types::{Edge, Mark};
 
 /// Marks the end of a direct edge that comes from a marked node. Says whether the mark is new.
 fn mark_end(edge: &Edge, table: &[u8; MOST_PORTS], marked: &mut [bool; MOST_NODES]) -> bool

@@ -3,13 +3,13 @@ use Rattle.std.proofs.Common.{◌≡◌, ℕ, suc, ◌≤◌, Bool, true, false,
 use Rattle.std.specs.Prelude.{if◌then◌else◌, ◌==◌, nat_le, nat_lt, pos, codes}
 use Rattle.std.specs.List.{list_any, list_all}
 use Rattle.std.proofs.lemmas.Int.{ints}
-use Rattle.jack_types.specs.declared.commands.Command.{Command}
-use Rattle.jack_types.specs.declared.scripts.Body.{Body}
-use Rattle.jack_types.specs.declared.scripts.Body.TheVariants.{Do, Run, Freewheel, Lane, Period}
-use Rattle.jack_types.specs.declared.scripts.Cause.TheVariants.{Words, Choice, Lane as LaneFault}
-use Rattle.jack_types.specs.declared.scripts.Header.{Header}
-use Rattle.session_model.specs.Grammar.{Slot, Word, Numeral, FillAll, IsIn, IsPeriod, IsBits, widths, periods, command_slots, body_slots, IsBody, open_segment, last_begun}
-use Rattle.session_model.specs.Reading.{◌>>=◌, Reader, just, made, whole, number, any_number, ranged, command, period, bits, begun_in, fixed, lane_line, old_lines, has_periods, body_line}
+use Rattle.session_laws.specs.jack_types.specs.declared.commands.Command.{Command}
+use Rattle.session_laws.specs.jack_types.specs.declared.scripts.Body.{Body}
+use Rattle.session_laws.specs.jack_types.specs.declared.scripts.Body.TheVariants.{Do, Run, Freewheel, Lane, Period}
+use Rattle.session_laws.specs.jack_types.specs.declared.scripts.Cause.TheVariants.{Words, Choice, Lane as LaneFault}
+use Rattle.session_laws.specs.jack_types.specs.declared.scripts.Header.{Header}
+use Rattle.session_laws.specs.session_model.specs.Grammar.{Slot, Word, Numeral, FillAll, IsIn, IsPeriod, IsBits, widths, periods, command_slots, body_slots, IsBody, open_segment, last_begun}
+use Rattle.session_laws.specs.session_model.specs.Reading.{◌>>=◌, Reader, just, made, whole, number, any_number, ranged, command, period, bits, begun_in, fixed, lane_line, old_lines, has_periods, body_line}
 use Rattle.session_laws.proofs.LoopLemmas.{Contains-later, Contains-first, Contains-cases, or_cases, or_left, or_right}
 use Rattle.grammar_laws.proofs.GrammarReaders.{bind_ok, if_ok, ok_is, Takes, Takes-join, Takes-split, Takes-all, Takes-from_all, Reads, EachChoice, EachChoice-if, ChoiceTakes, by_word-takes, by_word-again, find-old, bytes-self, just-takes, made-takes, made-again, number-reads, any_number-reads, ranged-ok, ranged-again}
 use Rattle.grammar_laws.proofs.GrammarCommands.{command-reads}

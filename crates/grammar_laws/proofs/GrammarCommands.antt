@@ -1,20 +1,20 @@
 -- Kinds and commands are read just where they are spelled.
 use Rattle.std.proofs.Common.{◌≡◌, ℕ, ◌≤◌, true, List, [], ◌∷◌, ◌++◌, length, Ok, refl, sym, ap, subst, arith}
 use Rattle.std.specs.Prelude.{if◌then◌else◌, ◌==◌, pos, negsuc, codes}
-use Rattle.jack_types.specs.Names.{IsClientName, IsPortName}
-use Rattle.jack_types.specs.declared.commands.Command.{Command}
-use Rattle.jack_types.specs.declared.commands.Command.TheVariants.{Open, Close, Activate, Deactivate, Register, Unregister, Connect, Disconnect, Start, Stop, Locate, Timeout, Slow, Timebase, TimebaseIf, Release, Latency}
-use Rattle.jack_types.specs.declared.kinds.Kind.{Kind}
-use Rattle.jack_types.specs.declared.kinds.Kind.TheVariants.{Pass, Gain, Mix, Delay, Tone, Click, Meter, Tape, Guest, Midiplay, Midithru, Midilog, Disk}
-use Rattle.jack_types.specs.declared.ports.Mode.{Mode}
-use Rattle.jack_types.specs.declared.ports.Mode.TheVariants.{Capture, Playback}
-use Rattle.jack_types.specs.declared.ports.PortKind.{PortKind}
-use Rattle.jack_types.specs.declared.ports.PortKind.TheVariants.{Audio, Midi}
-use Rattle.jack_types.specs.declared.ports.Way.{Way}
-use Rattle.jack_types.specs.declared.ports.Way.TheVariants.{In, Out}
-use Rattle.jack_types.specs.declared.scripts.Header.{Header}
-use Rattle.session_model.specs.Grammar.{Slot, Word, Fixed, Numeral, SignedNumeral, IsIn, IsTempo, kind_slots, way_word, type_word, mode_word, command_slots, IsKind, IsCommand}
-use Rattle.session_model.specs.Reading.{old_kinds, new_kinds, kind, way, port_type, mode, registering, tempo, command, commands, just, number, client, port}
+use Rattle.session_laws.specs.jack_types.specs.Names.{IsClientName, IsPortName}
+use Rattle.session_laws.specs.jack_types.specs.declared.commands.Command.{Command}
+use Rattle.session_laws.specs.jack_types.specs.declared.commands.Command.TheVariants.{Open, Close, Activate, Deactivate, Register, Unregister, Connect, Disconnect, Start, Stop, Locate, Timeout, Slow, Timebase, TimebaseIf, Release, Latency}
+use Rattle.session_laws.specs.jack_types.specs.declared.kinds.Kind.{Kind}
+use Rattle.session_laws.specs.jack_types.specs.declared.kinds.Kind.TheVariants.{Pass, Gain, Mix, Delay, Tone, Click, Meter, Tape, Guest, Midiplay, Midithru, Midilog, Disk}
+use Rattle.session_laws.specs.jack_types.specs.declared.ports.Mode.{Mode}
+use Rattle.session_laws.specs.jack_types.specs.declared.ports.Mode.TheVariants.{Capture, Playback}
+use Rattle.session_laws.specs.jack_types.specs.declared.ports.PortKind.{PortKind}
+use Rattle.session_laws.specs.jack_types.specs.declared.ports.PortKind.TheVariants.{Audio, Midi}
+use Rattle.session_laws.specs.jack_types.specs.declared.ports.Way.{Way}
+use Rattle.session_laws.specs.jack_types.specs.declared.ports.Way.TheVariants.{In, Out}
+use Rattle.session_laws.specs.jack_types.specs.declared.scripts.Header.{Header}
+use Rattle.session_laws.specs.session_model.specs.Grammar.{Slot, Word, Fixed, Numeral, SignedNumeral, IsIn, IsTempo, kind_slots, way_word, type_word, mode_word, command_slots, IsKind, IsCommand}
+use Rattle.session_laws.specs.session_model.specs.Reading.{old_kinds, new_kinds, kind, way, port_type, mode, registering, tempo, command, commands, just, number, client, port}
 use Rattle.grammar_laws.proofs.GrammarReaders.{bind_ok, ok_is, Takes, Takes-join, Takes-split, Reads, Reads-good, EachChoice, EachChoice-if, ChoiceTakes, by_word-takes, by_word-again, find-old, just-takes, made-takes, made-again, made_of_two-takes, made_of_two-again, number-reads, signed_number-reads, place-reads, client-reads, port-reads}
 
 up_to-reads : (most : ℕ) → Reads (number 0 most) (λ n. Numeral n ∷ []) (λ n. n ≤ most)

@@ -5,13 +5,13 @@ use Rattle.std.specs.List.{AllByRecursion}
 use Rattle.std.proofs.lemmas.Int.{ints}
 use Rattle.std.proofs.lemmas.List.{take_at, length-take, length-append, length-replicate}
 use Rattle.std.proofs.lemmas.List.Elements.{All-from_recursion, recursion_from_All}
-use Rattle.jack_types.specs.Held.{filled_to}
-use Rattle.jack_types.specs.declared.events.Event.{Event}
-use Rattle.jack_types.specs.declared.scripts.Cause.TheVariants.{Number, Choice}
-use Rattle.session_model.specs.Events.{event_bytes}
-use Rattle.session_model.specs.Grammar.{Slot, Numeral, Hexed, IsListed}
-use Rattle.session_model.specs.Reading.{◌>>=◌, Reader, word, number, ranged, is_hex_digit, hex_value, with_pair, hex_bytes, status_byte, event_with, frame_before, event}
-use Rattle.session_model.specs.Reports.{hex_digit, hex_byte}
+use Rattle.session_laws.specs.jack_types.specs.Held.{filled_to}
+use Rattle.session_laws.specs.jack_types.specs.declared.events.Event.{Event}
+use Rattle.session_laws.specs.jack_types.specs.declared.scripts.Cause.TheVariants.{Number, Choice}
+use Rattle.session_laws.specs.session_model.specs.Events.{event_bytes}
+use Rattle.session_laws.specs.session_model.specs.Grammar.{Slot, Numeral, Hexed, IsListed}
+use Rattle.session_laws.specs.session_model.specs.Reading.{◌>>=◌, Reader, word, number, ranged, is_hex_digit, hex_value, with_pair, hex_bytes, status_byte, event_with, frame_before, event}
+use Rattle.session_laws.specs.session_model.specs.Reports.{hex_digit, hex_byte}
 use Rattle.session_laws.proofs.LoopLemmas.{and_parts}
 use Rattle.grammar_laws.proofs.GrammarReaders.{bind_ok, ok_is, Takes, Takes-join, Takes-split, Reads, number-reads, ranged-ok, ranged-again}
 

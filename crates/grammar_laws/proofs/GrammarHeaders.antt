@@ -4,14 +4,14 @@ use Rattle.std.specs.Prelude.{IsTrue, if◌then◌else◌, ◌==◌, ◌≢◌, 
 use Rattle.std.specs.List.{AllByRecursion}
 use Rattle.std.specs.Str.{bytes_eq}
 use Rattle.std.proofs.lemmas.List.Elements.{All-from_recursion, recursion_from_All}
-use Rattle.jack_types.specs.declared.files.Format.{Format}
-use Rattle.jack_types.specs.declared.scripts.Body.{Body}
-use Rattle.jack_types.specs.declared.scripts.Body.TheVariants.{Do, Run, Freewheel, Lane, Period}
-use Rattle.jack_types.specs.declared.scripts.Cause.TheVariants.{Choice}
-use Rattle.jack_types.specs.declared.scripts.Many.TheVariants.{Recorders, Events, Disks}
-use Rattle.session_model.specs.Grammar.{Slot, Word, Numeral, number_slots, mode_slots, recorder_slots, event_slots, body_slots, IsIn, IsBits, IsFormat, IsOptional}
-use Rattle.session_model.specs.Reading.{Reader, made, number, any_number, bits, version, old_modes, workers, recorder, channels_and_bits, event, optional, several}
-use Rattle.session_model.specs.Texts.{Line}
+use Rattle.session_laws.specs.jack_types.specs.declared.files.Format.{Format}
+use Rattle.session_laws.specs.jack_types.specs.declared.scripts.Body.{Body}
+use Rattle.session_laws.specs.jack_types.specs.declared.scripts.Body.TheVariants.{Do, Run, Freewheel, Lane, Period}
+use Rattle.session_laws.specs.jack_types.specs.declared.scripts.Cause.TheVariants.{Choice}
+use Rattle.session_laws.specs.jack_types.specs.declared.scripts.Many.TheVariants.{Recorders, Events, Disks}
+use Rattle.session_laws.specs.session_model.specs.Grammar.{Slot, Word, Numeral, number_slots, mode_slots, recorder_slots, event_slots, body_slots, IsIn, IsBits, IsFormat, IsOptional}
+use Rattle.session_laws.specs.session_model.specs.Reading.{Reader, made, number, any_number, bits, version, old_modes, workers, recorder, channels_and_bits, event, optional, several}
+use Rattle.session_laws.specs.session_model.specs.Texts.{Line}
 use Rattle.grammar_laws.proofs.GrammarReaders.{bind_ok, if_ok, ok_is, Takes, Takes-join, Takes-split, Reads, Reads-good, EachChoice-if, ChoiceTakes, by_word-takes, by_word-again, find-old, just-takes, made-takes, made-again, number-reads, any_number-reads}
 use Rattle.grammar_laws.proofs.GrammarBodies.{bits-reads}
 use Rattle.grammar_laws.proofs.GrammarEvents.{IsItem, event-reads}

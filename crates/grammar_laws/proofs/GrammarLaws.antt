@@ -4,17 +4,17 @@ use Rattle.std.specs.Prelude.{if◌then◌else◌, ◌==◌, nat_lt, codes, sum_
 use Rattle.std.specs.List.{AllByRecursion}
 use Rattle.std.specs.Str.{bytes_eq}
 use Rattle.std.proofs.lemmas.List.Elements.{All-from_recursion, recursion_from_All}
-use Rattle.jack_types.specs.declared.events.Event.{Event}
-use Rattle.jack_types.specs.declared.files.Format.{Format}
-use Rattle.jack_types.specs.declared.scripts.Body.{Body}
-use Rattle.jack_types.specs.declared.scripts.Cause.TheVariants.{TooLong}
-use Rattle.jack_types.specs.declared.scripts.Header.{Header}
-use Rattle.jack_types.specs.declared.scripts.Many.TheVariants.{Recorders, Events, Disks}
-use Rattle.jack_types.specs.declared.scripts.ScriptFault.{ScriptFault}
-use Rattle.session_model.specs.Grammar.{Slot, Word, Numeral, LinesFill, number_slots, mode_slots, recorder_slots, event_slots, body_slots, required_lines, IsIn, AreEvents, Choices, AreChoices, lines_by, IsHeader, IsScript, Spells}
-use Rattle.session_model.specs.Reading.{◌>>=◌, required, optional, several, version, number, period, channels_and_bits, workers, recorder, event, body_lines, script_of_lines, script_of, fault_of}
-use Rattle.session_model.specs.Scripts.{Script}
-use Rattle.session_model.specs.Texts.{Line, said, line_after}
+use Rattle.session_laws.specs.jack_types.specs.declared.events.Event.{Event}
+use Rattle.session_laws.specs.jack_types.specs.declared.files.Format.{Format}
+use Rattle.session_laws.specs.jack_types.specs.declared.scripts.Body.{Body}
+use Rattle.session_laws.specs.jack_types.specs.declared.scripts.Cause.TheVariants.{TooLong}
+use Rattle.session_laws.specs.jack_types.specs.declared.scripts.Header.{Header}
+use Rattle.session_laws.specs.jack_types.specs.declared.scripts.Many.TheVariants.{Recorders, Events, Disks}
+use Rattle.session_laws.specs.jack_types.specs.declared.scripts.ScriptFault.{ScriptFault}
+use Rattle.session_laws.specs.session_model.specs.Grammar.{Slot, Word, Numeral, LinesFill, number_slots, mode_slots, recorder_slots, event_slots, body_slots, required_lines, IsIn, AreEvents, Choices, AreChoices, lines_by, IsHeader, IsScript, Spells}
+use Rattle.session_laws.specs.session_model.specs.Reading.{◌>>=◌, required, optional, several, version, number, period, channels_and_bits, workers, recorder, event, body_lines, script_of_lines, script_of, fault_of}
+use Rattle.session_laws.specs.session_model.specs.Scripts.{Script}
+use Rattle.session_laws.specs.session_model.specs.Texts.{Line, said, line_after}
 use Rattle.grammar_laws.proofs.GrammarReaders.{ok_is, number-reads}
 use Rattle.grammar_laws.proofs.GrammarBodies.{period-reads}
 use Rattle.grammar_laws.proofs.GrammarEvents.{IsItem}

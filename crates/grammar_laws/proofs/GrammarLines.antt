@@ -3,12 +3,12 @@ use Rattle.std.proofs.Common.{◌≡◌, ℕ, suc, ◌+◌, ◌<◌, ◌≤◌, 
 use Rattle.std.specs.Prelude.{if◌then◌else◌, nat_le, slice_index_or, drop}
 use Rattle.std.specs.Str.{bytes_eq}
 use Rattle.std.proofs.lemmas.List.{append-nil, length-append}
-use Rattle.jack_types.specs.declared.scripts.Cause.{Cause}
-use Rattle.jack_types.specs.declared.scripts.Cause.TheVariants.{Header as NotHeader, TooMany}
-use Rattle.jack_types.specs.declared.scripts.Many.{Many}
-use Rattle.session_model.specs.Grammar.{Slot, Word, Fixed, Numeral, SignedNumeral, Hexed, FillAll, LinesFill, number_slots, IsOptional}
-use Rattle.session_model.specs.Reading.{◌>>=◌, Reader, whole, at_line, begins, rest_of, required, optional, several}
-use Rattle.session_model.specs.Texts.{Line}
+use Rattle.session_laws.specs.jack_types.specs.declared.scripts.Cause.{Cause}
+use Rattle.session_laws.specs.jack_types.specs.declared.scripts.Cause.TheVariants.{Header as NotHeader, TooMany}
+use Rattle.session_laws.specs.jack_types.specs.declared.scripts.Many.{Many}
+use Rattle.session_laws.specs.session_model.specs.Grammar.{Slot, Word, Fixed, Numeral, SignedNumeral, Hexed, FillAll, LinesFill, number_slots, IsOptional}
+use Rattle.session_laws.specs.session_model.specs.Reading.{◌>>=◌, Reader, whole, at_line, begins, rest_of, required, optional, several}
+use Rattle.session_laws.specs.session_model.specs.Texts.{Line}
 use Rattle.grammar_laws.proofs.GrammarReaders.{bind_ok, ok_is, Reads, bytes-same, bytes-self}
 use Rattle.grammar_laws.proofs.GrammarBodies.{whole-takes, whole-again}
 

@@ -6,10 +6,10 @@ use Rattle.std.specs.List.Sorted.{IsNonDecreasing}
 use Rattle.std.proofs.lemmas.List.{map-append}
 use Rattle.std.proofs.lemmas.List.Elements.{All-from_recursion, recursion_from_All}
 use Rattle.std.proofs.lemmas.List.Sums.{sum_by-append}
-use Rattle.jack_types.specs.declared.events.Event.{Event}
-use Rattle.session_model.specs.Grammar.{IsListed}
-use Rattle.session_model.specs.Reading.{frame_before}
-use Rattle.session_model.specs.Samples.{below}
+use Rattle.session_laws.specs.jack_types.specs.declared.events.Event.{Event}
+use Rattle.session_laws.specs.session_model.specs.Grammar.{IsListed}
+use Rattle.session_laws.specs.session_model.specs.Reading.{frame_before}
+use Rattle.session_laws.specs.session_model.specs.Samples.{below}
 use Rattle.grammar_laws.proofs.GrammarEvents.{IsItem}
 use Rattle.grammar_laws.proofs.GrammarLines.{Goods}
 

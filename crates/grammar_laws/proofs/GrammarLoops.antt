@@ -2,12 +2,12 @@
 use Rattle.std.proofs.Common.{◌≡◌, ℕ, zero, suc, List, [], ◌∷◌, ◌++◌, map, take, Option, Some, None, Result, Ok, Err, refl, sym, ap, subst, ◌∙◌, append_assoc}
 use Rattle.std.specs.Prelude.{slice_get}
 use Rattle.std.proofs.lemmas.List.{append-nil}
-use Rattle.jack_types.specs.declared.scripts.Body.{Body}
-use Rattle.jack_types.specs.declared.scripts.Cause.{Cause}
-use Rattle.jack_types.specs.declared.scripts.Header.{Header}
-use Rattle.session_model.specs.Grammar.{FillAll, LinesFill, body_slots, IsBody}
-use Rattle.session_model.specs.Reading.{whole, body_line, passed_limit, body_limits, body_of, unless, at_line, body_lines}
-use Rattle.session_model.specs.Texts.{Line}
+use Rattle.session_laws.specs.jack_types.specs.declared.scripts.Body.{Body}
+use Rattle.session_laws.specs.jack_types.specs.declared.scripts.Cause.{Cause}
+use Rattle.session_laws.specs.jack_types.specs.declared.scripts.Header.{Header}
+use Rattle.session_laws.specs.session_model.specs.Grammar.{FillAll, LinesFill, body_slots, IsBody}
+use Rattle.session_laws.specs.session_model.specs.Reading.{whole, body_line, passed_limit, body_limits, body_of, unless, at_line, body_lines}
+use Rattle.session_laws.specs.session_model.specs.Texts.{Line}
 use Rattle.grammar_laws.proofs.GrammarReaders.{bind_ok, ok_is, Takes, Takes-all, Takes-from_all}
 use Rattle.grammar_laws.proofs.GrammarBodies.{whole-ok, body_line-reads}
 use Rattle.grammar_laws.proofs.GrammarLimits.{Limits, Limits-front, Limits-more, passed-none}

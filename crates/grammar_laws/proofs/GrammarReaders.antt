@@ -4,12 +4,12 @@ use Rattle.std.specs.Prelude.{if◌then◌else◌, find, ◌==◌, ℤ, pos, ◌
 use Rattle.std.specs.Str.{bytes_eq}
 use Rattle.std.proofs.lemmas.Slice.Eq.{bytes_eq-Decides}
 use Rattle.std.proofs.lemmas.Int.{ints}
-use Rattle.jack_types.specs.Names.{IsClientName, IsPortName, client_name_fault, port_name_fault}
-use Rattle.jack_types.specs.declared.names.NameFault.{NameFault}
-use Rattle.jack_types.specs.declared.scripts.Cause.{Cause}
-use Rattle.jack_types.specs.declared.scripts.Cause.TheVariants.{Number, Range}
-use Rattle.session_model.specs.Grammar.{Slot, Word, Fixed, Numeral, SignedNumeral, Fills, FillAll, IsIn, IsIntIn, IsNumeral, IsSignedNumeral, is_number, number_value}
-use Rattle.session_model.specs.Reading.{◌>>=◌, Reader, word, just, by_word, chosen, made, made_of_two, any_number, number, number_up_to, ranged, signed_value, signed_number, or_no_number, name_cause, unless, client, port}
+use Rattle.session_laws.specs.jack_types.specs.Names.{IsClientName, IsPortName, client_name_fault, port_name_fault}
+use Rattle.session_laws.specs.jack_types.specs.declared.names.NameFault.{NameFault}
+use Rattle.session_laws.specs.jack_types.specs.declared.scripts.Cause.{Cause}
+use Rattle.session_laws.specs.jack_types.specs.declared.scripts.Cause.TheVariants.{Number, Range}
+use Rattle.session_laws.specs.session_model.specs.Grammar.{Slot, Word, Fixed, Numeral, SignedNumeral, Fills, FillAll, IsIn, IsIntIn, IsNumeral, IsSignedNumeral, is_number, number_value}
+use Rattle.session_laws.specs.session_model.specs.Reading.{◌>>=◌, Reader, word, just, by_word, chosen, made, made_of_two, any_number, number, number_up_to, ranged, signed_value, signed_number, or_no_number, name_cause, unless, client, port}
 
 pub bind_ok : {A B E : Type 0} (r : Result A E) (f : A → Result B E) (y : B) → (r >>= f) ≡ Ok y → (x : A) × (r ≡ Ok x) × (f x ≡ Ok y)
 bind_ok (Ok x) f y e = (x, refl, e)

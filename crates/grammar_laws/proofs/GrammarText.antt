@@ -5,13 +5,13 @@ use Rattle.std.specs.List.{AllByRecursion}
 use Rattle.std.proofs.lemmas.List.{append-nil, map-append}
 use Rattle.std.proofs.lemmas.List.Concat.{flat_map-append}
 use Rattle.std.proofs.lemmas.List.Elements.{All-from_recursion, recursion_from_All, filter-append}
-use Rattle.jack_types.specs.declared.events.Event.{Event}
-use Rattle.jack_types.specs.declared.files.Format.{Format}
-use Rattle.session_model.specs.Events.{event_bytes}
-use Rattle.session_model.specs.Grammar.{Slot, Word, Fixed, Numeral, SignedNumeral, Hexed, Fills, FillAll, LinesFill, IsIn, IsBits, IsFormat, IsListed, IsScript, IsOptional, AreEvents, Choices, AreChoices, widths, number_slots, mode_slots, recorder_slots, event_slots, body_slots, required_lines, lines_by, printed_choices, script_text, Spells}
-use Rattle.session_model.specs.Samples.{below}
-use Rattle.session_model.specs.Scripts.{Script}
-use Rattle.session_model.specs.Texts.{Line, said}
+use Rattle.session_laws.specs.jack_types.specs.declared.events.Event.{Event}
+use Rattle.session_laws.specs.jack_types.specs.declared.files.Format.{Format}
+use Rattle.session_laws.specs.session_model.specs.Events.{event_bytes}
+use Rattle.session_laws.specs.session_model.specs.Grammar.{Slot, Word, Fixed, Numeral, SignedNumeral, Hexed, Fills, FillAll, LinesFill, IsIn, IsBits, IsFormat, IsListed, IsScript, IsOptional, AreEvents, Choices, AreChoices, widths, number_slots, mode_slots, recorder_slots, event_slots, body_slots, required_lines, lines_by, printed_choices, script_text, Spells}
+use Rattle.session_laws.specs.session_model.specs.Samples.{below}
+use Rattle.session_laws.specs.session_model.specs.Scripts.{Script}
+use Rattle.session_laws.specs.session_model.specs.Texts.{Line, said}
 use Rattle.grammar_laws.proofs.GrammarBodies.{period_in, contained}
 use Rattle.grammar_laws.proofs.GrammarEvents.{listed-status}
 use Rattle.grammar_laws.proofs.GrammarLists.{Item, list_of, lists_of, lists_of-same, lists_of-count, AreLists, lists-goods, goods-listed}

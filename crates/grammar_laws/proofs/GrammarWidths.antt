@@ -6,24 +6,24 @@ use Rattle.std.proofs.lemmas.Int.{ints}
 use Rattle.std.proofs.lemmas.List.{length-append}
 use Rattle.std.proofs.lemmas.List.Sums.{sum_by-cons}
 use Rattle.std.proofs.lemmas.Fmt.{length-decimal-le_wide}
-use Rattle.jack_types.specs.Names.{IsClientName, IsPortName, is_name_byte, is_colon, bad_byte, has_one_colon, client_part}
-use Rattle.jack_types.specs.declared.names.NameFault.{NameFault}
-use Rattle.jack_types.specs.declared.names.NameFault.TheVariants.{Empty, TooLong, NoColon, BadByte}
-use Rattle.jack_types.specs.declared.commands.Command.{Command}
-use Rattle.jack_types.specs.declared.commands.Command.TheVariants.{Open, Close, Activate, Deactivate, Register, Unregister, Connect, Disconnect, Start, Stop, Locate, Timeout, Slow, Timebase, TimebaseIf, Release, Latency}
-use Rattle.jack_types.specs.declared.kinds.Kind.{Kind}
-use Rattle.jack_types.specs.declared.kinds.Kind.TheVariants.{Pass, Gain, Mix, Delay, Tone, Click, Meter, Tape, Guest, Midiplay, Midithru, Midilog, Disk}
-use Rattle.jack_types.specs.declared.ports.Mode.{Mode}
-use Rattle.jack_types.specs.declared.ports.Mode.TheVariants.{Capture, Playback}
-use Rattle.jack_types.specs.declared.ports.PortKind.{PortKind}
-use Rattle.jack_types.specs.declared.ports.PortKind.TheVariants.{Audio, Midi}
-use Rattle.jack_types.specs.declared.ports.Way.{Way}
-use Rattle.jack_types.specs.declared.ports.Way.TheVariants.{In, Out}
-use Rattle.jack_types.specs.declared.scripts.Body.{Body}
-use Rattle.jack_types.specs.declared.scripts.Body.TheVariants.{Do, Run, Freewheel, Lane, Period}
-use Rattle.jack_types.specs.declared.scripts.Header.{Header}
-use Rattle.session_model.specs.Grammar.{Slot, Word, Fixed, Numeral, SignedNumeral, Hexed, IsIntIn, IsKind, IsCommand, IsBody, IsHeader, kind_slots, command_slots, body_slots, way_word, type_word, mode_word, segment_after, open_segment, is_call, is_segment, is_period_line, slot_text}
-use Rattle.session_model.specs.Reports.{spaced, hex_byte}
+use Rattle.session_laws.specs.jack_types.specs.Names.{IsClientName, IsPortName, is_name_byte, is_colon, bad_byte, has_one_colon, client_part}
+use Rattle.session_laws.specs.jack_types.specs.declared.names.NameFault.{NameFault}
+use Rattle.session_laws.specs.jack_types.specs.declared.names.NameFault.TheVariants.{Empty, TooLong, NoColon, BadByte}
+use Rattle.session_laws.specs.jack_types.specs.declared.commands.Command.{Command}
+use Rattle.session_laws.specs.jack_types.specs.declared.commands.Command.TheVariants.{Open, Close, Activate, Deactivate, Register, Unregister, Connect, Disconnect, Start, Stop, Locate, Timeout, Slow, Timebase, TimebaseIf, Release, Latency}
+use Rattle.session_laws.specs.jack_types.specs.declared.kinds.Kind.{Kind}
+use Rattle.session_laws.specs.jack_types.specs.declared.kinds.Kind.TheVariants.{Pass, Gain, Mix, Delay, Tone, Click, Meter, Tape, Guest, Midiplay, Midithru, Midilog, Disk}
+use Rattle.session_laws.specs.jack_types.specs.declared.ports.Mode.{Mode}
+use Rattle.session_laws.specs.jack_types.specs.declared.ports.Mode.TheVariants.{Capture, Playback}
+use Rattle.session_laws.specs.jack_types.specs.declared.ports.PortKind.{PortKind}
+use Rattle.session_laws.specs.jack_types.specs.declared.ports.PortKind.TheVariants.{Audio, Midi}
+use Rattle.session_laws.specs.jack_types.specs.declared.ports.Way.{Way}
+use Rattle.session_laws.specs.jack_types.specs.declared.ports.Way.TheVariants.{In, Out}
+use Rattle.session_laws.specs.jack_types.specs.declared.scripts.Body.{Body}
+use Rattle.session_laws.specs.jack_types.specs.declared.scripts.Body.TheVariants.{Do, Run, Freewheel, Lane, Period}
+use Rattle.session_laws.specs.jack_types.specs.declared.scripts.Header.{Header}
+use Rattle.session_laws.specs.session_model.specs.Grammar.{Slot, Word, Fixed, Numeral, SignedNumeral, Hexed, IsIntIn, IsKind, IsCommand, IsBody, IsHeader, kind_slots, command_slots, body_slots, way_word, type_word, mode_word, segment_after, open_segment, is_call, is_segment, is_period_line, slot_text}
+use Rattle.session_laws.specs.session_model.specs.Reports.{spaced, hex_byte}
 use Rattle.session_laws.proofs.LoopLemmas.{and_parts, and_true}
 use Rattle.grammar_laws.proofs.GrammarBodies.{period_in}
 use Rattle.grammar_laws.proofs.GrammarLoops.{AreBodies}

@@ -5,9 +5,9 @@ use Rattle.std.specs.List.{list_all, AllByRecursion}
 use Rattle.std.proofs.lemmas.Int.{ints}
 use Rattle.std.proofs.lemmas.List.{length-append}
 use Rattle.std.proofs.lemmas.Fmt.{decimal_by_steps_wide, length-decimal-le_wide}
-use Rattle.session_model.specs.Grammar.{Slot, Word, Fixed, Numeral, SignedNumeral, Hexed, Fills, FillAll, LinesFill, IsNumeral, IsSignedNumeral, IsIntIn, is_digit, is_number, number_value, int_text, slot_text}
-use Rattle.session_model.specs.Reports.{spaced, line, hex_byte, hex_digit}
-use Rattle.session_model.specs.Texts.{with_byte, pieces, without_cr, is_blank, words, numbered, is_said}
+use Rattle.session_laws.specs.session_model.specs.Grammar.{Slot, Word, Fixed, Numeral, SignedNumeral, Hexed, Fills, FillAll, LinesFill, IsNumeral, IsSignedNumeral, IsIntIn, is_digit, is_number, number_value, int_text, slot_text}
+use Rattle.session_laws.specs.session_model.specs.Reports.{spaced, line, hex_byte, hex_digit}
+use Rattle.session_laws.specs.session_model.specs.Texts.{with_byte, pieces, without_cr, is_blank, words, numbered, is_said}
 use Rattle.session_laws.proofs.LoopLemmas.{and_parts, and_true}
 use Rattle.grammar_laws.proofs.GrammarEvents.{hex_digit-is}
 

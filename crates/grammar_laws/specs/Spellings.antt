@@ -1,9 +1,9 @@
 -- Bytes spell one script and have no fault, or have one fault and spell none.
 use Rattle.std.specs.Prelude.{◌≡◌, ℕ, List, Some, None}
-use Rattle.jack_types.specs.declared.scripts.ScriptFault.{ScriptFault}
-use Rattle.session_model.specs.Grammar.{Spells}
-use Rattle.session_model.specs.Reading.{script_fault}
-use Rattle.session_model.specs.Scripts.{Script}
+use Rattle.session_laws.specs.jack_types.specs.declared.scripts.ScriptFault.{ScriptFault}
+use Rattle.session_laws.specs.session_model.specs.Grammar.{Spells}
+use Rattle.session_laws.specs.session_model.specs.Reading.{script_fault}
+use Rattle.session_laws.specs.session_model.specs.Scripts.{Script}
 
 pub record HasScript (bytes : List ℕ) : Type 0 where
   pub script : Script

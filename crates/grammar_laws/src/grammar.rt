@@ -2,8 +2,8 @@
 
 ghost use Rattle.std.specs.Prelude.{◌≡◌, ◌⊎◌, ℕ, List};
 ghost use Rattle.grammar_laws.specs.Spellings.{HasScript, HasScriptFault};
-ghost use Rattle.session_model.specs.Grammar.{IsScript, Spells, script_text};
-ghost use Rattle.session_model.specs.Scripts.{Script};
+ghost use Rattle.session_laws.specs.session_model.specs.Grammar.{IsScript, Spells, script_text};
+ghost use Rattle.session_laws.specs.session_model.specs.Scripts.{Script};
 
 /// Bytes spell one script and have no fault, or have one fault and spell none.
 pub fn script_or_fault()

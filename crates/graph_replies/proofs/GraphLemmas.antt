@@ -39,8 +39,8 @@ use Rattle.session_laws.proofs.LoopLemmas.{Contains-first, Contains-later, or_ca
 use Rattle.session_laws.proofs.PlanLemmas.{find-one}
 use Rattle.session_laws.proofs.SoundLemmas.{Apart-same}
 use Rattle.session_laws.proofs.FilterLemmas.{find-map_after}
-use Rattle.port_registry.proofs.PlaceLemmas.{position-at, position-at-some, position-find, position-find_none}
-use Rattle.port_registry.specs.Registered.{IsPlaced, IsRegistered, Registered, has_name, is_named, node_for, open_client, system_node}
+use Rattle.cycle_plan.specs.port_registry.proofs.PlaceLemmas.{position-at, position-at-some, position-find, position-find_none}
+use Rattle.cycle_plan.specs.port_registry.specs.Registered.{IsPlaced, IsRegistered, Registered, has_name, is_named, node_for, open_client, system_node}
 use Rattle.latency_ranges.specs.Graphs.{IsGraph, IsStateOf, is_device, latencies_in}
 use Rattle.cycle_plan.specs.Graphs.{IsNetwork, Network, state_of}
 use Rattle.cycle_plan.proofs.NetworkLemmas.{client_named-is, same_node-placed}

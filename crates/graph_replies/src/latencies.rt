@@ -2,7 +2,7 @@
 
 ghost use Rattle.std.specs.Prelude.{◌≡◌, ◌≤◌, length, map, position, take};
 ghost use Rattle.std.specs.Vec.{vec_capacity};
-ghost use Rattle.port_registry.specs.Registered.{is_named};
+ghost use Rattle.cycle_plan.specs.port_registry.specs.Registered.{is_named};
 ghost use Rattle.session_model.specs.Latencies.{delay_of_kind};
 ghost use Rattle.cycle_plan.specs.Graphs.{IsNetwork, state_of};
 ghost use Rattle.latency_ranges.specs.Graphs.{latencies_in};

@@ -8,7 +8,7 @@ use lib.Seq.{set-get_or}
 use Rattle.atomic_table.specs.Table.{State, Me, step, keeps, Allows, Splits, Joins}
 use Rattle.atomic_table.proofs.Lists.{set_else}
 use Rattle.table_lemmas.proofs.Views.{each_set, at_snoc_last}
-use Rattle.jack_types.specs.declared.commands.Change.{Change}
+use Rattle.session_model.specs.jack_types.specs.declared.commands.Change.{Change}
 use Rattle.session_model.specs.Publication.{SeenPair}
 use Rattle.graph_word.specs.declared.plans.Base.{Base}
 use Rattle.graph_word.specs.declared.view.TakenRow.{TakenRow}

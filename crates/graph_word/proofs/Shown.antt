@@ -1,7 +1,7 @@
 -- What stands at every moment is a valid state of the publication machine.
 use Rattle.std.proofs.Common.{◌≡◌, ◌≤◌, List, [], ◌∷◌, ◌++◌, length, get_or, take, map, set, sym, refl, ◌∙◌, arith, length-set}
 use Rattle.std.proofs.lemmas.List.Elements.{All-map}
-use Rattle.jack_types.specs.declared.commands.Change.{Change}
+use Rattle.session_model.specs.jack_types.specs.declared.commands.Change.{Change}
 use Rattle.session_model.specs.Publication.{BegunRow, IsPublication, last_cycle, published}
 use Rattle.graph_word.specs.declared.view.TakenRow.{TakenRow}
 use Rattle.graph_word.specs.Publications.{last_row}

@@ -12,7 +12,7 @@ use lib.Seq.{set-get_or}
 use Rattle.atomic_table.specs.Seated.{TableId}
 use Rattle.atomic_table.specs.Table.{Me, step, keeps, gives, takes, chain, Allows}
 use Rattle.atomic_table.proofs.Lists.{set_here, set_else}
-use Rattle.jack_types.specs.declared.commands.Change.{Change}
+use Rattle.session_model.specs.jack_types.specs.declared.commands.Change.{Change}
 use Rattle.session_model.specs.Publication.{SeenPair}
 use Rattle.graph_word.specs.declared.plans.Base.{Base}
 use Rattle.graph_word.specs.declared.view.TakenRow.{TakenRow}

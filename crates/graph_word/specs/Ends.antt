@@ -1,7 +1,7 @@
 -- What the structs of the two ends keep, and what contracts see of them. No public clause cites this module.
 use Rattle.std.specs.Prelude.{◌≡◌, ◌<◌, true, false, List, [], ◌∷◌, length, None}
 use Rattle.atomic_table.specs.Seated.{TableId}
-use Rattle.jack_types.specs.declared.commands.Change.{Change}
+use Rattle.session_model.specs.jack_types.specs.declared.commands.Change.{Change}
 use Rattle.graph_word.specs.declared.plans.Base.{Base}
 use Rattle.graph_word.specs.declared.reader.Hold.{Hold}
 use Rattle.graph_word.specs.declared.view.PublisherView.{PublisherView}

@@ -12,4 +12,5 @@ pub use ends::{meet, publication};
 pub use plans::{Base, Numbered};
 pub use publisher::Publisher;
 pub use reader::Reader;
+pub use session_model::jack_types;
 pub use view::{PublisherView, ReaderView, Rules, SeatView, Seen, TakenRow};

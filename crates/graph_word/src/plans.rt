@@ -10,7 +10,7 @@ pub struct Base {
 /// A plan, which knows how many changes it has.
 pub trait Numbered: Drop {
     ghost use Rattle.std.specs.Prelude.{◌≡◌, List, length};
-    ghost use Rattle.jack_types.specs.declared.commands.Change.{Change};
+    ghost use Rattle.session_model.specs.jack_types.specs.declared.commands.Change.{Change};
     ghost use Rattle.graph_word.specs.declared.plans.Base.{Base};
 
     /// The channels that the plan was made for.

@@ -3,7 +3,7 @@
 //! The other two slots are out with the publisher and the reader, whose plans lie outside the table.
 use crate::plans::{Base, Numbered};
 use atomic_table::{Seat, Shared, Table, TableRule};
-use jack_types::Change;
+use session_model::jack_types::Change;
 use std::alloc::Global;
 use std::collections::LinkedList;
 use std::marker::{Model, PhantomData};

@@ -5,3 +5,4 @@ mod calls;
 mod progress;
 
 pub use calls::{LaneCalls, PlannedCall};
+pub use session_script;

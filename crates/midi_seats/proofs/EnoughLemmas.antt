@@ -16,8 +16,8 @@ use Rattle.session_laws.proofs.CycleLemmas.{filter-passes}
 use Rattle.session_laws.proofs.LoopLemmas.{Contains-first, Contains-later}
 use Rattle.session_laws.proofs.PlaceLemmas.{position-found}
 use Rattle.port_registry.specs.Registered.{open_clients}
-use Rattle.cycle_plan.specs.Plans.{IsPlanned, Planned, opening_of}
-use Rattle.driver_laws.specs.Keeping.{AreOfCalls}
+use Rattle.task_laws.specs.cycle_plan.specs.Plans.{IsPlanned, Planned, opening_of}
+use Rattle.task_laws.specs.driver_laws.specs.Keeping.{AreOfCalls}
 use Rattle.task_laws.specs.Calls.{AreOwners, HasOpened, open_kinds}
 use Rattle.task_laws.proofs.EnoughLemmas.{free-bench}
 use Rattle.midi_seats.specs.declared.seating.Owned.{Owned}

@@ -21,7 +21,7 @@ use Rattle.session_laws.proofs.CycleLemmas.{find-contains, player_not-system}
 use Rattle.session_laws.proofs.LoopLemmas.{Contains-cases, Contains-first, Contains-later}
 use Rattle.session_laws.proofs.PlaceLemmas.{filter-contains}
 use Rattle.port_registry.specs.Registered.{open_client, open_clients, system_entry}
-use Rattle.cycle_plan.specs.Plans.{IsPlanned, Planned, opening_of, state_of_plan}
+use Rattle.task_laws.specs.cycle_plan.specs.Plans.{IsPlanned, Planned, opening_of, state_of_plan}
 use Rattle.task_laws.specs.Calls.{HasOpened, kind_opened}
 use Rattle.task_laws.proofs.OpenedLemmas.{client-opened}
 use Rattle.midi_seats.specs.declared.seating.Owned.{Owned}

@@ -5,3 +5,5 @@ pub mod laws;
 pub mod seating;
 
 pub use seating::{NoBench, Owned, seat_all};
+pub use task_laws;
+pub use task_laws::driver_laws;

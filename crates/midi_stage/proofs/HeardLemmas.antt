@@ -18,7 +18,7 @@ use Rattle.session_model.specs.Kinds.{Memory, MidiPlayed, midi_play}
 use Rattle.session_model.specs.State.{OpenClient, system_client}
 use Rattle.session_laws.proofs.LoopLemmas.{Contains-cases, Contains-first, Contains-later}
 use Rattle.port_registry.specs.Registered.{open_client, open_clients, system_entry}
-use Rattle.cycle_plan.specs.Plans.{IsPlanned, Planned, state_of_plan}
+use Rattle.midi_wiring.specs.cycle_plan.specs.Plans.{IsPlanned, Planned, state_of_plan}
 use Rattle.midi_player.specs.Standings.{IsMidi, Standing}
 use Rattle.midi_wiring.specs.declared.joints.MidiGiven.{MidiGiven}
 use Rattle.midi_wiring.specs.Hearings.{AreCarried, HearsPlan, PlaysHeard, heard_by}

@@ -11,8 +11,8 @@ use Rattle.jack_types.specs.declared.kinds.Kind.{Kind}
 use Rattle.jack_types.specs.declared.kinds.Kind.TheVariants.{Pass, Gain, Mix, Delay, Tone, Click, Meter, Tape, Guest, Midiplay, Midithru, Midilog, Disk}
 use Rattle.session_laws.proofs.CycleLemmas.{filter-passes}
 use Rattle.session_model.specs.Scripts.{Script}
-use Rattle.cycle_plan.specs.Plans.{Planned}
-use Rattle.task_laws.specs.Calls.{open_kinds}
+use Rattle.midi_wiring.specs.cycle_plan.specs.Plans.{Planned}
+use Rattle.midi_seats.specs.task_laws.specs.Calls.{open_kinds}
 use Rattle.midi_player.specs.Standings.{IsMidi, Standing}
 use Rattle.midi_seats.specs.declared.seating.Owned.{Owned}
 use Rattle.midi_seats.specs.Owning.{AreKnown, IsFor, code_at, midi_kinds}

@@ -19,7 +19,7 @@ use Rattle.session_model.specs.Benches.{node_at, place_in}
 use Rattle.session_model.specs.Cycles.{player_born}
 use Rattle.session_model.specs.State.{OpenClient}
 use Rattle.port_registry.specs.Registered.{open_clients}
-use Rattle.cycle_plan.specs.Plans.{IsPlanned, Planned, state_of_plan}
+use Rattle.midi_wiring.specs.cycle_plan.specs.Plans.{IsPlanned, Planned, state_of_plan}
 use Rattle.midi_player.specs.Standings.{Standing}
 use Rattle.midi_seats.specs.declared.seating.Owned.{Owned}
 use Rattle.midi_seats.specs.Owning.{AreKnown, HaveSeats, IsShort}

@@ -10,7 +10,7 @@ use Rattle.jack_types.specs.declared.kinds.Kind.TheVariants.{Pass, Gain, Mix, De
 use Rattle.jack_types.specs.declared.moments.Moment.{Moment}
 use Rattle.session_model.specs.Benches.{node_at}
 use Rattle.port_registry.specs.Registered.{open_client, open_clients}
-use Rattle.cycle_plan.specs.Plans.{Planned}
+use Rattle.midi_wiring.specs.cycle_plan.specs.Plans.{Planned}
 use Rattle.midi_player.specs.Standings.{IsMidi, Standing}
 use Rattle.driver_words.specs.Hearings.{log_at}
 use Rattle.midi_wiring.specs.Wirings.{midi_wired_of}

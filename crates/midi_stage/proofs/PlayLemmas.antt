@@ -6,7 +6,7 @@ use Rattle.std.proofs.Math.ListN.{get_or-map}
 use Rattle.std.proofs.lemmas.List.{ext_get_or, length-map}
 use Rattle.jack_types.specs.declared.kinds.Kind.TheVariants.{Midithru}
 use Rattle.jack_types.specs.declared.moments.Moment.{Moment}
-use Rattle.cycle_plan.specs.Plans.{Planned}
+use Rattle.midi_wiring.specs.cycle_plan.specs.Plans.{Planned}
 use Rattle.midi_player.specs.Standings.{Standing}
 use Rattle.midi_wiring.specs.Wirings.{midi_wired_of}
 use Rattle.midi_stage.specs.Insides.{PlaysAll}

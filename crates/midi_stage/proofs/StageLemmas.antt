@@ -13,7 +13,7 @@ use Rattle.graph_word.specs.Publications.{IsFront}
 use Rattle.session_model.specs.Benches.{node_at}
 use Rattle.session_model.specs.Scripts.{Script}
 use Rattle.port_registry.specs.Registered.{open_clients}
-use Rattle.cycle_plan.specs.Plans.{IsPlanned, Planned}
+use Rattle.midi_wiring.specs.cycle_plan.specs.Plans.{IsPlanned, Planned}
 use Rattle.session_model.specs.Kinds.{Memory, MidiPlayed}
 use Rattle.midi_wiring.specs.Hearings.{HearsPlan, PlaysHeard, heard_by}
 use Rattle.driver_words.specs.Hearings.{Carried, listed_for}

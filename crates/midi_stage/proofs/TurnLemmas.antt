@@ -7,7 +7,7 @@ use Rattle.std.proofs.Math.Seq.{take-length}
 use Rattle.session_model.specs.Commands.{replay}
 use Rattle.session_model.specs.State.{OpenClient}
 use Rattle.port_registry.specs.Registered.{open_clients}
-use Rattle.cycle_plan.specs.Plans.{IsPlanned, Planned, nodes_of, opening_of, state_of_plan}
+use Rattle.midi_wiring.specs.cycle_plan.specs.Plans.{IsPlanned, Planned, nodes_of, opening_of, state_of_plan}
 use Rattle.midi_wiring.specs.Wirings.{midi_wired, midi_wired_of}
 use Rattle.midi_seats.specs.Owning.{AreKnown, HaveSeats, IsShort}
 use Rattle.midi_seats.specs.Seating.{SeatsAll, SeatsSome, owner_of}

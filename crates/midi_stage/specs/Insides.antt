@@ -11,7 +11,7 @@ use Rattle.jack_types.specs.declared.moments.Moment.{Moment}
 use Rattle.graph_word.specs.Publications.{IsFront}
 use Rattle.session_model.specs.Scripts.{Script}
 use Rattle.port_registry.specs.Registered.{open_clients}
-use Rattle.cycle_plan.specs.Plans.{IsPlanned, Planned}
+use Rattle.midi_wiring.specs.cycle_plan.specs.Plans.{IsPlanned, Planned}
 use Rattle.midi_player.specs.Standings.{Standing}
 use Rattle.driver_words.specs.Hearings.{Heard}
 use Rattle.midi_wiring.specs.Wirings.{midi_wired_of}

@@ -3,3 +3,9 @@ pub mod Openings
 pub mod Sounding
 pub mod Stages
 pub mod Standing
+pub use Rattle.midi_seats.specs.client_benches
+pub use Rattle.midi_wiring.specs.client_wiring
+pub use Rattle.midi_wiring.specs.cycle_plan
+pub use Rattle.midi_seats.specs.driver_laws
+pub use Rattle.midi_wiring
+pub use Rattle.midi_seats.specs.task_laws

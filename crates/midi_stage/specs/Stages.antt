@@ -8,7 +8,7 @@ use Rattle.jack_types.specs.declared.events.Event.{Event}
 use Rattle.jack_types.specs.declared.moments.Moment.{Moment}
 use Rattle.session_model.specs.Benches.{node_at}
 use Rattle.port_registry.specs.Registered.{open_clients}
-use Rattle.cycle_plan.specs.Plans.{Planned}
+use Rattle.midi_wiring.specs.cycle_plan.specs.Plans.{Planned}
 use Rattle.midi_player.specs.Standings.{IsMidi, Standing}
 use Rattle.midi_wiring.specs.declared.joints.MidiGiven.{MidiGiven}
 use Rattle.driver_words.specs.Hearings.{BornLog, Carried, Heard}

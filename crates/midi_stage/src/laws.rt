@@ -3,7 +3,7 @@
 ghost use Rattle.std.specs.Prelude.{ℕ};
 ghost use Rattle.jack_types.specs.declared.moments.Moment.{Moment as MomentValue};
 ghost use Rattle.session_model.specs.Scripts.{Script};
-ghost use Rattle.cycle_plan.specs.Plans.{IsPlanned, Planned};
+ghost use Rattle.midi_wiring.specs.cycle_plan.specs.Plans.{IsPlanned, Planned};
 ghost use Rattle.midi_wiring.specs.Hearings.{AreCarried, HearsPlan};
 ghost use Rattle.driver_words.specs.Hearings.{Heard};
 ghost use Rattle.midi_stage.specs.Stages.{IsSeating, MidiStaged, PlaysMidi, heard_in};

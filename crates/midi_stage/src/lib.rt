@@ -13,4 +13,8 @@ mod sounds;
 mod stage;
 mod turning;
 
+pub use midi_seats::{driver_laws, task_laws};
+pub use midi_wiring::cycle_plan;
+pub use script_needs;
+pub use script_needs::session_script;
 pub use stage::MidiStage;

@@ -17,7 +17,7 @@ use midi_seats::Owned;
 use midi_seats::seating::code_of;
 use midi_wiring::MidiWiring;
 use script_needs::open_kinds;
-use session_script::Script;
+use script_needs::session_script::Script;
 use std::alloc::Global;
 
 /// The greatest number of nodes.

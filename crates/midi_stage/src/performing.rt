@@ -2,7 +2,7 @@
 
 ghost use Rattle.std.specs.Prelude.{◌≡◌, ◌+◌, ◌<◌, ◌≤◌, ◌==◌, ◌^◌, [], ℕ, All, Some, length, slice_index_or, true, false};
 ghost use Rattle.port_registry.specs.Registered.{open_clients};
-ghost use Rattle.cycle_plan.specs.Plans.{Planned};
+ghost use Rattle.midi_wiring.specs.cycle_plan.specs.Plans.{Planned};
 ghost use Rattle.midi_player.specs.Standings.{IsLawful};
 ghost use Rattle.midi_seats.specs.Owning.{IsShort};
 ghost use Rattle.midi_seats.specs.Seating.{owner_of};
@@ -15,9 +15,9 @@ use crate::carrying::carry;
 use crate::cycling::play_nodes;
 use crate::parts::Parts;
 use crate::turning::{exchange, turn_to};
-use cycle_plan::Plan;
 use jack_types::{Logged, Moment};
 use midi_seats::seating::bench_owned;
+use midi_wiring::cycle_plan::Plan;
 use midi_wiring::laws::events_come_from_players;
 
 /// Plays the clients of a plan that have seats.

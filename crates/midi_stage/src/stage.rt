@@ -3,7 +3,7 @@
 ghost use Rattle.std.specs.Prelude.{◌≡◌, ◌+◌, ◌<◌, ◌≤◌, ◌^◌, ◌∷◌, [], ℕ, All, IfOk, None, length, true, false};
 ghost use Rattle.graph_word.specs.Publications.{IsFront};
 ghost use Rattle.port_registry.specs.Registered.{open_clients};
-ghost use Rattle.driver_laws.specs.Keeping.{AreOfCalls};
+ghost use Rattle.midi_seats.specs.driver_laws.specs.Keeping.{AreOfCalls};
 ghost use Rattle.midi_player.specs.Standings.{IsLawful};
 ghost use Rattle.midi_wiring.specs.Hearings.{HearsPlan};
 ghost use Rattle.driver_words.specs.Hearings.{log_at};
@@ -15,12 +15,12 @@ use crate::laws::a_stage_hears_its_plan;
 use crate::opening::make_parts;
 use crate::parts::Parts;
 use crate::performing::{log_of, perform};
-use cycle_plan::Plan;
 use jack_types::{Client, Logged, Memory, Moment};
 use midi_seats::laws::{a_scripts_clients_have_benches, owners_are_known};
 use midi_seats::seating::code_of;
+use midi_wiring::cycle_plan::Plan;
 use proof_notes::Log;
-use session_script::Script;
+use script_needs::session_script::Script;
 use std::alloc::Global;
 use std::marker::Model;
 

@@ -2,16 +2,16 @@
 
 ghost use Rattle.std.specs.Prelude.{◌≡◌, ◌≤◌, [], ℕ, List, Option, Some, length, true, false};
 ghost use Rattle.std.specs.Vec.{vec_capacity};
-ghost use Rattle.cycle_plan.specs.Plans.{Planned};
+ghost use Rattle.midi_wiring.specs.cycle_plan.specs.Plans.{Planned};
 ghost use Rattle.midi_seats.specs.Owning.{AreKnown};
 ghost use Rattle.midi_seats.specs.Seating.{SeatsAll, SeatsSome};
 ghost use Rattle.midi_stage.specs.Insides.{Exchanges, GoesOnFrom, Stands, TurnsTo, kinds_in};
 
 use crate::parts::Parts;
 use crate::sounds::Sounds;
-use cycle_plan::Plan;
 use midi_seats::laws::{a_plan_is_seated, owners_are_known};
 use midi_seats::{Owned, seat_all};
+use midi_wiring::cycle_plan::Plan;
 use std::mem;
 
 /// What was given becomes what was given in the last cycle. Feedback edges have it where the period is the same.

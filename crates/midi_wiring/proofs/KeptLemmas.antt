@@ -22,7 +22,7 @@ use Rattle.session_laws.proofs.PlaceLemmas.{filter-contains, filter-keeps, posit
 use Rattle.session_laws.proofs.PlanLemmas.{find-one}
 use Rattle.session_laws.proofs.SoundLemmas.{Apart-same}
 use Rattle.port_registry.specs.Registered.{open_client, open_clients}
-use Rattle.cycle_plan.specs.Plans.{IsPlanned, Planned, opening_of, state_of_plan}
+use Rattle.client_wiring.specs.cycle_plan.specs.Plans.{IsPlanned, Planned, opening_of, state_of_plan}
 use Rattle.client_wiring.specs.Keeping.{GoesOn}
 use Rattle.client_wiring.specs.Wirings.{source_birth}
 use Rattle.client_wiring.proofs.OverLemmas.{name-of_place}

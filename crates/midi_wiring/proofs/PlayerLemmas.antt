@@ -24,7 +24,7 @@ use Rattle.session_laws.proofs.LoopLemmas.{Contains-cases, Contains-first, Conta
 use Rattle.session_laws.proofs.PlaceLemmas.{filter-contains}
 use Rattle.session_laws.proofs.SoundLemmas.{contains-map, refused_not}
 use Rattle.port_registry.specs.Registered.{open_clients}
-use Rattle.cycle_plan.specs.Plans.{IsPlanned, Planned, state_of_plan}
+use Rattle.client_wiring.specs.cycle_plan.specs.Plans.{IsPlanned, Planned, state_of_plan}
 use Rattle.client_wiring.specs.Wirings.{source_birth}
 use Rattle.client_wiring.proofs.OverLemmas.{device_of_none}
 use Rattle.midi_wiring.specs.declared.joints.MidiFrom.TheVariants.{Played, Kept, Nothing}

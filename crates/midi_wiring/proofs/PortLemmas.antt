@@ -36,9 +36,9 @@ use Rattle.connection_set.specs.Connections.{IsIdOf, no_edge}
 use Rattle.feedback_edges.specs.Marking.{AreAmong, IsEndOf}
 use Rattle.feedback_edges.proofs.NameLemmas.{same_id_node-is}
 use Rattle.port_registry.specs.Registered.{IsRegistered, open_client, open_clients, system_entry}
-use Rattle.cycle_plan.specs.Graphs.{state_of}
-use Rattle.cycle_plan.specs.Plans.{IsPlanned, Planned, state_of_plan}
-use Rattle.cycle_plan.proofs.NetworkLemmas.{AreAmong-network, at_client, bool-same, fails}
+use Rattle.client_wiring.specs.cycle_plan.specs.Graphs.{state_of}
+use Rattle.client_wiring.specs.cycle_plan.specs.Plans.{IsPlanned, Planned, state_of_plan}
+use Rattle.client_wiring.specs.cycle_plan.proofs.NetworkLemmas.{AreAmong-network, at_client, bool-same, fails}
 use Rattle.client_wiring.specs.Tables.{node_place}
 use Rattle.midi_wiring.specs.declared.joints.MidiFrom.{MidiFrom}
 use Rattle.midi_wiring.specs.declared.joints.MidiWidths.{MidiWidths}

@@ -25,8 +25,8 @@ use Rattle.session_laws.proofs.PlanLemmas.{Distinct-from_Apart}
 use Rattle.session_laws.proofs.SoundLemmas.{Apart-filter, Apart-same}
 use Rattle.session_laws.proofs.WiredLemmas.{AreWired}
 use Rattle.port_registry.specs.Registered.{open_client, open_clients}
-use Rattle.cycle_plan.specs.Plans.{IsPlanned, Planned, state_of_plan}
-use Rattle.cycle_plan.proofs.NetworkLemmas.{bool-same, fails}
+use Rattle.client_wiring.specs.cycle_plan.specs.Plans.{IsPlanned, Planned, state_of_plan}
+use Rattle.client_wiring.specs.cycle_plan.proofs.NetworkLemmas.{bool-same, fails}
 use Rattle.client_wiring.specs.Wirings.{source_birth}
 use Rattle.client_wiring.proofs.OverLemmas.{device_of_none, name-of_place}
 use Rattle.client_wiring.proofs.PlaybackLemmas.{inside-plan, sound-plan, wired-plan}

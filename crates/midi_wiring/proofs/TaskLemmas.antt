@@ -12,7 +12,7 @@ use Rattle.session_model.specs.Cycles.{Settled, list_of}
 use Rattle.session_model.specs.Kinds.{midi_play}
 use Rattle.session_model.specs.State.{OpenClient}
 use Rattle.port_registry.specs.Registered.{open_clients}
-use Rattle.cycle_plan.specs.Plans.{IsPlanned, Planned, state_of_plan}
+use Rattle.client_wiring.specs.cycle_plan.specs.Plans.{IsPlanned, Planned, state_of_plan}
 use Rattle.client_wiring.specs.Wirings.{source_birth}
 use Rattle.midi_wiring.specs.Hearings.{AreCarried, HearsPlan}
 use Rattle.driver_words.specs.Hearings.{Carried, Heard, carried_at, listed_for}

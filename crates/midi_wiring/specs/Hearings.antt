@@ -16,7 +16,7 @@ use Rattle.session_model.specs.Samples.{below}
 use Rattle.session_model.specs.State.{OpenClient}
 use Rattle.driver_words.specs.Hearings.{Carried, Heard, carried_at, listed_for, log_at, played_at}
 use Rattle.port_registry.specs.Registered.{open_clients}
-use Rattle.cycle_plan.specs.Plans.{Planned}
+use Rattle.client_wiring.specs.cycle_plan.specs.Plans.{Planned}
 use Rattle.midi_wiring.specs.declared.joints.MidiFrom.{MidiFrom}
 use Rattle.midi_wiring.specs.declared.joints.MidiFrom.TheVariants.{Played, Kept, Nothing}
 use Rattle.midi_wiring.specs.declared.joints.MidiGiven.{MidiGiven}

@@ -10,7 +10,7 @@ use Rattle.session_model.specs.Driving.{kept_from}
 use Rattle.session_model.specs.Soundness.{IsEnd}
 use Rattle.session_model.specs.State.{Connection}
 use Rattle.port_registry.specs.Registered.{open_clients}
-use Rattle.cycle_plan.specs.Plans.{Planned, state_of_plan}
+use Rattle.client_wiring.specs.cycle_plan.specs.Plans.{Planned, state_of_plan}
 use Rattle.client_wiring.specs.Wirings.{source_birth}
 use Rattle.midi_wiring.specs.Hearings.{AreCarried}
 use Rattle.driver_words.specs.Hearings.{Heard, carried_at, played_at}

@@ -3,3 +3,5 @@ pub mod Hearings
 pub mod Keeping
 pub mod Setting
 pub mod Wirings
+pub use Rattle.client_wiring
+pub use Rattle.client_wiring.specs.cycle_plan

@@ -12,7 +12,7 @@ use Rattle.session_model.specs.Kinds.{Memory, MidiPlayed, midi_play}
 use Rattle.session_model.specs.Soundness.{IsEnd}
 use Rattle.session_model.specs.State.{Connection}
 use Rattle.port_registry.specs.Registered.{open_clients}
-use Rattle.cycle_plan.specs.Plans.{Planned, state_of_plan}
+use Rattle.client_wiring.specs.cycle_plan.specs.Plans.{Planned, state_of_plan}
 use Rattle.client_wiring.specs.Wirings.{source_birth}
 use Rattle.midi_wiring.specs.Hearings.{heard_by}
 use Rattle.driver_words.specs.Hearings.{Heard, carried_at, log_at, played_at}

@@ -12,7 +12,7 @@ use Rattle.session_model.specs.Commands.{is_audio, is_input}
 use Rattle.session_model.specs.Cycles.{midi_inputs, midi_outputs}
 use Rattle.session_model.specs.State.{Connection, OpenClient, OpenPort, State}
 use Rattle.port_registry.specs.Registered.{open_clients}
-use Rattle.cycle_plan.specs.Plans.{Planned, state_of_plan}
+use Rattle.client_wiring.specs.cycle_plan.specs.Plans.{Planned, state_of_plan}
 use Rattle.client_wiring.specs.Wirings.{source_birth}
 use Rattle.midi_wiring.specs.declared.joints.MidiFrom.{MidiFrom}
 use Rattle.midi_wiring.specs.declared.joints.MidiFrom.TheVariants.{Played, Kept, Nothing}

@@ -9,7 +9,7 @@ use crate::adding::put_some;
 use crate::ends::place_of;
 use crate::joints::MidiGiven;
 use crate::ports::way_of;
-use cycle_plan::Plan;
+use client_wiring::cycle_plan::Plan;
 use jack_types::{Client, Port, PortKind, Way};
 
 /// The MIDI output of a node that a port is, if it is one.

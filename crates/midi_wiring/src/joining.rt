@@ -9,7 +9,7 @@ use crate::adding::put_some;
 use crate::ends::place_of;
 use crate::joints::{MidiFrom, MidiJoint};
 use crate::ports::{count_midi, index_ports, place_at};
-use cycle_plan::Plan;
+use client_wiring::cycle_plan::Plan;
 use jack_types::{Client, Mark, Port, PortKind, Way};
 
 /// Where an edge from a port has its events from.

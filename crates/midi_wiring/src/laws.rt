@@ -5,7 +5,7 @@ ghost use Rattle.jack_types.specs.declared.moments.Moment.{Moment as MomentValue
 ghost use Rattle.session_model.specs.Benches.{Signal};
 ghost use Rattle.session_model.specs.Courses.{Course};
 ghost use Rattle.session_model.specs.Cycles.{Settled};
-ghost use Rattle.cycle_plan.specs.Plans.{IsPlanned, Planned, state_of_plan};
+ghost use Rattle.client_wiring.specs.cycle_plan.specs.Plans.{IsPlanned, Planned, state_of_plan};
 ghost use Rattle.client_wiring.specs.Keeping.{GoesOn};
 ghost use Rattle.midi_wiring.specs.declared.joints.MidiFrom.TheVariants.{Nothing, Played};
 ghost use Rattle.midi_wiring.specs.declared.joints.MidiGiven.{MidiGiven as GivenRecord};

@@ -10,5 +10,7 @@ pub mod laws;
 mod ports;
 pub mod wiring;
 
+pub use client_wiring;
+pub use client_wiring::cycle_plan;
 pub use joints::{MidiFrom, MidiGiven, MidiJoint, MidiWidths};
 pub use wiring::MidiWiring;

@@ -10,7 +10,7 @@ use crate::giving::give_outputs;
 use crate::joining::join_edges;
 use crate::joints::{MidiGiven, MidiJoint, MidiWidths};
 use crate::ports::count_midi;
-use cycle_plan::Plan;
+use client_wiring::cycle_plan::Plan;
 use feedback_edges::MOST_PORTS;
 use jack_types::{Client, Memory, Node, Port, Way};
 use std::alloc::Global;

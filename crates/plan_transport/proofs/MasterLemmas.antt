@@ -5,7 +5,7 @@ use Rattle.std.proofs.lemmas.Option.{none-some}
 use Rattle.session_model.specs.State.{Master}
 use Rattle.tempo_map.specs.declared.tempos.Tempo.{Tempo}
 use Rattle.transport.specs.Standings.{HasTempo}
-use Rattle.cycle_plan.specs.Graphs.{numbers_of, tempo_numbers}
+use Rattle.task_laws.specs.cycle_plan.specs.Graphs.{numbers_of, tempo_numbers}
 
 pub HasTempo-numbers : (master : Option Master) (tempo : Option Tempo) → tempo_numbers tempo ≡ numbers_of master → HasTempo master tempo
 HasTempo-numbers None None e = tt

@@ -11,7 +11,7 @@ use Rattle.session_model.specs.State.{OpenClient, State}
 use Rattle.session_model.specs.Transport.{Row, next_row, slow_numbers}
 use Rattle.transport.specs.Standings.{counted}
 use Rattle.port_registry.specs.Registered.{open_client, open_clients}
-use Rattle.cycle_plan.specs.Plans.{IsPlanned, Planned, state_of_plan}
+use Rattle.task_laws.specs.cycle_plan.specs.Plans.{IsPlanned, Planned, state_of_plan}
 use Rattle.plan_transport.specs.Slowness.{slow_of}
 use Rattle.plan_transport.proofs.RowLemmas.{next_row-permuted}
 

@@ -7,7 +7,7 @@ use Rattle.session_model.specs.Scripts.{Planned, Script, planned}
 use Rattle.session_laws.proofs.ListLemmas.{Each-weaker}
 use Rattle.transport.specs.Standings.{HasTarget, IsTarget}
 use Rattle.transport.proofs.TargetLemmas.{IsTarget-lawful}
-use Rattle.driver_laws.specs.Keeping.{AreOfCalls}
+use Rattle.task_laws.specs.driver_laws.specs.Keeping.{AreOfCalls}
 use Rattle.task_laws.proofs.CallLemmas.{changes-all, planned-lawful}
 use Rattle.task_laws.proofs.KindLemmas.{all-each}
 

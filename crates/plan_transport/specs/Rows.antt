@@ -3,7 +3,7 @@
 use Rattle.std.specs.Prelude.{ℕ, List}
 use Rattle.jack_types.specs.declared.commands.Change.{Change}
 use Rattle.session_model.specs.Transport.{Row, next_row, slow_numbers, timeout_of}
-use Rattle.cycle_plan.specs.Plans.{Planned, state_of_plan}
+use Rattle.task_laws.specs.cycle_plan.specs.Plans.{Planned, state_of_plan}
 use Rattle.transport.specs.Standings.{Standing}
 
 -- on the plan's slow numbers and its timeout, at the transport's rate

@@ -5,7 +5,7 @@ ghost use Rattle.jack_types.specs.declared.commands.Change.{Change as ChangeValu
 ghost use Rattle.session_model.specs.Grammar.{IsScript};
 ghost use Rattle.session_model.specs.Scripts.{Script};
 ghost use Rattle.transport.specs.Standings.{HasTarget};
-ghost use Rattle.driver_laws.specs.Keeping.{AreOfCalls};
+ghost use Rattle.task_laws.specs.driver_laws.specs.Keeping.{AreOfCalls};
 
 /// Each locate among changes that are calls of a script names a frame in its range; so do those that a cycle adopts.
 pub fn calls_have_targets()

@@ -9,4 +9,5 @@ mod transports;
 
 pub use laws::calls_have_targets;
 pub use stepping::step_by_plan;
+pub use task_laws::driver_laws;
 pub use transports::PlanTransport;

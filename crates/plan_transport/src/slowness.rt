@@ -3,8 +3,8 @@
 ghost use Rattle.std.specs.Prelude.{◌≡◌, ◌≤◌, length, take};
 ghost use Rattle.plan_transport.specs.Slowness.{slow_of};
 
-use cycle_plan::layout::MOST_CLIENTS;
 use jack_types::Client;
+use task_laws::cycle_plan::layout::MOST_CLIENTS;
 
 /// The slow numbers of the clients, in their order; behind them zeros, which are none.
 pub(crate) fn read_slow(clients: &[Client]) -> [u32; MOST_CLIENTS]

@@ -3,14 +3,14 @@
 ghost use Rattle.std.specs.Prelude.{◌≡◌, ◌+◌, ◌<◌, ◌≤◌, ◌^◌, All, drop};
 ghost use Rattle.session_model.specs.Transport.{active_master, next_row, shown, slow_numbers, timeout_of};
 ghost use Rattle.transport.specs.Standings.{HasTarget, with_targets};
-ghost use Rattle.cycle_plan.specs.Plans.{state_of_plan};
+ghost use Rattle.task_laws.specs.cycle_plan.specs.Plans.{state_of_plan};
 ghost use Rattle.plan_transport.specs.Rows.{row_by};
 
 use crate::adopting::adopted_from;
 use crate::slowness::read_slow;
 use crate::transports::PlanTransport;
-use cycle_plan::Plan;
 use jack_types::Moment;
+use task_laws::cycle_plan::Plan;
 
 /// Steps a transport to a cycle of a plan, and answers what it shows in it. It takes no memory.
 ///

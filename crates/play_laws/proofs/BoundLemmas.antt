@@ -17,17 +17,17 @@ use Rattle.session_laws.proofs.CycleLemmas.{bytes_same}
 use Rattle.session_laws.proofs.GraphLemmas.{route-audio}
 use Rattle.session_laws.proofs.ListLemmas.{Each-all, Each-contains, Each-from_contains}
 use Rattle.port_registry.specs.Registered.{open_clients}
-use Rattle.cycle_plan.specs.Plans.{IsPlanned, Planned, state_of_plan}
-use Rattle.client_wiring.specs.declared.joints.Given.{Given}
-use Rattle.client_wiring.specs.declared.joints.Joint.{Joint}
-use Rattle.client_wiring.specs.declared.joints.Origin.TheVariants.{Captured}
-use Rattle.client_wiring.specs.declared.joints.Widths.{Widths}
-use Rattle.client_wiring.specs.Wirings.{given_by, given_of, joint_into, joint_of, origin_from, source_place, widths_of, wired_of}
-use Rattle.client_wiring.proofs.OverLemmas.{device_of_none, name-of_place}
-use Rattle.client_wiring.proofs.PlaybackLemmas.{inside-plan, sound-plan, wired-plan}
-use Rattle.client_wiring.proofs.TaskLemmas.{edge-sound, input-listed, input-sound, place-index}
-use Rattle.client_tasks.specs.Tasks.{widths_at}
-use Rattle.task_laws.proofs.CallLemmas.{each-filter_map}
+use Rattle.event_laws.specs.cycle_plan.specs.Plans.{IsPlanned, Planned, state_of_plan}
+use Rattle.event_laws.specs.client_wiring.specs.declared.joints.Given.{Given}
+use Rattle.event_laws.specs.client_wiring.specs.declared.joints.Joint.{Joint}
+use Rattle.event_laws.specs.client_wiring.specs.declared.joints.Origin.TheVariants.{Captured}
+use Rattle.event_laws.specs.client_wiring.specs.declared.joints.Widths.{Widths}
+use Rattle.event_laws.specs.client_wiring.specs.Wirings.{given_by, given_of, joint_into, joint_of, origin_from, source_place, widths_of, wired_of}
+use Rattle.event_laws.specs.client_wiring.proofs.OverLemmas.{device_of_none, name-of_place}
+use Rattle.event_laws.specs.client_wiring.proofs.PlaybackLemmas.{inside-plan, sound-plan, wired-plan}
+use Rattle.event_laws.specs.client_wiring.proofs.TaskLemmas.{edge-sound, input-listed, input-sound, place-index}
+use Rattle.stage_laws.specs.client_tasks.specs.Tasks.{widths_at}
+use Rattle.stage_laws.specs.task_laws.proofs.CallLemmas.{each-filter_map}
 
 module _ (plan : Planned) (planned : IsPlanned plan) where
   abbrev state : State

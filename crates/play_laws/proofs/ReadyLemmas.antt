@@ -21,22 +21,22 @@ use Rattle.session_laws.proofs.ListLemmas.{Contains-filtered, filter-twice}
 use Rattle.session_laws.proofs.PlaceLemmas.{map-after, map-same}
 use Rattle.session_laws.proofs.SequentialLemmas.{Contains-below}
 use Rattle.port_registry.specs.Registered.{open_clients}
-use Rattle.cycle_plan.specs.Plans.{IsPlanned, Planned, state_of_plan}
-use Rattle.client_benches.specs.Routes.{route_of, routes_on}
-use Rattle.client_benches.specs.Seen.{Seen, task_in}
-use Rattle.client_benches.specs.Wires.{no_wire, part_in, parts_into, source_in, source_part, wire_at}
-use Rattle.client_benches.specs.declared.benches.Stint.{Stint}
-use Rattle.client_benches.specs.declared.values.Route.{Route}
-use Rattle.client_benches.specs.declared.wires.Wire.{Wire}
-use Rattle.client_tasks.specs.Tasks.{IsSet, first_like, is_same_channel, joint_at, route_to, routes_of, source_by, turn_of, widths_at, wire_by, wires_of}
-use Rattle.client_wiring.proofs.TaskLemmas.{SetsTasks-wired}
-use Rattle.client_wiring.specs.Wirings.{SetsTasks, Wired, carried_at, part_from, route_by, wired_of}
-use Rattle.client_wiring.specs.declared.joints.Carried.{Carried}
-use Rattle.client_wiring.specs.declared.joints.Joint.{Joint}
-use Rattle.client_wiring.specs.declared.joints.Origin.{Origin}
-use Rattle.client_wiring.specs.declared.joints.Origin.TheVariants.{Handed, Kept, Captured}
-use Rattle.client_wiring.specs.declared.joints.Output.{Output}
-use Rattle.client_wiring.specs.declared.joints.Output.TheVariants.{Audio, Midi}
+use Rattle.event_laws.specs.cycle_plan.specs.Plans.{IsPlanned, Planned, state_of_plan}
+use Rattle.event_laws.specs.client_benches.specs.Routes.{route_of, routes_on}
+use Rattle.event_laws.specs.client_benches.specs.Seen.{Seen, task_in}
+use Rattle.event_laws.specs.client_benches.specs.Wires.{no_wire, part_in, parts_into, source_in, source_part, wire_at}
+use Rattle.event_laws.specs.client_benches.specs.declared.benches.Stint.{Stint}
+use Rattle.event_laws.specs.client_benches.specs.declared.values.Route.{Route}
+use Rattle.event_laws.specs.client_benches.specs.declared.wires.Wire.{Wire}
+use Rattle.stage_laws.specs.client_tasks.specs.Tasks.{IsSet, first_like, is_same_channel, joint_at, route_to, routes_of, source_by, turn_of, widths_at, wire_by, wires_of}
+use Rattle.event_laws.specs.client_wiring.proofs.TaskLemmas.{SetsTasks-wired}
+use Rattle.event_laws.specs.client_wiring.specs.Wirings.{SetsTasks, Wired, carried_at, part_from, route_by, wired_of}
+use Rattle.event_laws.specs.client_wiring.specs.declared.joints.Carried.{Carried}
+use Rattle.event_laws.specs.client_wiring.specs.declared.joints.Joint.{Joint}
+use Rattle.event_laws.specs.client_wiring.specs.declared.joints.Origin.{Origin}
+use Rattle.event_laws.specs.client_wiring.specs.declared.joints.Origin.TheVariants.{Handed, Kept, Captured}
+use Rattle.event_laws.specs.client_wiring.specs.declared.joints.Output.{Output}
+use Rattle.event_laws.specs.client_wiring.specs.declared.joints.Output.TheVariants.{Audio, Midi}
 use Rattle.event_laws.specs.Crews.{KnowsAudio, routes_along, with_midi_of}
 use Rattle.event_laws.specs.Plain.{plain_route}
 use Rattle.play_laws.specs.Sources.{HasSource, HasSources}

@@ -16,17 +16,17 @@ use Rattle.client_kinds.specs.Scores.{Score}
 use Rattle.session_laws.proofs.CycleLemmas.{find-contains}
 use Rattle.port_registry.proofs.RegisteredLemmas.{find_none-fresh}
 use Rattle.port_registry.specs.Registered.{open_clients}
-use Rattle.cycle_plan.specs.Plans.{Planned, state_of_plan}
-use Rattle.client_wiring.specs.declared.joints.Given.{Given}
-use Rattle.client_wiring.specs.declared.joints.Joint.{Joint}
-use Rattle.client_wiring.specs.declared.joints.Origin.{Origin}
-use Rattle.client_wiring.specs.declared.joints.Origin.TheVariants.{Handed, Kept, Captured}
-use Rattle.client_wiring.specs.Keeping.{SetsFeedback, kept_audio}
-use Rattle.client_wiring.specs.Wirings.{output_name, wired_of}
-use Rattle.bench_rack.specs.Racks.{bench_at}
-use Rattle.client_seats.specs.Owners.{owner_at}
-use Rattle.client_tasks.specs.Fillings.{kept_at, known_by, last_from}
-use Rattle.client_tasks.specs.Tasks.{widths_at}
+use Rattle.event_laws.specs.cycle_plan.specs.Plans.{Planned, state_of_plan}
+use Rattle.event_laws.specs.client_wiring.specs.declared.joints.Given.{Given}
+use Rattle.event_laws.specs.client_wiring.specs.declared.joints.Joint.{Joint}
+use Rattle.event_laws.specs.client_wiring.specs.declared.joints.Origin.{Origin}
+use Rattle.event_laws.specs.client_wiring.specs.declared.joints.Origin.TheVariants.{Handed, Kept, Captured}
+use Rattle.event_laws.specs.client_wiring.specs.Keeping.{SetsFeedback, kept_audio}
+use Rattle.event_laws.specs.client_wiring.specs.Wirings.{output_name, wired_of}
+use Rattle.stage_laws.specs.bench_rack.specs.Racks.{bench_at}
+use Rattle.stage_laws.specs.client_seats.specs.Owners.{owner_at}
+use Rattle.stage_laws.specs.client_tasks.specs.Fillings.{kept_at, known_by, last_from}
+use Rattle.stage_laws.specs.client_tasks.specs.Tasks.{widths_at}
 use Rattle.driver_words.specs.Feeding.{Fed}
 use Rattle.driver_words.specs.Hearings.{Heard}
 use Rattle.stage_laws.specs.Casts.{Casts}

@@ -5,11 +5,11 @@ use Rattle.std.specs.Prelude.{◌≡◌, ℕ, ◌<◌, ⊤, List, length, ℤ}
 use Rattle.session_model.specs.Benches.{Known}
 use Rattle.session_model.specs.Cycles.{Settled}
 use Rattle.session_model.specs.State.{OpenClient}
-use Rattle.client_tasks.specs.Tasks.{joint_at}
-use Rattle.client_wiring.specs.Wirings.{part_from}
-use Rattle.client_wiring.specs.declared.joints.Joint.{Joint}
-use Rattle.client_wiring.specs.declared.joints.Origin.{Origin}
-use Rattle.client_wiring.specs.declared.joints.Origin.TheVariants.{Handed}
+use Rattle.stage_laws.specs.client_tasks.specs.Tasks.{joint_at}
+use Rattle.event_laws.specs.client_wiring.specs.Wirings.{part_from}
+use Rattle.event_laws.specs.client_wiring.specs.declared.joints.Joint.{Joint}
+use Rattle.event_laws.specs.client_wiring.specs.declared.joints.Origin.{Origin}
+use Rattle.event_laws.specs.client_wiring.specs.declared.joints.Origin.TheVariants.{Handed}
 
 -- what is handed over a link needs none
 abbrev pub HasSource : Settled → List OpenClient → Origin → List ℤ → Type 0

@@ -9,18 +9,18 @@ ghost use Rattle.session_model.specs.Kinds.{Sound};
 ghost use Rattle.session_model.specs.State.{system_name};
 ghost use Rattle.client_kinds.specs.Scores.{Score};
 ghost use Rattle.port_registry.specs.Registered.{open_clients};
-ghost use Rattle.cycle_plan.specs.Plans.{Planned, state_of_plan};
-ghost use Rattle.client_seats.specs.Seatings.{memory_of};
-ghost use Rattle.client_wiring.specs.Keeping.{GoesOn};
+ghost use Rattle.event_laws.specs.cycle_plan.specs.Plans.{Planned, state_of_plan};
+ghost use Rattle.stage_laws.specs.client_seats.specs.Seatings.{memory_of};
+ghost use Rattle.event_laws.specs.client_wiring.specs.Keeping.{GoesOn};
 ghost use Rattle.driver_words.specs.Feeding.{Fed};
 ghost use Rattle.driver_words.specs.Hearings.{Heard};
-ghost use Rattle.midi_wiring.specs.Hearings.{HearsPlan};
+ghost use Rattle.event_laws.specs.midi_wiring.specs.Hearings.{HearsPlan};
 ghost use Rattle.stage_laws.specs.Performances.{PerformsPlan};
 ghost use Rattle.stage_laws.specs.Stages.{Staged};
 ghost use Rattle.stage_laws.specs.Standing.{StandsOn};
 ghost use Rattle.play_laws.specs.Plays.{IsSettledOn, PlaysPlan};
 
-use client_wiring::laws::keeps_by_births;
+use event_laws::client_wiring::laws::keeps_by_births;
 use event_laws::laws::{
     a_crew_plays_what_is_heard, a_heard_task_is_its_clients, events_change_no_audio,
 };

@@ -14,14 +14,14 @@ use Rattle.session_laws.proofs.ActivationLemmas.{length-map_below}
 use Rattle.session_laws.proofs.CycleLemmas.{bytes_same}
 use Rattle.session_laws.proofs.GraphLemmas.{route-audio}
 use Rattle.port_registry.specs.Registered.{open_clients}
-use Rattle.cycle_plan.specs.Plans.{IsPlanned, Planned, state_of_plan}
-use Rattle.client_wiring.specs.declared.joints.Heard.{Heard}
-use Rattle.client_wiring.specs.declared.joints.Sound.TheVariants.{Captured}
-use Rattle.client_wiring.specs.Wirings.{heard_of, heard_on, sound_by, sound_of, source_place, wired_of}
-use Rattle.client_wiring.proofs.DeviceLemmas.{capture_ports}
-use Rattle.client_wiring.proofs.OverLemmas.{device_of_none}
-use Rattle.client_wiring.proofs.PlaybackLemmas.{inside-plan, sound-plan, wired-plan}
-use Rattle.client_wiring.proofs.TaskLemmas.{edge-sound, input-listed, input-sound, place-index}
+use Rattle.playback_mix.specs.cycle_plan.specs.Plans.{IsPlanned, Planned, state_of_plan}
+use Rattle.playback_mix.specs.client_wiring.specs.declared.joints.Heard.{Heard}
+use Rattle.playback_mix.specs.client_wiring.specs.declared.joints.Sound.TheVariants.{Captured}
+use Rattle.playback_mix.specs.client_wiring.specs.Wirings.{heard_of, heard_on, sound_by, sound_of, source_place, wired_of}
+use Rattle.playback_mix.specs.client_wiring.proofs.DeviceLemmas.{capture_ports}
+use Rattle.playback_mix.specs.client_wiring.proofs.OverLemmas.{device_of_none}
+use Rattle.playback_mix.specs.client_wiring.proofs.PlaybackLemmas.{inside-plan, sound-plan, wired-plan}
+use Rattle.playback_mix.specs.client_wiring.proofs.TaskLemmas.{edge-sound, input-listed, input-sound, place-index}
 use Rattle.playback_laws.proofs.ListLemmas.{Contains-made}
 
 module _ (plan : Planned) (planned : IsPlanned plan) where

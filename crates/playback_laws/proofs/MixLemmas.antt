@@ -10,14 +10,14 @@ use Rattle.session_model.specs.Samples.{below, mix, sample}
 use Rattle.session_model.specs.State.{Connection, playback_port}
 use Rattle.session_laws.proofs.PlaceLemmas.{map-after, mix-same}
 use Rattle.port_registry.specs.Registered.{open_clients}
-use Rattle.cycle_plan.specs.Plans.{IsPlanned, Planned, state_of_plan}
-use Rattle.client_benches.specs.Seen.{Seen, bench_in, new_bench}
-use Rattle.client_benches.proofs.SliceLemmas.{map_below-same}
-use Rattle.client_wiring.specs.declared.joints.Heard.{Heard}
-use Rattle.client_wiring.specs.declared.joints.Sound.{Sound}
-use Rattle.client_wiring.specs.declared.joints.Sound.TheVariants.{Played, Captured}
-use Rattle.client_wiring.specs.Wirings.{heard_at, sound_from, wired_of}
-use Rattle.client_wiring.proofs.PlaybackLemmas.{SetsPlayback-wired}
+use Rattle.playback_mix.specs.cycle_plan.specs.Plans.{IsPlanned, Planned, state_of_plan}
+use Rattle.playback_mix.specs.client_benches.specs.Seen.{Seen, bench_in, new_bench}
+use Rattle.playback_mix.specs.client_benches.proofs.SliceLemmas.{map_below-same}
+use Rattle.playback_mix.specs.client_wiring.specs.declared.joints.Heard.{Heard}
+use Rattle.playback_mix.specs.client_wiring.specs.declared.joints.Sound.{Sound}
+use Rattle.playback_mix.specs.client_wiring.specs.declared.joints.Sound.TheVariants.{Played, Captured}
+use Rattle.playback_mix.specs.client_wiring.specs.Wirings.{heard_at, sound_from, wired_of}
+use Rattle.playback_mix.specs.client_wiring.proofs.PlaybackLemmas.{SetsPlayback-wired}
 use Rattle.playback_mix.specs.Mixes.{channel_mix, sound_in}
 use Rattle.playback_laws.proofs.BoundLemmas.{heard-within}
 use Rattle.playback_laws.proofs.ListLemmas.{sample-lacking}

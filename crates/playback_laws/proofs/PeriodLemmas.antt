@@ -6,7 +6,7 @@ use Rattle.std.specs.Prelude.{replicate}
 use Rattle.std.proofs.lemmas.List.{get_or-replicate, length-replicate}
 use Rattle.session_model.specs.Samples.{below, sample, silence}
 use Rattle.session_laws.proofs.ActivationLemmas.{get_or-map_below, length-map_below}
-use Rattle.device_periods.specs.Captures.{Reads}
+use Rattle.playback_mix.specs.device_periods.specs.Captures.{Reads}
 
 module _ (left : List ℤ) (after : Option (List ℤ)) (channels : List (List ℤ)) (count frames : ℕ) (reads : Reads (Some left) after channels count frames) where
   pub as_many-read : length channels ≡ count

@@ -3,3 +3,6 @@
 
 pub mod mixes;
 pub mod periods;
+
+pub use playback_mix;
+pub use playback_mix::client_wiring;

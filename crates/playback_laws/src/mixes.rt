@@ -8,9 +8,9 @@ ghost use Rattle.session_model.specs.Kinds.{Sound};
 ghost use Rattle.session_model.specs.Samples.{below, mix};
 ghost use Rattle.session_model.specs.State.{Connection, playback_port};
 ghost use Rattle.port_registry.specs.Registered.{open_clients};
-ghost use Rattle.cycle_plan.specs.Plans.{IsPlanned, Planned, state_of_plan};
-ghost use Rattle.client_benches.specs.Seen.{Seen, bench_in, new_bench};
-ghost use Rattle.client_wiring.specs.Wirings.{wired_of};
+ghost use Rattle.playback_mix.specs.cycle_plan.specs.Plans.{IsPlanned, Planned, state_of_plan};
+ghost use Rattle.playback_mix.specs.client_benches.specs.Seen.{Seen, bench_in, new_bench};
+ghost use Rattle.playback_mix.specs.client_wiring.specs.Wirings.{wired_of};
 ghost use Rattle.playback_mix.specs.Mixes.{channel_mix};
 
 /// In a cycle of a plan's graph, each channel that is mixed is what the definitions give its playback port: the mix of what

@@ -2,7 +2,7 @@
 
 ghost use Rattle.std.specs.Prelude.{◌≡◌, ◌+◌, ◌*◌, ◌<◌, ℕ, ℤ, [], List, Option, Some, length, map, replicate, slice_index_or};
 ghost use Rattle.session_model.specs.Samples.{below, sample, silence};
-ghost use Rattle.device_periods.specs.Captures.{Reads};
+ghost use Rattle.playback_mix.specs.device_periods.specs.Captures.{Reads};
 
 /// A period that was read has as many channels as the capture, each with the next samples that are left, and zeros past their
 /// end; a period that was rested has as many, all silent.

@@ -6,3 +6,4 @@ mod channels;
 mod sounds;
 
 pub use block::Playback;
+pub use client_wiring;

@@ -14,7 +14,7 @@ use Rattle.std.proofs.lemmas.Bool.{ltb-false, ltb-true}
 use Rattle.std.proofs.lemmas.Int.{ints}
 use Rattle.std.proofs.lemmas.List.{append-nil, ext_get_or, get_or_past, get_or-set_other, get_or-set_same, length-replicate, length-take-le}
 use Rattle.std.proofs.lemmas.List.Sums.{fold-append}
-use Rattle.session_model.specs.Samples.{below, clamp, mix, sample, silence, total}
+use Rattle.session_laws.specs.session_model.specs.Samples.{below, clamp, mix, sample, silence, total}
 use Rattle.session_laws.proofs.ActivationLemmas.{length-map_below, get_or-map_below}
 use Rattle.session_laws.proofs.PlaceLemmas.{sample-silence}
 use Rattle.samples.specs.Sums.{IsSmall}

@@ -1,6 +1,6 @@
 -- The fields of a mixer, and what stays true of them.
 use Rattle.std.specs.Prelude.{◌≤◌, ◌==◌, ℕ, ℤ, List, if◌then◌else◌, length, take}
-use Rattle.session_model.specs.Samples.{silence}
+use Rattle.session_laws.specs.session_model.specs.Samples.{silence}
 use Rattle.port_mixer.specs.Sums.{AreSumsOf, Mix}
 use Rattle.port_mixer.specs.declared.mixing.Mixer.TheInside.{Inside}
 

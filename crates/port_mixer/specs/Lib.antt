@@ -1,2 +1,5 @@
 pub mod Insides
 pub mod Sums
+pub use Rattle.session_laws.specs.jack_types
+pub use Rattle.session_laws
+pub use Rattle.session_laws.specs.session_model

@@ -8,7 +8,7 @@
 --     AreSumsOf parts sums      each is a sum of so many samples
 use Rattle.std.specs.Prelude.{◌≡◌, ℕ, ◌+◌, ◌*◌, ◌^◌, List, ◌++◌, map, fold, length, ℤ, pos, ◌+ℤ◌, ◌-ℤ◌, ◌≤ℤ◌, FitsSigned}
 use Rattle.std.specs.Int.{w32}
-use Rattle.session_model.specs.Samples.{below, sample, total}
+use Rattle.session_laws.specs.session_model.specs.Samples.{below, sample, total}
 
 -- the room in frames, the sums, and how many parts are in them
 pub record Mix : Type 0 where

@@ -1,7 +1,7 @@
 //! Sums of four parts at once.
 
 ghost use Rattle.std.specs.Prelude.{◌≡◌, ℕ, ◌+◌, ◌<◌, ◌≤◌, ◌∷◌, [], pos, negsuc, ◌+ℤ◌, ◌≤ℤ◌, All, fold, length, take};
-ghost use Rattle.session_model.specs.Samples.{sample, silence, total};
+ghost use Rattle.session_laws.specs.session_model.specs.Samples.{sample, silence, total};
 ghost use Rattle.samples.specs.Sums.{IsSmall};
 ghost use Rattle.port_mixer.specs.Sums.{AreSamples, AreSumsOf, all_added};
 ghost use Rattle.port_mixer.specs.Insides.{sums_in};

@@ -1,13 +1,13 @@
 //! The mixer.
 
 ghost use Rattle.std.specs.Prelude.{◌≡◌, ℕ, ◌+◌, ◌<◌, ◌≤◌, ◌++◌, ◌∷◌, [], ℤ, List, All, IfOk, length, map, take};
-ghost use Rattle.session_model.specs.Samples.{clamp, mix, sample, silence};
+ghost use Rattle.session_laws.specs.session_model.specs.Samples.{clamp, mix, sample, silence};
 ghost use Rattle.port_mixer.specs.Sums.{AreSamples, AreSumsOf, GainsParts, added, sums_of, with_parts};
 ghost use Rattle.samples.specs.Sums.{IsSmall};
 ghost use Rattle.port_mixer.specs.Insides.{sums_in};
 
 use crate::fours::take_four;
-use jack_types::Memory;
+use session_laws::jack_types::Memory;
 use std::alloc::Global;
 use std::marker::Model;
 

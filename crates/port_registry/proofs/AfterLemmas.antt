@@ -1,24 +1,24 @@
 -- What each call makes of a registry is what the command makes of the state.
 use Rattle.std.proofs.Common.{◌≡◌, ℕ, Bool, true, false, cond, not, if◌then◌else◌, List, [], ◌∷◌, ◌++◌, map, filter, Option, Some, None, is_none, Result, Ok, Err, OnOk, OnErr, refl, sym, ◌∙◌, ap, subst}
 use Rattle.std.specs.Str.{bytes_eq}
-use Rattle.jack_types.specs.Names.{client_part}
-use Rattle.jack_types.specs.Ports.{way_flags}
-use Rattle.jack_types.specs.declared.commands.Command.{Command}
-use Rattle.jack_types.specs.declared.commands.Command.TheVariants.{Open, Close, Activate, Deactivate, Register, Unregister, Slow}
-use Rattle.jack_types.specs.declared.kinds.Kind.{Kind}
-use Rattle.jack_types.specs.declared.ports.Client.{Client}
-use Rattle.jack_types.specs.declared.ports.ClientId.{ClientId}
-use Rattle.jack_types.specs.declared.ports.Node.TheVariants.{Client as ClientNode}
-use Rattle.jack_types.specs.declared.ports.Port.{Port}
-use Rattle.jack_types.specs.declared.ports.PortFlags.{PortFlags}
-use Rattle.jack_types.specs.declared.ports.PortId.{PortId}
-use Rattle.jack_types.specs.declared.ports.PortKind.{PortKind}
-use Rattle.jack_types.specs.declared.ports.Way.{Way}
-use Rattle.jack_types.specs.declared.ports.Way.TheVariants.{In, Out}
-use Rattle.jack_types.specs.declared.replies.Refusal.{Refusal}
-use Rattle.session_model.specs.Commands.{effect, after, refusal}
-use Rattle.session_model.specs.Ids.{open_port, open_ports, way_of}
-use Rattle.session_model.specs.State.{State, OpenClient, OpenPort}
+use Rattle.session_laws.specs.jack_types.specs.Names.{client_part}
+use Rattle.session_laws.specs.jack_types.specs.Ports.{way_flags}
+use Rattle.session_laws.specs.jack_types.specs.declared.commands.Command.{Command}
+use Rattle.session_laws.specs.jack_types.specs.declared.commands.Command.TheVariants.{Open, Close, Activate, Deactivate, Register, Unregister, Slow}
+use Rattle.session_laws.specs.jack_types.specs.declared.kinds.Kind.{Kind}
+use Rattle.session_laws.specs.jack_types.specs.declared.ports.Client.{Client}
+use Rattle.session_laws.specs.jack_types.specs.declared.ports.ClientId.{ClientId}
+use Rattle.session_laws.specs.jack_types.specs.declared.ports.Node.TheVariants.{Client as ClientNode}
+use Rattle.session_laws.specs.jack_types.specs.declared.ports.Port.{Port}
+use Rattle.session_laws.specs.jack_types.specs.declared.ports.PortFlags.{PortFlags}
+use Rattle.session_laws.specs.jack_types.specs.declared.ports.PortId.{PortId}
+use Rattle.session_laws.specs.jack_types.specs.declared.ports.PortKind.{PortKind}
+use Rattle.session_laws.specs.jack_types.specs.declared.ports.Way.{Way}
+use Rattle.session_laws.specs.jack_types.specs.declared.ports.Way.TheVariants.{In, Out}
+use Rattle.session_laws.specs.jack_types.specs.declared.replies.Refusal.{Refusal}
+use Rattle.session_laws.specs.session_model.specs.Commands.{effect, after, refusal}
+use Rattle.session_laws.specs.session_model.specs.Ids.{open_port, open_ports, way_of}
+use Rattle.session_laws.specs.session_model.specs.State.{State, OpenClient, OpenPort}
 use Rattle.port_registry.specs.Registered.{Registered, open_client, open_clients, state_of, has_name, is_named, is_of, with_opened, without_client, with_active, with_slow, with_port, without_port, client_port}
 use Rattle.session_laws.proofs.FilterLemmas.{map-push, map-filter_after, map-changed, map-unchanged}
 

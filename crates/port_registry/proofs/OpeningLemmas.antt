@@ -4,17 +4,17 @@ use Rattle.std.specs.Fmt.{digits}
 use Rattle.std.specs.Str.{bytes_eq}
 use Rattle.std.proofs.lemmas.List.{append_assoc}
 use Rattle.std.proofs.lemmas.List.Sums.{count_by-le-length}
-use Rattle.jack_types.specs.Names.{client_part, port_name_fault, client_name_fault, IsPortName}
-use Rattle.jack_types.specs.declared.ports.Client.{Client}
-use Rattle.jack_types.specs.declared.ports.Port.{Port}
-use Rattle.jack_types.specs.declared.ports.PortId.{PortId}
-use Rattle.jack_types.specs.declared.ports.Way.{Way}
-use Rattle.jack_types.specs.declared.ports.Way.TheVariants.{In, Out}
-use Rattle.session_model.specs.Commands.{is_way}
-use Rattle.session_model.specs.Ids.{open_port, open_ports}
-use Rattle.session_model.specs.Samples.{below}
-use Rattle.session_model.specs.Soundness.{Apart}
-use Rattle.session_model.specs.State.{State, OpenPort, opening, capture_port, playback_port, system_name, system_client}
+use Rattle.session_laws.specs.jack_types.specs.Names.{client_part, port_name_fault, client_name_fault, IsPortName}
+use Rattle.session_laws.specs.jack_types.specs.declared.ports.Client.{Client}
+use Rattle.session_laws.specs.jack_types.specs.declared.ports.Port.{Port}
+use Rattle.session_laws.specs.jack_types.specs.declared.ports.PortId.{PortId}
+use Rattle.session_laws.specs.jack_types.specs.declared.ports.Way.{Way}
+use Rattle.session_laws.specs.jack_types.specs.declared.ports.Way.TheVariants.{In, Out}
+use Rattle.session_laws.specs.session_model.specs.Commands.{is_way}
+use Rattle.session_laws.specs.session_model.specs.Ids.{open_port, open_ports}
+use Rattle.session_laws.specs.session_model.specs.Samples.{below}
+use Rattle.session_laws.specs.session_model.specs.Soundness.{Apart}
+use Rattle.session_laws.specs.session_model.specs.State.{State, OpenPort, opening, capture_port, playback_port, system_name, system_client}
 use Rattle.session_laws.proofs.ListLemmas.{Each, Each-append, Each-map, Each-all, Each-contains}
 use Rattle.session_laws.proofs.LoopLemmas.{Contains-cases, Contains-later, Contains-first}
 use Rattle.session_laws.proofs.LoopFreeLemmas.{Contains-append_cases}

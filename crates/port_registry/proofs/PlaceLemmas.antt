@@ -5,7 +5,7 @@ use Rattle.std.proofs.lemmas.Bool.Decides.{nat_tests}
 use Rattle.std.proofs.lemmas.List.Folds.{find_at}
 use Rattle.std.proofs.lemmas.List.Quantifiers.{position-Some}
 use Rattle.std.proofs.lemmas.Option.{slice_get-get_or}
-use Rattle.session_model.specs.Soundness.{Apart}
+use Rattle.session_laws.specs.session_model.specs.Soundness.{Apart}
 use Rattle.session_laws.proofs.ListLemmas.{Each, filter-all}
 use Rattle.session_laws.proofs.LoopLemmas.{Contains-later, Contains-first}
 

@@ -3,20 +3,20 @@ use Rattle.std.proofs.Common.{◌≡◌, ℕ, zero, suc, ◌+◌, ◌-◌, ◌<�
 use Rattle.std.specs.Option.{option_map, option_map_or}
 use Rattle.std.specs.Str.{bytes_eq}
 use Rattle.std.proofs.lemmas.Bool.Decides.{nat_tests}
-use Rattle.jack_types.specs.Names.{client_part}
-use Rattle.jack_types.specs.declared.commands.Command.TheVariants.{Open, Close, Activate, Deactivate, Register, Unregister, Slow}
-use Rattle.jack_types.specs.declared.kinds.Kind.{Kind}
-use Rattle.jack_types.specs.declared.ports.Client.{Client}
-use Rattle.jack_types.specs.declared.ports.Port.{Port}
-use Rattle.jack_types.specs.declared.ports.PortId.{PortId}
-use Rattle.jack_types.specs.declared.ports.PortKind.{PortKind}
-use Rattle.jack_types.specs.declared.ports.Way.{Way}
-use Rattle.jack_types.specs.declared.replies.Refusal.{Refusal}
-use Rattle.jack_types.specs.declared.replies.Refusal.TheVariants.{NoClient, NoPort, IsOpen, IsSystem, NameTaken, AlreadyActive, NotActive, ClientsFull, PortsFull, InUse}
-use Rattle.session_model.specs.Commands.{refusal, refusals_of, applies, shares, is_way, ports_of}
-use Rattle.session_model.specs.Ids.{open_port, open_ports, port_with}
-use Rattle.session_model.specs.Soundness.{Apart}
-use Rattle.session_model.specs.State.{OpenClient, OpenPort, is_system, system_name, is_active_in, client_named, port_named}
+use Rattle.session_laws.specs.jack_types.specs.Names.{client_part}
+use Rattle.session_laws.specs.jack_types.specs.declared.commands.Command.TheVariants.{Open, Close, Activate, Deactivate, Register, Unregister, Slow}
+use Rattle.session_laws.specs.jack_types.specs.declared.kinds.Kind.{Kind}
+use Rattle.session_laws.specs.jack_types.specs.declared.ports.Client.{Client}
+use Rattle.session_laws.specs.jack_types.specs.declared.ports.Port.{Port}
+use Rattle.session_laws.specs.jack_types.specs.declared.ports.PortId.{PortId}
+use Rattle.session_laws.specs.jack_types.specs.declared.ports.PortKind.{PortKind}
+use Rattle.session_laws.specs.jack_types.specs.declared.ports.Way.{Way}
+use Rattle.session_laws.specs.jack_types.specs.declared.replies.Refusal.{Refusal}
+use Rattle.session_laws.specs.jack_types.specs.declared.replies.Refusal.TheVariants.{NoClient, NoPort, IsOpen, IsSystem, NameTaken, AlreadyActive, NotActive, ClientsFull, PortsFull, InUse}
+use Rattle.session_laws.specs.session_model.specs.Commands.{refusal, refusals_of, applies, shares, is_way, ports_of}
+use Rattle.session_laws.specs.session_model.specs.Ids.{open_port, open_ports, port_with}
+use Rattle.session_laws.specs.session_model.specs.Soundness.{Apart}
+use Rattle.session_laws.specs.session_model.specs.State.{OpenClient, OpenPort, is_system, system_name, is_active_in, client_named, port_named}
 use Rattle.session_laws.proofs.CycleLemmas.{bytes_same}
 use Rattle.session_laws.proofs.LoopLemmas.{Contains-cases, Contains-later, Contains-first}
 use Rattle.session_laws.proofs.PlaceLemmas.{filter-contains}

@@ -2,21 +2,21 @@
 use Rattle.std.proofs.Common.{◌≡◌, ℕ, zero, suc, ◌+◌, ◌<◌, ◌≤◌, Bool, true, false, cond, not, ◌&&◌, if◌then◌else◌, List, [], ◌∷◌, ◌++◌, length, map, filter, find, count_by, slice_get, Contains, Option, Some, None, is_some, ◌⊎◌, inl, inr, refl, sym, ◌∙◌, ap, subst, arith, true≢false, length-append}
 use Rattle.std.specs.Option.{option_map}
 use Rattle.std.specs.Str.{bytes_eq}
-use Rattle.jack_types.specs.Names.{client_part}
-use Rattle.jack_types.specs.declared.kinds.Kind.{Kind}
-use Rattle.jack_types.specs.declared.ports.Client.{Client}
-use Rattle.jack_types.specs.declared.ports.ClientId.{ClientId}
-use Rattle.jack_types.specs.declared.ports.Node.{Node}
-use Rattle.jack_types.specs.declared.ports.Node.TheVariants.{Client as ClientNode}
-use Rattle.jack_types.specs.declared.ports.Port.{Port}
-use Rattle.jack_types.specs.declared.ports.PortId.{PortId}
-use Rattle.jack_types.specs.declared.ports.PortKind.{PortKind}
-use Rattle.jack_types.specs.declared.ports.Way.{Way}
-use Rattle.jack_types.specs.declared.ports.Way.TheVariants.{In, Out}
-use Rattle.session_model.specs.Commands.{is_way}
-use Rattle.session_model.specs.Ids.{open_port, way_of}
-use Rattle.session_model.specs.Soundness.{Apart}
-use Rattle.session_model.specs.State.{is_system, system_name}
+use Rattle.session_laws.specs.jack_types.specs.Names.{client_part}
+use Rattle.session_laws.specs.jack_types.specs.declared.kinds.Kind.{Kind}
+use Rattle.session_laws.specs.jack_types.specs.declared.ports.Client.{Client}
+use Rattle.session_laws.specs.jack_types.specs.declared.ports.ClientId.{ClientId}
+use Rattle.session_laws.specs.jack_types.specs.declared.ports.Node.{Node}
+use Rattle.session_laws.specs.jack_types.specs.declared.ports.Node.TheVariants.{Client as ClientNode}
+use Rattle.session_laws.specs.jack_types.specs.declared.ports.Port.{Port}
+use Rattle.session_laws.specs.jack_types.specs.declared.ports.PortId.{PortId}
+use Rattle.session_laws.specs.jack_types.specs.declared.ports.PortKind.{PortKind}
+use Rattle.session_laws.specs.jack_types.specs.declared.ports.Way.{Way}
+use Rattle.session_laws.specs.jack_types.specs.declared.ports.Way.TheVariants.{In, Out}
+use Rattle.session_laws.specs.session_model.specs.Commands.{is_way}
+use Rattle.session_laws.specs.session_model.specs.Ids.{open_port, way_of}
+use Rattle.session_laws.specs.session_model.specs.Soundness.{Apart}
+use Rattle.session_laws.specs.session_model.specs.State.{is_system, system_name}
 use Rattle.session_laws.proofs.CycleLemmas.{bytes_same}
 use Rattle.session_laws.proofs.LoopLemmas.{Contains-cases, Contains-later, Contains-first}
 use Rattle.session_laws.proofs.LoopFreeLemmas.{Contains-append_cases, Contains-append_left, Contains-append_right}

@@ -2,20 +2,20 @@
 use Rattle.std.proofs.Common.{◌≡◌, ℕ, suc, cond, ◌+◌, ◌<◌, ◌≤◌, Bool, true, false, not, if◌then◌else◌, List, [], ◌∷◌, ◌++◌, length, map, filter, find, fold, position, remove, set, slice_get, get_or, count_by, Contains, Option, Some, None, refl, sym, ◌∙◌, ap, ap₂, subst, arith}
 use Rattle.arrayvec.specs.ArrayVec.{ArrayVec}
 use Rattle.std.proofs.lemmas.Option.{slice_get-get_or, get_or_from_slice_get}
-use Rattle.jack_types.specs.Names.{client_part}
-use Rattle.jack_types.specs.declared.commands.Command.TheVariants.{Open, Close, Register}
-use Rattle.jack_types.specs.declared.kinds.Kind.{Kind}
-use Rattle.jack_types.specs.declared.ports.Client.{Client}
-use Rattle.jack_types.specs.declared.ports.ClientId.{ClientId}
-use Rattle.jack_types.specs.declared.ports.Port.{Port}
-use Rattle.jack_types.specs.declared.ports.PortId.{PortId}
-use Rattle.jack_types.specs.declared.ports.PortKind.{PortKind}
-use Rattle.jack_types.specs.declared.ports.Way.{Way}
-use Rattle.jack_types.specs.declared.ports.Way.TheVariants.{In, Out}
-use Rattle.session_model.specs.Commands.{refusal, is_way, is_input}
-use Rattle.session_model.specs.Ids.{open_port}
-use Rattle.session_model.specs.Soundness.{Apart}
-use Rattle.session_model.specs.State.{is_system}
+use Rattle.session_laws.specs.jack_types.specs.Names.{client_part}
+use Rattle.session_laws.specs.jack_types.specs.declared.commands.Command.TheVariants.{Open, Close, Register}
+use Rattle.session_laws.specs.jack_types.specs.declared.kinds.Kind.{Kind}
+use Rattle.session_laws.specs.jack_types.specs.declared.ports.Client.{Client}
+use Rattle.session_laws.specs.jack_types.specs.declared.ports.ClientId.{ClientId}
+use Rattle.session_laws.specs.jack_types.specs.declared.ports.Port.{Port}
+use Rattle.session_laws.specs.jack_types.specs.declared.ports.PortId.{PortId}
+use Rattle.session_laws.specs.jack_types.specs.declared.ports.PortKind.{PortKind}
+use Rattle.session_laws.specs.jack_types.specs.declared.ports.Way.{Way}
+use Rattle.session_laws.specs.jack_types.specs.declared.ports.Way.TheVariants.{In, Out}
+use Rattle.session_laws.specs.session_model.specs.Commands.{refusal, is_way, is_input}
+use Rattle.session_laws.specs.session_model.specs.Ids.{open_port}
+use Rattle.session_laws.specs.session_model.specs.Soundness.{Apart}
+use Rattle.session_laws.specs.session_model.specs.State.{is_system}
 use Rattle.session_laws.proofs.CycleLemmas.{bytes_same}
 use Rattle.session_laws.proofs.LoopLemmas.{Contains-first}
 use Rattle.session_laws.proofs.PlaceLemmas.{filter-contains}

@@ -4,9 +4,9 @@ use Rattle.std.proofs.Common.{length-append}
 use Rattle.std.proofs.lemmas.Bool.{cases_eq}
 use Rattle.std.proofs.lemmas.Bool.Decides.{nat_tests}
 use Rattle.slab.specs.Slab.{Slab, get, slab_len, Updates}
-use Rattle.jack_types.specs.declared.ports.Port.{Port}
-use Rattle.jack_types.specs.declared.ports.PortId.{PortId}
-use Rattle.session_model.specs.Soundness.{Apart}
+use Rattle.session_laws.specs.jack_types.specs.declared.ports.Port.{Port}
+use Rattle.session_laws.specs.jack_types.specs.declared.ports.PortId.{PortId}
+use Rattle.session_laws.specs.session_model.specs.Soundness.{Apart}
 use Rattle.session_laws.proofs.SoundLemmas.{Apart-filter}
 use Rattle.port_registry.specs.Listings.{bears, without_id, with_id_active, IsTable}
 use Rattle.port_registry.proofs.PlaceLemmas.{some_same, none_some, slice_get-below, slice_get-push, slice_get-remove, position-only, position-none, remove-filter, filter-none_passes, set-map, map-none_passes, IsOnlyAt, Apart-placed, Apart-place}

@@ -3,9 +3,9 @@
 --     AnswersExactly refusal result      the same of a call that takes no memory
 --     IsMemory result      there was no memory
 use Rattle.std.specs.Prelude.{◌≡◌, Option, Some, None, Result, Ok, Err}
-use Rattle.jack_types.specs.declared.replies.No.{No}
-use Rattle.jack_types.specs.declared.replies.No.TheVariants.{Refused, Memory}
-use Rattle.jack_types.specs.declared.replies.Refusal.{Refusal}
+use Rattle.session_laws.specs.jack_types.specs.declared.replies.No.{No}
+use Rattle.session_laws.specs.jack_types.specs.declared.replies.No.TheVariants.{Refused, Memory}
+use Rattle.session_laws.specs.jack_types.specs.declared.replies.Refusal.{Refusal}
 
 abbrev pub Answers : {T : Type 0} → Option Refusal → Result T No → Type 0
 Answers refusal (Ok _) = refusal ≡ None

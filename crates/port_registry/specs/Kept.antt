@@ -5,11 +5,11 @@
 --     IsKept clients lists ..      what is true of a registry's fields
 use Rattle.std.specs.Prelude.{◌≡◌, ◌≤◌, ◌<◌, ◌+◌, ℕ, List, map, filter, length, Contains}
 use Rattle.arrayvec.specs.ArrayVec.{ArrayVec}
-use Rattle.jack_types.specs.declared.ports.Client.{Client}
-use Rattle.jack_types.specs.declared.ports.Port.{Port}
+use Rattle.session_laws.specs.jack_types.specs.declared.ports.Client.{Client}
+use Rattle.session_laws.specs.jack_types.specs.declared.ports.Port.{Port}
 use Rattle.port_registry.specs.Listings.{Listing, ids_of}
 use Rattle.port_registry.specs.Registered.{Registered, IsRegistered, is_of}
-use Rattle.session_model.specs.Soundness.{Apart}
+use Rattle.session_laws.specs.session_model.specs.Soundness.{Apart}
 
 abbrev pub ids_in : List Port → Client → List ℕ
 ids_in ports client = ids_of (filter (is_of client.name) ports)

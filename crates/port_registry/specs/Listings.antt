@@ -9,11 +9,11 @@ use Rattle.std.specs.Prelude.{◌≡◌, ◌<◌, ℕ, Bool, false, ◌==◌, no
 use Rattle.std.specs.Option.{option_map_or}
 use Rattle.std.specs.Str.{bytes_eq}
 use Rattle.slab.specs.Slab.{Slab, get, slab_len}
-use Rattle.jack_types.specs.declared.ports.Port.{Port}
-use Rattle.jack_types.specs.declared.ports.PortId.{PortId}
-use Rattle.jack_types.specs.declared.ports.Way.{Way}
-use Rattle.session_model.specs.Commands.{is_way}
-use Rattle.session_model.specs.Ids.{port_with, open_port}
+use Rattle.session_laws.specs.jack_types.specs.declared.ports.Port.{Port}
+use Rattle.session_laws.specs.jack_types.specs.declared.ports.PortId.{PortId}
+use Rattle.session_laws.specs.jack_types.specs.declared.ports.Way.{Way}
+use Rattle.session_laws.specs.session_model.specs.Commands.{is_way}
+use Rattle.session_laws.specs.session_model.specs.Ids.{port_with, open_port}
 
 pub record Listing : Type 0 where
   pub ports : List Port

@@ -8,25 +8,25 @@
 use Rattle.std.specs.Prelude.{◌≡◌, ◌≤◌, ◌<◌, ℕ, Bool, true, false, not, ◌&&◌, List, [], ◌∷◌, ◌++◌, map, filter, find, length, count_by, Contains, Option, Some, None, if◌then◌else◌}
 use Rattle.std.specs.List.Sorted.{IsNonDecreasingBy}
 use Rattle.std.specs.Str.{bytes_eq}
-use Rattle.jack_types.specs.Names.{client_part}
-use Rattle.jack_types.specs.Ports.{way_flags}
-use Rattle.jack_types.specs.declared.kinds.Kind.{Kind}
-use Rattle.jack_types.specs.declared.kinds.Kind.TheVariants.{Pass}
-use Rattle.jack_types.specs.declared.ports.Client.{Client}
-use Rattle.jack_types.specs.declared.ports.ClientId.{ClientId}
-use Rattle.jack_types.specs.declared.ports.Node.{Node}
-use Rattle.jack_types.specs.declared.ports.Node.TheVariants.{Capture, Playback, Client as ClientNode}
-use Rattle.jack_types.specs.declared.ports.Port.{Port}
-use Rattle.jack_types.specs.declared.ports.PortId.{PortId}
-use Rattle.jack_types.specs.declared.ports.PortKind.{PortKind}
-use Rattle.jack_types.specs.declared.ports.PortKind.TheVariants.{Audio}
-use Rattle.jack_types.specs.declared.ports.Way.{Way}
-use Rattle.jack_types.specs.declared.ports.Way.TheVariants.{In, Out}
-use Rattle.session_model.specs.Commands.{is_way}
-use Rattle.session_model.specs.Ids.{open_ports, open_port, way_of}
-use Rattle.session_model.specs.Soundness.{Apart}
-use Rattle.session_model.specs.Samples.{below}
-use Rattle.session_model.specs.State.{State, OpenClient, OpenPort, capture_port, playback_port, is_system, system_name}
+use Rattle.session_laws.specs.jack_types.specs.Names.{client_part}
+use Rattle.session_laws.specs.jack_types.specs.Ports.{way_flags}
+use Rattle.session_laws.specs.jack_types.specs.declared.kinds.Kind.{Kind}
+use Rattle.session_laws.specs.jack_types.specs.declared.kinds.Kind.TheVariants.{Pass}
+use Rattle.session_laws.specs.jack_types.specs.declared.ports.Client.{Client}
+use Rattle.session_laws.specs.jack_types.specs.declared.ports.ClientId.{ClientId}
+use Rattle.session_laws.specs.jack_types.specs.declared.ports.Node.{Node}
+use Rattle.session_laws.specs.jack_types.specs.declared.ports.Node.TheVariants.{Capture, Playback, Client as ClientNode}
+use Rattle.session_laws.specs.jack_types.specs.declared.ports.Port.{Port}
+use Rattle.session_laws.specs.jack_types.specs.declared.ports.PortId.{PortId}
+use Rattle.session_laws.specs.jack_types.specs.declared.ports.PortKind.{PortKind}
+use Rattle.session_laws.specs.jack_types.specs.declared.ports.PortKind.TheVariants.{Audio}
+use Rattle.session_laws.specs.jack_types.specs.declared.ports.Way.{Way}
+use Rattle.session_laws.specs.jack_types.specs.declared.ports.Way.TheVariants.{In, Out}
+use Rattle.session_laws.specs.session_model.specs.Commands.{is_way}
+use Rattle.session_laws.specs.session_model.specs.Ids.{open_ports, open_port, way_of}
+use Rattle.session_laws.specs.session_model.specs.Soundness.{Apart}
+use Rattle.session_laws.specs.session_model.specs.Samples.{below}
+use Rattle.session_laws.specs.session_model.specs.State.{State, OpenClient, OpenPort, capture_port, playback_port, is_system, system_name}
 
 pub record Registered : Type 0 where
   pub clients : List Client

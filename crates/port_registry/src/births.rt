@@ -1,7 +1,7 @@
 //! In which order ports stand.
 
 ghost use Rattle.std.specs.Prelude.{◌≡◌, ◌≤◌, ℕ, Bool, Contains, List, map};
-ghost use Rattle.jack_types.specs.declared.ports.Port.{Port as PortValue};
+ghost use Rattle.session_laws.specs.jack_types.specs.declared.ports.Port.{Port as PortValue};
 ghost use Rattle.port_registry.specs.Registered.{AreInOrder, Registered, system_ports, unlisted, with_active, with_port, without_client, without_port};
 
 /// Ports stand in order of birth, where each is registered under a number that no birth before is above: those of

@@ -1,16 +1,16 @@
 //! Clients as they open and close, become active and slow.
 
 ghost use Rattle.std.specs.Prelude.{◌≡◌, ◌≤◌, ◌<◌, ℕ, false, true, position, length, is_some, IfOk, OnOk, OnErr, IsOk};
-ghost use Rattle.jack_types.specs.declared.ports.Client.{Client as ClientValue};
-ghost use Rattle.jack_types.specs.declared.commands.Command.TheVariants.{Open, Close, Activate, Deactivate, Slow};
-ghost use Rattle.session_model.specs.Commands.{after, refusal, shares};
-ghost use Rattle.session_model.specs.State.{is_system as names_system};
+ghost use Rattle.session_laws.specs.jack_types.specs.declared.ports.Client.{Client as ClientValue};
+ghost use Rattle.session_laws.specs.jack_types.specs.declared.commands.Command.TheVariants.{Open, Close, Activate, Deactivate, Slow};
+ghost use Rattle.session_laws.specs.session_model.specs.Commands.{after, refusal, shares};
+ghost use Rattle.session_laws.specs.session_model.specs.State.{is_system as names_system};
 ghost use Rattle.port_registry.specs.Answers.{Answers, AnswersExactly, IsMemory};
 ghost use Rattle.port_registry.specs.Registered.{IsRegistered, has_name, state_of, with_active, with_opened, with_slow, without_client};
 
 use crate::registries::Registry;
 use arrayvec::ArrayVec;
-use jack_types::{Client, ClientId, ClientName, Kind, Memory, No, Refusal};
+use session_laws::jack_types::{Client, ClientId, ClientName, Kind, Memory, No, Refusal};
 
 /// Whether it is the name of the client that is always open.
 pub(crate) fn is_system(name: &ClientName) -> bool

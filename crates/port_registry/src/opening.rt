@@ -1,15 +1,15 @@
 //! The registry before any client opens: `system`, with its ports.
 
 ghost use Rattle.std.specs.Prelude.{◌≡◌, ◌≤◌, ◌<◌, ◌+◌, ◌++◌, ◌∷◌, [], codes, decimal, length, map, IfOk, OnOk};
-ghost use Rattle.session_model.specs.Samples.{below};
-ghost use Rattle.session_model.specs.State.{opening};
+ghost use Rattle.session_laws.specs.session_model.specs.Samples.{below};
+ghost use Rattle.session_laws.specs.session_model.specs.State.{opening};
 ghost use Rattle.port_registry.specs.Kept.{AreFree, IsListed};
 ghost use Rattle.port_registry.specs.Registered.{IsRegistered, state_of, system_entry, system_port, system_ports, unlisted};
 
 use crate::registries::Registry;
 use crate::tables::PortTable;
 use arrayvec::ArrayVec;
-use jack_types::{
+use session_laws::jack_types::{
     Client, ClientId, ClientName, Kind, Memory, Node, Port, PortFlags, PortId, PortKind, PortName,
     Way,
 };

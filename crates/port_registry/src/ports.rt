@@ -1,18 +1,20 @@
 //! Ports as clients register them and take them away.
 
 ghost use Rattle.std.specs.Prelude.{◌≡◌, ◌<◌, ℕ, false, position, filter, length, None, Some, IfOk, OnOk, OnErr, IsOk};
-ghost use Rattle.jack_types.specs.Names.{client_part};
-ghost use Rattle.jack_types.specs.declared.commands.Command.TheVariants.{Register, Unregister};
-ghost use Rattle.jack_types.specs.declared.ports.Client.{Client as ClientValue};
-ghost use Rattle.jack_types.specs.declared.ports.PortKind.{PortKind as PortKindValue};
-ghost use Rattle.session_model.specs.Commands.{after, refusal};
-ghost use Rattle.session_model.specs.State.{is_system as names_system};
+ghost use Rattle.session_laws.specs.jack_types.specs.Names.{client_part};
+ghost use Rattle.session_laws.specs.jack_types.specs.declared.commands.Command.TheVariants.{Register, Unregister};
+ghost use Rattle.session_laws.specs.jack_types.specs.declared.ports.Client.{Client as ClientValue};
+ghost use Rattle.session_laws.specs.jack_types.specs.declared.ports.PortKind.{PortKind as PortKindValue};
+ghost use Rattle.session_laws.specs.session_model.specs.Commands.{after, refusal};
+ghost use Rattle.session_laws.specs.session_model.specs.State.{is_system as names_system};
 ghost use Rattle.port_registry.specs.Answers.{Answers, AnswersExactly, IsMemory};
 ghost use Rattle.port_registry.specs.Registered.{IsRegistered, client_by, client_port, has_name, is_named, is_of, state_of, with_port, without_port};
 
 use crate::clients::is_system;
 use crate::registries::Registry;
-use jack_types::{Memory, No, Node, Port, PortFlags, PortId, PortKind, PortName, Refusal, Way};
+use session_laws::jack_types::{
+    Memory, No, Node, Port, PortFlags, PortId, PortKind, PortName, Refusal, Way,
+};
 
 impl Registry {
     /// Registers a port of a client, under the number of the change that registers it. Refused where there is no

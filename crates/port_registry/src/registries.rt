@@ -5,7 +5,7 @@ ghost use Rattle.port_registry.specs.Registered.{client_by, port_by, has_name, I
 
 use crate::tables::{PortIter, PortTable};
 use arrayvec::ArrayVec;
-use jack_types::{Client, ClientName, Memory, Port, PortId, PortName};
+use session_laws::jack_types::{Client, ClientName, Memory, Port, PortId, PortName};
 use std::marker::Model;
 
 /// The open clients, in order of opening, and their ports, in order of birth.

@@ -1,14 +1,14 @@
 //! Ports in order of birth, each under an id that it keeps.
 
 ghost use Rattle.std.specs.Prelude.{◌≡◌, ◌≤◌, ◌<◌, [], ◌∷◌, ◌++◌, count_by, fold, length, position, slice_get, IfOk, OnOk, OnErr, IsOk, IsSome, ℕ, option_copied};
-ghost use Rattle.jack_types.specs.declared.ports.Port.{Port as PortValue};
-ghost use Rattle.session_model.specs.Ids.{port_with, way_of as way_of_port};
-ghost use Rattle.session_model.specs.Soundness.{Apart};
+ghost use Rattle.session_laws.specs.jack_types.specs.declared.ports.Port.{Port as PortValue};
+ghost use Rattle.session_laws.specs.session_model.specs.Ids.{port_with, way_of as way_of_port};
+ghost use Rattle.session_laws.specs.session_model.specs.Soundness.{Apart};
 ghost use Rattle.port_registry.specs.Listings.{bears, bears_name, has_way, without_id, without_number, with_id_active, with_number_active};
 ghost use Rattle.slab.specs.Slab.{get, slab_len, ContainsKey, Updates};
 
 use bitflags::Flags;
-use jack_types::{Memory, Port, PortId, PortName, Way};
+use session_laws::jack_types::{Memory, Port, PortId, PortName, Way};
 use slab::Slab;
 use std::alloc::Global;
 use std::marker::Model;
@@ -240,7 +240,7 @@ pub struct PortIter<'a> {
 
 impl<'a> Model for PortIter<'a> {
     ghost use Rattle.std.specs.Prelude.{List};
-    ghost use Rattle.jack_types.specs.declared.ports.Port.{Port};
+    ghost use Rattle.session_laws.specs.jack_types.specs.declared.ports.Port.{Port};
 
     ghost Value = { List Port };
 

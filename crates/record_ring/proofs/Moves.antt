@@ -5,7 +5,7 @@ use mathlib.Core.Option.{Option, some}
 use lib.ListN.{get_elem?}
 use Rattle.atomic_table.specs.Table.{State, Act, Valid, carried_after, stepped}
 use Rattle.table_lemmas.proofs.Views.{each_set}
-use Rattle.session_model.specs.Rings.{RingBlock, IsRing}
+use Rattle.driver_words.specs.session_model.specs.Rings.{RingBlock, IsRing}
 use Rattle.record_ring.specs.declared.block.Block.{Block}
 use Rattle.record_ring.specs.declared.view.Size.{Size}
 use Rattle.record_ring.specs.declared.view.ProducerView.{ProducerView}

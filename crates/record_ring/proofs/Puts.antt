@@ -12,7 +12,7 @@ use lib.ListN.{get_elem?}
 use Rattle.atomic_table.specs.Table.{step, keeps, takes, gives, Allows}
 use Rattle.atomic_table.proofs.Lists.{set_here, at_longer, at_last}
 use Rattle.table_lemmas.proofs.Slots.{apart, stays_at}
-use Rattle.session_model.specs.Rings.{RingBlock}
+use Rattle.driver_words.specs.session_model.specs.Rings.{RingBlock}
 use Rattle.record_ring.specs.declared.block.Block.{Block}
 use Rattle.record_ring.specs.declared.view.Size.{Size}
 use Rattle.record_ring.specs.declared.view.ProducerView.{ProducerView}

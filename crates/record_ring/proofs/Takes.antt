@@ -14,7 +14,7 @@ use Rattle.atomic_table.specs.Table.{step, stepped, keeps, takes, gives, Allows}
 use Rattle.atomic_table.proofs.Lists.{set_here}
 use Rattle.table_lemmas.proofs.Readings.{get_at}
 use Rattle.table_lemmas.proofs.Slots.{apart, stays_at}
-use Rattle.session_model.specs.Rings.{RingBlock}
+use Rattle.driver_words.specs.session_model.specs.Rings.{RingBlock}
 use Rattle.record_ring.specs.declared.block.Block.{Block}
 use Rattle.record_ring.specs.declared.view.Size.{Size}
 use Rattle.record_ring.specs.declared.view.ConsumerView.{ConsumerView}

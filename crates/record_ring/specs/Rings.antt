@@ -2,7 +2,7 @@
 --     content block      a block without its room
 --     Gets      what a get does
 use Rattle.std.specs.Prelude.{◌≡◌, ℕ, ◌≤◌, ◌<◌, true, false, [], ◌∷◌, ◌++◌, length}
-use Rattle.session_model.specs.Rings.{RingBlock}
+use Rattle.driver_words.specs.session_model.specs.Rings.{RingBlock}
 use Rattle.driver_words.specs.Rings.{Getting}
 use Rattle.record_ring.specs.declared.block.Block.{Block as Held}
 use Rattle.record_ring.specs.declared.consumer.Got.{Got}

@@ -4,7 +4,7 @@ use Rattle.std.specs.Prelude.{◌≡◌, ℕ, ◌+◌, ◌*◌, ◌%◌, ◌<◌
 use mathlib.Core.Option.{some}
 use lib.ListN.{get_elem?}
 use Rattle.atomic_table.specs.Table.{State}
-use Rattle.session_model.specs.Rings.{RingBlock, Ring, IsRing}
+use Rattle.driver_words.specs.session_model.specs.Rings.{RingBlock, Ring, IsRing}
 use Rattle.record_ring.specs.declared.block.Block.{Block}
 use Rattle.record_ring.specs.declared.view.Size.{Size}
 use Rattle.record_ring.specs.declared.view.ProducerView.{ProducerView}

@@ -1,7 +1,7 @@
 -- What each step on a ring's table tells the seat that makes it. No public clause cites this module.
 use Rattle.std.specs.Prelude.{◌≡◌, ℕ, ◌+◌, ◌/◌, ◌%◌, ◌<◌, ◌≤◌, Bool, true, false, List, [], ◌∷◌, ◌++◌, length, take, All}
 use Rattle.atomic_table.specs.Table.{Me, Step, rest}
-use Rattle.session_model.specs.Rings.{RingBlock}
+use Rattle.driver_words.specs.session_model.specs.Rings.{RingBlock}
 use Rattle.record_ring.specs.declared.block.Block.{Block}
 use Rattle.record_ring.specs.declared.view.ProducerView.{ProducerView}
 use Rattle.record_ring.specs.declared.view.ConsumerView.{ConsumerView}

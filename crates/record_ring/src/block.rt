@@ -35,7 +35,7 @@ pub struct Content {
 }
 
 impl Model for Content {
-    ghost use Rattle.session_model.specs.Rings.{RingBlock};
+    ghost use Rattle.driver_words.specs.session_model.specs.Rings.{RingBlock};
 
     ghost Value = { RingBlock };
 

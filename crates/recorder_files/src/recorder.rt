@@ -5,6 +5,7 @@ ghost use Rattle.jack_host.specs.Causes.{HasCause};
 ghost use Rattle.jack_host.specs.Told.{BothTold};
 ghost use Rattle.disk_recorder.specs.Recordings.{Drains, Fails, MayWrite, Serves};
 
+use disk_recorder::wave_write::WaveOut;
 use disk_recorder::{drain, serve};
 use jack_host::{Gate, Store, WriteFailed};
 use jack_types::{Format, Memory};
@@ -12,7 +13,6 @@ use record_ring::{Block, Consumer, Producer, renew};
 use std::alloc::Global;
 use std::marker::Model;
 use std::sync::Wait;
-use wave_write::WaveOut;
 
 // Writes blocks of a ring into a file, at most so many.
 fn write<W: Store>(

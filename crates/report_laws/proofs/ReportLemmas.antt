@@ -11,8 +11,8 @@ use Rattle.session_model.specs.Reports.{Report, report_lines}
 use Rattle.session_model.specs.Scripts.{Script}
 use Rattle.session_laws.proofs.ListLemmas.{Each-append, map-take}
 use Rattle.session_laws.proofs.SerialLossLemmas.{All-from_each}
-use Rattle.check_laws.proofs.SameLemmas.{Each-from_all}
-use Rattle.check_laws.proofs.StateFits.{Each-take}
+use Rattle.report_reader.specs.check_laws.proofs.SameLemmas.{Each-from_all}
+use Rattle.report_reader.specs.check_laws.proofs.StateFits.{Each-take}
 use Rattle.report_reader.proofs.RowLemmas.{form-rows, rows-form, rows-printed}
 use Rattle.report_reader.specs.Forms.{IsLineForm, line_text}
 use Rattle.report_reader.specs.Reports.{report_rows}

@@ -7,7 +7,7 @@ use Rattle.std.proofs.lemmas.List.{map-append}
 use Rattle.session_model.specs.Scripts.{Script}
 use Rattle.session_laws.proofs.ListLemmas.{Each, Each-append, slice-some}
 use Rattle.session_laws.proofs.SerialLossLemmas.{All-from_each}
-use Rattle.check_laws.proofs.SameLemmas.{Each-from_all}
+use Rattle.report_reader.specs.check_laws.proofs.SameLemmas.{Each-from_all}
 use Rattle.report_reader.proofs.LineLemmas.{same-line}
 use Rattle.report_reader.proofs.RowLemmas.{Each-split}
 use Rattle.report_reader.specs.Forms.{IsLineForm, line_text}

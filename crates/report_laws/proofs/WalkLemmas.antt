@@ -10,7 +10,7 @@ use Rattle.jack_types.specs.declared.replies.Underrun.{Underrun}
 use Rattle.session_model.specs.Reports.{Report, PrintedCall, PrintedCycle, PrintedMeter, PrintedEvent, PrintedRecorder, PrintedDisk}
 use Rattle.session_model.specs.Scripts.{Script}
 use Rattle.session_laws.proofs.ListLemmas.{Each, Each-weaker}
-use Rattle.check_laws.proofs.SameLemmas.{Each-from_all}
+use Rattle.report_reader.specs.check_laws.proofs.SameLemmas.{Each-from_all}
 use Rattle.report_reader.specs.Reports.{IsPlaced, IsPlacedRecorder, IsPlacedDisk, call_row, cycle_row, disk_rows, event_row, meter_row, overrun_row, recorder_rows, report_rows, underrun_row}
 use Rattle.report_reader.specs.declared.rows.Line.{Line}
 use Rattle.report_reader.specs.declared.rows.Line.TheVariants.{Report as ReportLine, Call, Cycle, Meter, Midi, Recorder, Overrun as OverrunLine, Disk, Underrun as UnderrunLine, End}

@@ -6,3 +6,4 @@ mod places;
 mod walking;
 
 pub use places::{Limits, Place};
+pub use report_reader;

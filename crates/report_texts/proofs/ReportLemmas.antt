@@ -16,8 +16,8 @@ use Rattle.jack_types.specs.declared.replies.Refusal.TheVariants.{NoClient, NoPo
 use Rattle.jack_types.specs.declared.replies.Reply.{Reply}
 use Rattle.jack_types.specs.declared.replies.Reply.TheVariants.{Accepted, Refused, Latency}
 use Rattle.jack_types.specs.declared.replies.Underrun.{Underrun}
-use Rattle.session_model.specs.Events.{event_bytes}
-use Rattle.session_model.specs.Reports.{spaced, line, reply_words, PrintedCall, PrintedCycle, PrintedMeter, PrintedEvent, PrintedRecorder, PrintedDisk, Report, call_line, cycle_line, meter_line, event_line, overrun_line, recorder_lines, underrun_line, disk_lines, report_lines, state_name, bbt_word, hex_byte}
+use Rattle.session_laws.specs.session_model.specs.Events.{event_bytes}
+use Rattle.session_laws.specs.session_model.specs.Reports.{spaced, line, reply_words, PrintedCall, PrintedCycle, PrintedMeter, PrintedEvent, PrintedRecorder, PrintedDisk, Report, call_line, cycle_line, meter_line, event_line, overrun_line, recorder_lines, underrun_line, disk_lines, report_lines, state_name, bbt_word, hex_byte}
 use Rattle.jack_types.specs.Refusals.{refusal_number, refusal_name}
 use Rattle.session_laws.proofs.LoopLemmas.{and_parts}
 use Rattle.session_laws.proofs.ListLemmas.{Each, Each-weaker, Each-all, Each-append, Each-map, Each-flat_map, filter-all, filter-none}

@@ -20,17 +20,17 @@ use Rattle.jack_types.specs.declared.replies.Reply.TheVariants.{Accepted, Refuse
 use Rattle.jack_types.specs.declared.scripts.Body.{Body}
 use Rattle.jack_types.specs.declared.scripts.Body.TheVariants.{Do, Run, Freewheel, Lane, Period}
 use Rattle.jack_types.specs.declared.scripts.Header.{Header}
-use Rattle.session_model.specs.Courses.{Course, DiskFile, number, underruns_of, played_before, is_disk_active, is_underrun}
-use Rattle.session_model.specs.Disks.{Played, IsMissed}
-use Rattle.session_model.specs.Explanations.{Given, Printed, Written, Explained, course_of, overruns_of}
-use Rattle.session_model.specs.Grammar.{IsScript, IsCommand, is_call, all_cycles}
-use Rattle.session_model.specs.Histories.{Legal, Cycles, KeepsReplies, accepted, accepted_below, calls_of, change_of, plan_of, stage_of, state_after}
-use Rattle.session_model.specs.Kinds.{Sound}
-use Rattle.session_model.specs.Recorders.{Lost, IsOverrun, kept_before, is_taping, is_lost}
-use Rattle.session_model.specs.Replies.{reply}
-use Rattle.session_model.specs.Reports.{PrintedCycle, PrintedMeter, PrintedEvent, PrintedRecorder, PrintedDisk, Report, report_of, report_text, printed_call, printed_cycle, printed_recorder, printed_disk, meters_by, events_by, last_log}
-use Rattle.session_model.specs.Samples.{below}
-use Rattle.session_model.specs.Scripts.{Script, Phase, LaneCall, Planned, Uncounted, ScriptCycle, phases, phases_of, lane_calls, with_do, planned, planned_of, turns, turns_from, uncounted, counted}
+use Rattle.session_laws.specs.session_model.specs.Courses.{Course, DiskFile, number, underruns_of, played_before, is_disk_active, is_underrun}
+use Rattle.session_laws.specs.session_model.specs.Disks.{Played, IsMissed}
+use Rattle.session_laws.specs.session_model.specs.Explanations.{Given, Printed, Written, Explained, course_of, overruns_of}
+use Rattle.session_laws.specs.session_model.specs.Grammar.{IsScript, IsCommand, is_call, all_cycles}
+use Rattle.session_laws.specs.session_model.specs.Histories.{Legal, Cycles, KeepsReplies, accepted, accepted_below, calls_of, change_of, plan_of, stage_of, state_after}
+use Rattle.session_laws.specs.session_model.specs.Kinds.{Sound}
+use Rattle.session_laws.specs.session_model.specs.Recorders.{Lost, IsOverrun, kept_before, is_taping, is_lost}
+use Rattle.session_laws.specs.session_model.specs.Replies.{reply}
+use Rattle.session_laws.specs.session_model.specs.Reports.{PrintedCycle, PrintedMeter, PrintedEvent, PrintedRecorder, PrintedDisk, Report, report_of, report_text, printed_call, printed_cycle, printed_recorder, printed_disk, meters_by, events_by, last_log}
+use Rattle.session_laws.specs.session_model.specs.Samples.{below}
+use Rattle.session_laws.specs.session_model.specs.Scripts.{Script, Phase, LaneCall, Planned, Uncounted, ScriptCycle, phases, phases_of, lane_calls, with_do, planned, planned_of, turns, turns_from, uncounted, counted}
 use Rattle.session_laws.proofs.ActivationLemmas.{get_or-map_below, length-map_below, length-below}
 use Rattle.session_laws.proofs.ListLemmas.{Each, Each-weaker, Each-both, Each-append, Each-map, Each-flat_map, Each-below, Each-contains, Each-from_contains, Contains-kept, Contains-filtered, Contains-map}
 use Rattle.report_texts.proofs.ReportLemmas.{IsReadable, IsSmallCall, IsSmallOverrun, IsSmallUnderrun, SaysSame, Report-same, place_of_call}

@@ -1,8 +1,8 @@
 //! Laws of reports.
 
 ghost use Rattle.std.specs.Prelude.{◌≡◌};
-ghost use Rattle.session_model.specs.Explanations.{Explained, Given, Printed, Written};
-ghost use Rattle.session_model.specs.Grammar.{IsScript};
+ghost use Rattle.session_laws.specs.session_model.specs.Explanations.{Explained, Given, Printed, Written};
+ghost use Rattle.session_laws.specs.session_model.specs.Grammar.{IsScript};
 
 /// One report is explained by one history, with one list of numbers, of overruns and of underruns.
 pub fn one_report_one_history()

@@ -8,7 +8,7 @@ use Rattle.std.specs.Int.RustNames.{FitsSigned}
 use lib.Dec.{eqb}
 use lib.Lanes.{Each1, chunk, put_chunk, top, number_l, digits_l}
 use lib.Signed.{lt_z, shr_z}
-use Rattle.session_model.specs.Samples.{clamp}
+use Rattle.wave_laws.specs.session_model.specs.Samples.{clamp}
 
 -- ---- one lane
 

@@ -5,7 +5,7 @@ use Rattle.std.proofs.lemmas.Bool.{ltb-true, ltb-false}
 use lib.Lanes.{Each1, chunk, put_chunk, pick_l, number_l, digits_l}
 use Rattle.std.proofs.lemmas.List.{get_or_append_left, get_or-append_right, get_or-map}
 use Rattle.std.proofs.lemmas.Simd.{get_or_wider, below_from_Fits, chunk-fits, get_or-chunk, length-chunk, get_or-put_chunk_at, get_or-put_chunk_below}
-use Rattle.session_model.specs.Samples.{up, stored, signed}
+use Rattle.wave_laws.specs.session_model.specs.Samples.{up, stored, signed}
 use Rattle.samples.proofs.ScalingLemmas.{front_4}
 
 -- ---- sixteen bytes of a list, and zeros behind them

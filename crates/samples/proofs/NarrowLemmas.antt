@@ -10,7 +10,7 @@ use Rattle.std.specs.Int.{bytes_low_first}
 use Rattle.std.specs.Int.RustNames.{FitsSigned}
 use lib.Bits.{bit_xor}
 use lib.Lanes.{Each1, zip2, chunk, put_chunk, number_l, digits_l}
-use Rattle.session_model.specs.Samples.{down, unsigned, storing, bytes_of}
+use Rattle.wave_laws.specs.session_model.specs.Samples.{down, unsigned, storing, bytes_of}
 use Rattle.samples.proofs.ByteLemmas.{low_byte, high_byte}
 
 -- ---- a block behind the bytes that are done

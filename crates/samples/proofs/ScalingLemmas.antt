@@ -3,7 +3,7 @@ use Rattle.std.proofs.Common.{◌≡◌, ℕ, ◌+◌, ◌-◌, ◌*◌, ◌/◌
 use Rattle.std.specs.Prelude.{slice_range}
 use Rattle.std.proofs.lemmas.List.{ext_get_or, drop_more}
 use Rattle.std.proofs.lemmas.Nat.{div-mul-add}
-use Rattle.session_model.specs.Samples.{up, width, stored, samples_of}
+use Rattle.wave_laws.specs.session_model.specs.Samples.{up, width, stored, samples_of}
 use Rattle.wave_laws.proofs.WaveSamples.{length-samples_of, get_or-samples_of}
 
 -- ---- the bytes of a sample

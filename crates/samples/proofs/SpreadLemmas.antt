@@ -7,7 +7,7 @@ use lib.Bits.{bit_xor}
 use lib.Lanes.{zip2, chunk, number_l, digits_l}
 use Rattle.std.proofs.lemmas.List.{get_or_append_left, get_or-append_right, get_or-map}
 use Rattle.std.proofs.lemmas.Simd.{get_or-zip2, length-zip2, get_or-replicate, get_or-chunk, length-chunk}
-use Rattle.session_model.specs.Samples.{up, stored, signed}
+use Rattle.wave_laws.specs.session_model.specs.Samples.{up, stored, signed}
 use Rattle.samples.proofs.ByteLemmas.{low_byte, high_byte}
 use Rattle.samples.proofs.KernelLemmas.{lanes, lanes_below, byte_lane, zero_lane, below_at, under_append, under_take, under_zeros}
 

@@ -2,7 +2,7 @@
 ghost use Rattle.std.specs.Prelude.{◌≡◌, ◌+◌, ◌*◌, ◌<◌, ◌≤◌, ℕ, [], ◌∷◌, length, map, slice_index, take};
 ghost use Rattle.std.specs.Int.{w32, w64};
 ghost use Rattle.std.specs.Int.RustNames.{FitsSigned};
-ghost use Rattle.session_model.specs.Samples.{bytes_of, clamp, sample, stored, up};
+ghost use Rattle.wave_laws.specs.session_model.specs.Samples.{bytes_of, clamp, sample, stored, up};
 
 use std::simd::prelude::*;
 

@@ -7,3 +7,4 @@ mod sums;
 
 pub use scaling::{from_bytes, to_bytes};
 pub use sums::{add_into, clamp64, set_to, settle};
+pub use wave_laws::jack_types;

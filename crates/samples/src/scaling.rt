@@ -1,6 +1,6 @@
 ghost use Rattle.std.specs.Prelude.{◌≡◌, ◌+◌, ◌*◌, ◌<◌, ◌≤◌, ℕ, [], ◌∷◌, length, slice_index, take, true};
-ghost use Rattle.session_model.specs.Samples.{bytes_of, down, sample, samples_of, stored, storing, up, width};
-ghost use Rattle.session_model.specs.WaveFiles.{is_width};
+ghost use Rattle.wave_laws.specs.session_model.specs.Samples.{bytes_of, down, sample, samples_of, stored, storing, up, width};
+ghost use Rattle.wave_laws.specs.session_model.specs.WaveFiles.{is_width};
 
 use crate::kernels::{
     eight_8, eight_16, four_24, four_32, four_to_24, four_to_32, read_all, sixteen_to_8,

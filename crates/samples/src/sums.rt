@@ -1,5 +1,5 @@
 ghost use Rattle.std.specs.Prelude.{◌≡◌, ◌<◌, ◌≤◌, ◌+ℤ◌, ℕ, length, map, take};
-ghost use Rattle.session_model.specs.Samples.{clamp, sample};
+ghost use Rattle.wave_laws.specs.session_model.specs.Samples.{clamp, sample};
 ghost use Rattle.samples.specs.Sums.{IsSmall};
 
 use crate::kernels::{read_sums, settle_four};

@@ -12,14 +12,14 @@ use Rattle.jack_types.specs.declared.scripts.Header.{Header}
 use Rattle.jack_types.specs.declared.scripts.Many.TheVariants.{Calls, Opens, Segments, Periods, Cycles}
 use Rattle.script_commands.proofs.ChoosingLemmas.{found_in-maybe}
 use Rattle.script_commands.specs.Choosing.{Choice, found_in, or_else}
-use Rattle.script_words.specs.Reads.{Reads}
+use Rattle.script_commands.specs.script_words.specs.Reads.{Reads}
 use Rattle.grammar_laws.proofs.GrammarLimits.{Limits, Limits-none, Limits-more, period_behind, cycles_in, bytes_in, count_by-append, all_cycles-append, all_bytes-append}
 use Rattle.grammar_laws.proofs.GrammarReaders.{number-reads}
 use Rattle.grammar_laws.proofs.GrammarWidths.{open_segment-more}
-use Rattle.session_model.specs.Grammar.{is_call, opens, is_segment, is_period_line, segment_after, open_segment, begun_after, last_begun, most_channels, all_cycles, all_bytes}
-use Rattle.session_model.specs.Reading.{◌>>=◌, Read, word, chosen, made, number, any_number, fixed, begun_in, command, lane_line, old_lines, has_periods, body_line, Limit, body_limits, passed_limit, unless, whole, body_of, at_line, body_lines}
-use Rattle.session_model.specs.Scripts.{phases_of}
-use Rattle.session_model.specs.Texts.{Line}
+use Rattle.grammar_laws.specs.session_model.specs.Grammar.{is_call, opens, is_segment, is_period_line, segment_after, open_segment, begun_after, last_begun, most_channels, all_cycles, all_bytes}
+use Rattle.grammar_laws.specs.session_model.specs.Reading.{◌>>=◌, Read, word, chosen, made, number, any_number, fixed, begun_in, command, lane_line, old_lines, has_periods, body_line, Limit, body_limits, passed_limit, unless, whole, body_of, at_line, body_lines}
+use Rattle.grammar_laws.specs.session_model.specs.Scripts.{phases_of}
+use Rattle.grammar_laws.specs.session_model.specs.Texts.{Line}
 use Rattle.script_body.specs.declared.standing.Standing.{Standing}
 use Rattle.script_body.specs.Standings.{begun_by, lane_line_at, lines_at, period_lines, line_at, body_line_at, cycles_of, bytes_of, limits_at, none_begun, one_if, start, moved, IsWithin, IsSmall, Follows, body_at}
 

@@ -14,9 +14,9 @@ use Rattle.jack_types.specs.declared.scripts.Header.{Header}
 use Rattle.jack_types.specs.declared.scripts.Many.TheVariants.{Calls, Opens, Segments, Periods, Cycles}
 use Rattle.script_commands.specs.Choosing.{Choice, found_in, or_else}
 use Rattle.grammar_laws.proofs.GrammarLimits.{period_behind}
-use Rattle.session_model.specs.Grammar.{is_call, is_open, opens, is_segment, is_period_line, open_segment, last_begun, most_channels, all_cycles, all_bytes}
-use Rattle.session_model.specs.Reading.{◌>>=◌, Reader, by_word, made, number, any_number, fixed, begun_in, command, period, has_periods, Limit, passed_limit, unless, whole}
-use Rattle.session_model.specs.Scripts.{phases_of}
+use Rattle.grammar_laws.specs.session_model.specs.Grammar.{is_call, is_open, opens, is_segment, is_period_line, open_segment, last_begun, most_channels, all_cycles, all_bytes}
+use Rattle.grammar_laws.specs.session_model.specs.Reading.{◌>>=◌, Reader, by_word, made, number, any_number, fixed, begun_in, command, period, has_periods, Limit, passed_limit, unless, whole}
+use Rattle.grammar_laws.specs.session_model.specs.Scripts.{phases_of}
 use Rattle.script_body.specs.declared.standing.Standing.{Standing}
 
 -- lanes are counted from 1

@@ -2,14 +2,14 @@
 
 ghost use Rattle.std.specs.Prelude.{◌≡◌, ◌≤◌, ◌++◌, ◌∷◌, [], MatchResult, Ok, Err};
 ghost use Rattle.jack_types.specs.declared.scripts.Cause.TheVariants.{Memory};
-ghost use Rattle.session_model.specs.Reading.{body_lines};
+ghost use Rattle.grammar_laws.specs.session_model.specs.Reading.{body_lines};
 ghost use Rattle.script_body.specs.Bodies.{ReadsAllBy};
 ghost use Rattle.script_body.specs.Standings.{body_at, IsSmall, IsWithin, moved};
 
 use crate::line::body_at;
 use crate::standing::{Standing, moved, start};
 use jack_types::{Body, Cause, Header, ScriptFault};
-use script_words::{Line, Lines};
+use script_commands::script_words::{Line, Lines};
 use std::alloc::Global;
 
 /// One item more.

@@ -1,14 +1,14 @@
 //! A call of a lane.
 
 ghost use Rattle.std.specs.Prelude.{◌≡◌, ◌<◌, ◌^◌, Err, IfOk, MatchResult, Ok, codes};
-ghost use Rattle.script_words.specs.Reads.{Reads};
-ghost use Rattle.session_model.specs.Reading.{begun_in, fixed};
+ghost use Rattle.script_commands.specs.script_words.specs.Reads.{Reads};
+ghost use Rattle.grammar_laws.specs.session_model.specs.Reading.{begun_in, fixed};
 ghost use Rattle.script_body.specs.Standings.{IsSmall, lane_line_at};
 
 use crate::standing::Standing;
 use jack_types::{Body, Cause, Header};
 use script_commands::command;
-use script_words::Words;
+use script_commands::script_words::Words;
 
 /// The word `at`.
 fn at(words: &mut Words) -> Result<(), Cause>

@@ -3,15 +3,15 @@
 ghost use Rattle.std.specs.Prelude.{◌≡◌, ◌+◌, IfOk};
 ghost use Rattle.jack_types.specs.declared.scripts.Body.TheVariants.{Do, Freewheel, Period, Run};
 ghost use Rattle.script_commands.specs.Choosing.{found_in};
-ghost use Rattle.script_words.specs.Reads.{Reads};
-ghost use Rattle.session_model.specs.Reading.{chosen, command, has_periods, made, number, period};
+ghost use Rattle.script_commands.specs.script_words.specs.Reads.{Reads};
+ghost use Rattle.grammar_laws.specs.session_model.specs.Reading.{chosen, command, has_periods, made, number, period};
 ghost use Rattle.script_body.specs.Standings.{body_at, body_line_at, IsSmall, IsWithin, line_at, period_lines};
 
 use crate::lane::lane_line;
 use crate::standing::{Standing, passed};
 use jack_types::{Body, Cause, Header};
 use script_commands::command;
-use script_words::Words;
+use script_commands::script_words::Words;
 
 fn do_line(words: &mut Words, header: &Header) -> Result<Body, Cause>
     ensures gives { Reads result words.new (made (command header.now) Do words.old) }

@@ -2,8 +2,8 @@
 
 ghost use Rattle.std.specs.Prelude.{◌≡◌, ◌*◌, ◌≤◌, Some};
 ghost use Rattle.jack_types.specs.declared.scripts.Cause.TheVariants.{TooMany};
-ghost use Rattle.session_model.specs.Grammar.{is_open, most_channels};
-ghost use Rattle.session_model.specs.Reading.{passed_limit};
+ghost use Rattle.grammar_laws.specs.session_model.specs.Grammar.{is_open, most_channels};
+ghost use Rattle.grammar_laws.specs.session_model.specs.Reading.{passed_limit};
 ghost use Rattle.script_body.specs.Standings.{begun, call_limit, called, changed, closed, IsSmall, IsWithin, limits_at, moved, opened, period_limit, segment_limit, start};
 
 use jack_types::{Body, Cause, Command, Header, Many};

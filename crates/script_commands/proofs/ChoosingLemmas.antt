@@ -2,12 +2,12 @@
 use Rattle.std.proofs.Common.{◌≡◌, ℕ, Bool, true, false, List, [], ◌∷◌, ◌++◌, refl, sym, subst}
 use Rattle.std.specs.Prelude.{◌&&◌, ◌==◌, Option, Some, None, Result, Ok, if◌then◌else◌}
 use Rattle.std.specs.Str.{bytes_eq}
-use Rattle.jack_types.specs.declared.commands.Command.{Command}
-use Rattle.jack_types.specs.declared.kinds.Kind.{Kind}
-use Rattle.jack_types.specs.declared.scripts.Cause.{Cause}
-use Rattle.jack_types.specs.declared.scripts.Header.{Header}
+use Rattle.script_words.specs.jack_types.specs.declared.commands.Command.{Command}
+use Rattle.script_words.specs.jack_types.specs.declared.kinds.Kind.{Kind}
+use Rattle.script_words.specs.jack_types.specs.declared.scripts.Cause.{Cause}
+use Rattle.script_words.specs.jack_types.specs.declared.scripts.Header.{Header}
 use Rattle.script_words.specs.Reads.{Reads}
-use Rattle.session_model.specs.Reading.{◌>>=◌, Read, word, chosen, kind, command, old_kinds, new_kinds}
+use Rattle.script_words.specs.session_model.specs.Reading.{◌>>=◌, Read, word, chosen, kind, command, old_kinds, new_kinds}
 use Rattle.script_commands.specs.Choosing.{Choice, found_in, or_else, kind_of, command_of, graph_commands, other_commands}
 
 pub found_in-append : {X : Type 0} (xs ys : List (Choice X)) (first : List ℕ) → found_in (xs ++ ys) first ≡ or_else (found_in xs first) (found_in ys first)

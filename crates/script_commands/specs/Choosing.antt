@@ -5,11 +5,11 @@
 --     behind choice words      what the choice reads behind its word
 use Rattle.std.specs.Prelude.{ℕ, List, [], ◌∷◌, find, ◌&&◌, ◌==◌, codes, Option, Some, None, if◌then◌else◌}
 use Rattle.std.specs.Str.{bytes_eq}
-use Rattle.jack_types.specs.declared.commands.Command.{Command}
-use Rattle.jack_types.specs.declared.commands.Command.TheVariants.{Open, Close, Activate, Deactivate, Unregister, Connect, Disconnect, Start, Stop, Locate, Timeout, Slow, Timebase, TimebaseIf, Release, Latency}
-use Rattle.jack_types.specs.declared.kinds.Kind.{Kind}
-use Rattle.jack_types.specs.declared.scripts.Header.{Header}
-use Rattle.session_model.specs.Reading.{Reader, just, made, made_of_two, client, port, number, kind, mode, registering, tempo, old_kinds, new_kinds}
+use Rattle.script_words.specs.jack_types.specs.declared.commands.Command.{Command}
+use Rattle.script_words.specs.jack_types.specs.declared.commands.Command.TheVariants.{Open, Close, Activate, Deactivate, Unregister, Connect, Disconnect, Start, Stop, Locate, Timeout, Slow, Timebase, TimebaseIf, Release, Latency}
+use Rattle.script_words.specs.jack_types.specs.declared.kinds.Kind.{Kind}
+use Rattle.script_words.specs.jack_types.specs.declared.scripts.Header.{Header}
+use Rattle.script_words.specs.session_model.specs.Reading.{Reader, just, made, made_of_two, client, port, number, kind, mode, registering, tempo, old_kinds, new_kinds}
 
 abbrev pub Choice : Type 0 → Type 0
 Choice X = List ℕ × Reader X

@@ -2,14 +2,14 @@
 
 ghost use Rattle.std.specs.Prelude.{◌≡◌, ℕ, List, MatchResult, Ok, Err};
 ghost use Rattle.script_words.specs.Reads.{Reads};
-ghost use Rattle.session_model.specs.Reading.{chosen, client, command, kind, made, made_of_two, mode, number, port, port_type, registering, tempo, way};
+ghost use Rattle.script_words.specs.session_model.specs.Reading.{chosen, client, command, kind, made, made_of_two, mode, number, port, port_type, registering, tempo, way};
 ghost use Rattle.script_commands.specs.Choosing.{command_of, found_in, other_commands};
-ghost use Rattle.jack_types.specs.declared.commands.Command.{Command as CommandValue};
-ghost use Rattle.jack_types.specs.declared.commands.Command.TheVariants.{Activate, Close, Connect, Deactivate, Disconnect, Latency, Locate, Open, Release, Slow, Timebase, TimebaseIf, Timeout, Unregister};
+ghost use Rattle.script_words.specs.jack_types.specs.declared.commands.Command.{Command as CommandValue};
+ghost use Rattle.script_words.specs.jack_types.specs.declared.commands.Command.TheVariants.{Activate, Close, Connect, Deactivate, Disconnect, Latency, Locate, Open, Release, Slow, Timebase, TimebaseIf, Timeout, Unregister};
 
 use crate::kinds::kind;
-use jack_types::{Cause, ClientName, Command, Header, Mode, PortKind, Way};
 use script_words::Words;
+use script_words::jack_types::{Cause, ClientName, Command, Header, Mode, PortKind, Way};
 
 fn way(words: &mut Words) -> Result<Way, Cause>
     ensures { Reads result words.new (way words.old) }

@@ -2,12 +2,12 @@
 
 ghost use Rattle.std.specs.Prelude.{◌≡◌, ◌-ℤ◌, ◌==◌, length, negsuc, pos};
 ghost use Rattle.script_words.specs.Reads.{Reads};
-ghost use Rattle.session_model.specs.Reading.{chosen, kind, made, made_of_two, new_kinds, number, number_up_to, signed_number};
-ghost use Rattle.jack_types.specs.declared.kinds.Kind.TheVariants.{Click, Delay, Disk, Gain, Guest, Midiplay, Tape, Tone};
+ghost use Rattle.script_words.specs.session_model.specs.Reading.{chosen, kind, made, made_of_two, new_kinds, number, number_up_to, signed_number};
+ghost use Rattle.script_words.specs.jack_types.specs.declared.kinds.Kind.TheVariants.{Click, Delay, Disk, Gain, Guest, Midiplay, Tape, Tone};
 ghost use Rattle.script_commands.specs.Choosing.{found_in, kind_of};
 
-use jack_types::{Cause, Header, Kind};
 use script_words::Words;
+use script_words::jack_types::{Cause, Header, Kind};
 
 fn gain(words: &mut Words) -> Result<Kind, Cause>
     ensures { Reads result words.new (made_of_two (signed_number (negsuc 32767) (pos 32767)) (number 0 31) Gain words.old) }

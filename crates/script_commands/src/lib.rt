@@ -5,3 +5,4 @@ mod commands;
 mod kinds;
 
 pub use commands::command;
+pub use script_words;

@@ -8,14 +8,14 @@ use Rattle.jack_types.specs.declared.scripts.Cause.{Cause}
 use Rattle.jack_types.specs.declared.scripts.Cause.TheVariants.{TooMany}
 use Rattle.jack_types.specs.declared.scripts.Many.TheVariants.{Events}
 use Rattle.jack_types.specs.declared.scripts.ScriptFault.{ScriptFault}
-use Rattle.session_model.specs.Grammar.{IsIn}
-use Rattle.session_model.specs.Reading.{◌>>=◌, Read, word, number, ranged, status_byte, hex_bytes, event_with, frame_before, event, at_line, several, whole}
-use Rattle.session_model.specs.Texts.{Line}
-use Rattle.script_words.specs.Remaining.{begun_line}
+use Rattle.grammar_laws.specs.session_model.specs.Grammar.{IsIn}
+use Rattle.grammar_laws.specs.session_model.specs.Reading.{◌>>=◌, Read, word, number, ranged, status_byte, hex_bytes, event_with, frame_before, event, at_line, several, whole}
+use Rattle.grammar_laws.specs.session_model.specs.Texts.{Line}
+use Rattle.script_commands.specs.script_words.specs.Remaining.{begun_line}
 use Rattle.script_header.specs.LineReads.{wholly}
 use Rattle.script_header.proofs.HeaderLemmas.{several-more, several-faulty, several-passed}
 use Rattle.grammar_laws.proofs.GrammarReaders.{number-reads}
-use Rattle.script_words.specs.Midi.{midi, midi_event}
+use Rattle.script_commands.specs.script_words.specs.Midi.{midi, midi_event}
 use Rattle.script_header.specs.Fronts.{Item, event_behind}
 
 bind_same : {A B E : Type 0} (r : Result A E) (f g : A → Result B E) → ((x : A) → r ≡ Ok x → f x ≡ g x) → (r >>= f) ≡ (r >>= g)

@@ -5,15 +5,15 @@ use Rattle.std.proofs.lemmas.List.{take_more_set}
 use Rattle.jack_types.specs.declared.scripts.Cause.TheVariants.{Header as NotHeader, TooMany}
 use Rattle.jack_types.specs.declared.scripts.Many.{Many}
 use Rattle.jack_types.specs.declared.scripts.ScriptFault.{ScriptFault}
-use Rattle.script_words.specs.Remaining.{begun_line, place}
+use Rattle.script_commands.specs.script_words.specs.Remaining.{begun_line, place}
 use Rattle.script_header.specs.LineReads.{ReadsLine}
 use Rattle.script_commands.proofs.ChoosingLemmas.{found_in-maybe}
 use Rattle.script_commands.specs.Choosing.{Choice, found_in}
 use Rattle.script_header.specs.Workers.{stealing, workers_of}
-use Rattle.script_words.specs.Reads.{Reads as ReadsWords}
+use Rattle.script_commands.specs.script_words.specs.Reads.{Reads as ReadsWords}
 use Rattle.jack_types.specs.declared.scripts.Cause.{Cause}
-use Rattle.session_model.specs.Reading.{◌>>=◌, Read, Reader, word, chosen, old_modes, workers, at_line, begins, whole, required, optional, several}
-use Rattle.session_model.specs.Texts.{Line}
+use Rattle.grammar_laws.specs.session_model.specs.Reading.{◌>>=◌, Read, Reader, word, chosen, old_modes, workers, at_line, begins, whole, required, optional, several}
+use Rattle.grammar_laws.specs.session_model.specs.Texts.{Line}
 
 -- the line in front that begins with the name
 -- the line in front, without its first word

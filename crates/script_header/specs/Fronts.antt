@@ -5,9 +5,9 @@ use Rattle.jack_types.specs.declared.events.Event.{Event}
 use Rattle.jack_types.specs.declared.files.Format.{Format}
 use Rattle.jack_types.specs.declared.scripts.Header.{Header}
 use Rattle.jack_types.specs.declared.scripts.Many.TheVariants.{Recorders, Events, Disks}
-use Rattle.session_model.specs.Reading.{◌>>=◌, Reader, LineRead, required, optional, several, version, number, ranged, period, channels_and_bits, workers, recorder, event}
-use Rattle.session_model.specs.Texts.{Line}
-use Rattle.script_words.specs.Midi.{midi}
+use Rattle.grammar_laws.specs.session_model.specs.Reading.{◌>>=◌, Reader, LineRead, required, optional, several, version, number, ranged, period, channels_and_bits, workers, recorder, event}
+use Rattle.grammar_laws.specs.session_model.specs.Texts.{Line}
+use Rattle.script_commands.specs.script_words.specs.Midi.{midi}
 use Rattle.script_header.specs.declared.optional.Optional.{Optional}
 use Rattle.script_header.specs.declared.required.Required.{Required}
 

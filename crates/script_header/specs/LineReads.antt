@@ -4,8 +4,8 @@ use Rattle.std.specs.Prelude.{◌≡◌, ◌≢◌, ℕ, List, Result, Ok, Err}
 use Rattle.jack_types.specs.declared.scripts.Cause.{Cause}
 use Rattle.jack_types.specs.declared.scripts.Cause.TheVariants.{Memory}
 use Rattle.jack_types.specs.declared.scripts.ScriptFault.{ScriptFault}
-use Rattle.session_model.specs.Reading.{◌>>=◌, Reader, LineRead, whole}
-use Rattle.session_model.specs.Texts.{Line}
+use Rattle.grammar_laws.specs.session_model.specs.Reading.{◌>>=◌, Reader, LineRead, whole}
+use Rattle.grammar_laws.specs.session_model.specs.Texts.{Line}
 
 -- the call and the reading function agree: on the value, as it is seen, and the lines left, or on the fault
 abbrev pub ReadsLine : {X : Type 0} → Result X ScriptFault → List Line → LineRead X → Type 0

@@ -2,7 +2,7 @@
 --     workers_of version first      what a mode's word chooses
 use Rattle.std.specs.Prelude.{ℕ, Bool, true, ◌==◌, codes, List, [], ◌∷◌, Option, Some, None, if◌then◌else◌}
 use Rattle.script_commands.specs.Choosing.{Choice, found_in, or_else}
-use Rattle.session_model.specs.Reading.{made, number, old_modes}
+use Rattle.grammar_laws.specs.session_model.specs.Reading.{made, number, old_modes}
 
 -- the mode of version 3
 abbrev pub stealing : List (Choice (Option ℕ × Bool))

@@ -2,14 +2,14 @@
 
 ghost use Rattle.std.specs.Prelude.{◌≡◌, ◌+◌, ◌<◌, ◌≤◌, All, Bool, IfOk, ℕ, List, [], codes, length, pos, slice_index};
 ghost use Rattle.jack_types.specs.declared.scripts.Many.TheVariants.{Events as TheEvents};
-ghost use Rattle.script_words.specs.Reads.{Reads};
-ghost use Rattle.session_model.specs.Reading.{at_line, event, several};
+ghost use Rattle.script_commands.specs.script_words.specs.Reads.{Reads};
+ghost use Rattle.grammar_laws.specs.session_model.specs.Reading.{at_line, event, several};
 ghost use Rattle.script_header.specs.Fronts.{event_behind, events_of};
 ghost use Rattle.script_header.specs.LineReads.{ReadsLineBy, wholly};
 
 use crate::required::fault;
 use jack_types::{Cause, Event, Many, ScriptFault};
-use script_words::{Line, Lines, Words};
+use script_commands::script_words::{Line, Lines, Words};
 use std::alloc::Global;
 
 /// An event with its list and its frame.

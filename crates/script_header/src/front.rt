@@ -9,7 +9,7 @@ use crate::lists::{disks, recorders};
 use crate::optional::optional_lines;
 use crate::required::required_lines;
 use jack_types::{Header, ScriptFault};
-use script_words::Lines;
+use script_commands::script_words::Lines;
 use std::alloc::Global;
 
 /// The header, and the events in the order of their lines, each with its list and its frame.

@@ -10,3 +10,4 @@ mod words;
 
 pub use events::Item;
 pub use front::{Front, read_front};
+pub use script_commands::script_words;

@@ -2,14 +2,14 @@
 
 ghost use Rattle.std.specs.Prelude.{◌≡◌, ◌+◌, ◌≤◌, Bool, List, [], codes, length, pos};
 ghost use Rattle.jack_types.specs.declared.scripts.Many.TheVariants.{Disks as TheDisks, Recorders as TheRecorders};
-ghost use Rattle.session_model.specs.Reading.{at_line, number, recorder, several};
+ghost use Rattle.grammar_laws.specs.session_model.specs.Reading.{at_line, number, recorder, several};
 ghost use Rattle.script_header.specs.Fronts.{disks_of};
 ghost use Rattle.script_header.specs.LineReads.{ReadsLine, wholly};
 
 use crate::required::{fault, number_in};
 use crate::words;
 use jack_types::{Cause, Disks, Format, Many, Recorders, ScriptFault};
-use script_words::{Line, Lines, Words};
+use script_commands::script_words::{Line, Lines, Words};
 
 const FOUR_OF_RECORDERS: Cause = Cause::TooMany {
     what: Many::Recorders,

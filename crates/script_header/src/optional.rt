@@ -1,13 +1,13 @@
 //! The header lines that may be left out.
 
 ghost use Rattle.std.specs.Prelude.{◌≡◌, ◌≤◌, ◌≤ℤ◌, Bool, IfOk, codes, pos};
-ghost use Rattle.session_model.specs.Reading.{number_up_to, optional};
+ghost use Rattle.grammar_laws.specs.session_model.specs.Reading.{number_up_to, optional};
 ghost use Rattle.script_header.specs.Fronts.{fill_of, optional_of};
 ghost use Rattle.script_header.specs.LineReads.{ReadsLine};
 
 use crate::required::number_in;
 use jack_types::ScriptFault;
-use script_words::Lines;
+use script_commands::script_words::Lines;
 
 /// What the lines say that may be left out, or what holds without them.
 #[derive(Clone, Copy, Drop)]

@@ -2,14 +2,14 @@
 
 ghost use Rattle.std.specs.Prelude.{◌≡◌, ◌≤◌, ◌≤ℤ◌, IfErr, IfOk, None, Some, codes, pos};
 ghost use Rattle.jack_types.specs.declared.scripts.Cause.TheVariants.{Header as NotHeader};
-ghost use Rattle.script_words.specs.Remaining.{begun_line, place};
-ghost use Rattle.session_model.specs.Reading.{at_line, channels_and_bits, number_up_to, period, required, version, workers};
+ghost use Rattle.script_commands.specs.script_words.specs.Remaining.{begun_line, place};
+ghost use Rattle.grammar_laws.specs.session_model.specs.Reading.{at_line, channels_and_bits, number_up_to, period, required, version, workers};
 ghost use Rattle.script_header.specs.Fronts.{required_of};
 ghost use Rattle.script_header.specs.LineReads.{ReadsLine, wholly};
 
 use crate::words;
 use jack_types::{Cause, ScriptFault};
-use script_words::{Line, Lines, Words};
+use script_commands::script_words::{Line, Lines, Words};
 
 /// What the lines say that are always there.
 #[derive(Clone, Copy, Drop)]

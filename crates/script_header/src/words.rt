@@ -2,14 +2,14 @@
 
 ghost use Rattle.std.specs.Prelude.{◌≡◌, ◌==◌, Bool, None, Option, Some, List, []};
 ghost use Rattle.std.specs.List.{list_any};
-ghost use Rattle.script_words.specs.Reads.{Reads};
-ghost use Rattle.session_model.specs.Grammar.{widths};
-ghost use Rattle.session_model.specs.Reading.{bits, channels_and_bits, chosen, made, number, recorder, version, workers};
+ghost use Rattle.script_commands.specs.script_words.specs.Reads.{Reads};
+ghost use Rattle.grammar_laws.specs.session_model.specs.Grammar.{widths};
+ghost use Rattle.grammar_laws.specs.session_model.specs.Reading.{bits, channels_and_bits, chosen, made, number, recorder, version, workers};
 ghost use Rattle.script_header.specs.Workers.{stealing, workers_of};
 ghost use Rattle.script_commands.specs.Choosing.{found_in};
 
 use jack_types::{Cause, Format};
-use script_words::Words;
+use script_commands::script_words::Words;
 
 /// A version, 1 to 3.
 pub fn version(words: &mut Words) -> Result<u32, Cause>

@@ -10,7 +10,7 @@ use Rattle.jack_types.specs.declared.scripts.Header.{Header}
 use Rattle.session_model.specs.Grammar.{all_cycles}
 use Rattle.session_model.specs.Scripts.{Phase, Script, phases, phases_of, with_do}
 use Rattle.grammar_laws.proofs.GrammarLimits.{all_cycles-append, cycles_in}
-use Rattle.driver_laws.specs.Drivers.{greatest_period}
+use Rattle.task_laws.specs.driver_laws.specs.Drivers.{greatest_period}
 use Rattle.script_needs.specs.Lines.{cycles_on, first_periods, longest, past}
 
 abbrev periods_in : List Phase → List ℕ

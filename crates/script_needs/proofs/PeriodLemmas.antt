@@ -12,7 +12,7 @@ use Rattle.session_model.specs.Courses.{no_turn}
 use Rattle.session_model.specs.Grammar.{IsBody, IsPeriod, IsScript}
 use Rattle.session_model.specs.Scripts.{Script, Phase, ScriptCycle, with_do, phases, phases_of, turns, turns_from}
 use Rattle.session_laws.proofs.ListLemmas.{Each, Each-append, Each-map}
-use Rattle.driver_laws.specs.Drivers.{greatest_period, turn_of}
+use Rattle.task_laws.specs.driver_laws.specs.Drivers.{greatest_period, turn_of}
 
 abbrev pub HasPeriod : (ℕ → Type 0) → Phase → Type 0
 HasPeriod P phase = P phase.period

@@ -2,7 +2,7 @@
 
 ghost use Rattle.std.specs.Prelude.{◌≡◌, ◌+◌, ◌<◌, ◌≤◌, ℕ, fold, length, sum_by};
 ghost use Rattle.session_model.specs.Scripts.{turns};
-ghost use Rattle.driver_laws.specs.Drivers.{greatest_period, turn_of};
+ghost use Rattle.task_laws.specs.driver_laws.specs.Drivers.{greatest_period, turn_of};
 ghost use Rattle.script_needs.specs.Lines.{cycles_on, first_periods, longest, past};
 
 use jack_types::Body;

@@ -7,3 +7,4 @@ mod opening;
 
 pub use lengths::{cycles, greatest_period};
 pub use opening::{guests, open_kinds};
+pub use session_script;

@@ -3,7 +3,7 @@
 ghost use Rattle.std.specs.Prelude.{◌≡◌, ◌+◌, ◌*◌, ◌<◌, ◌≤◌, ℕ, length, slice_index_or, sum_by, take};
 ghost use Rattle.session_model.specs.Grammar.{IsPeriod, IsScript, most_channels};
 ghost use Rattle.session_model.specs.Scripts.{Script, ScriptCycle, turns};
-ghost use Rattle.driver_laws.specs.Drivers.{Driver, channels_on, frames_run, greatest_period, turn_of};
+ghost use Rattle.task_laws.specs.driver_laws.specs.Drivers.{Driver, channels_on, frames_run, greatest_period, turn_of};
 
 /// There are at most 1,000,000 cycles.
 pub fn cycles_are_few()

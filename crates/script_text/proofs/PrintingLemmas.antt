@@ -7,10 +7,10 @@ use Rattle.std.specs.Prelude.{◌/◌, ◌%◌, ◌⊎◌, nat_lt, OnOk, Option,
 use Rattle.std.proofs.lemmas.List.{append-nil, map-append, take_more}
 use Rattle.std.proofs.lemmas.List.Concat.{flat_map-append}
 use Rattle.jack_types.specs.declared.events.Event.{Event}
-use Rattle.session_model.specs.Grammar.{Slot, slot_text, event_slots, lines_by, printed_choices, script_text}
-use Rattle.session_model.specs.Reports.{spaced, line, hex_byte, hex_digit}
-use Rattle.session_model.specs.Samples.{below}
-use Rattle.session_model.specs.Scripts.{Script}
+use Rattle.grammar_laws.specs.session_model.specs.Grammar.{Slot, slot_text, event_slots, lines_by, printed_choices, script_text}
+use Rattle.grammar_laws.specs.session_model.specs.Reports.{spaced, line, hex_byte, hex_digit}
+use Rattle.grammar_laws.specs.session_model.specs.Samples.{below}
+use Rattle.grammar_laws.specs.session_model.specs.Scripts.{Script}
 use Rattle.script_text.specs.Printing.{with_words, with_line, with_lines, first_lists}
 
 -- the words behind the first, each behind a space

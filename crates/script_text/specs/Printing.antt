@@ -4,9 +4,9 @@
 --     with_lines text lines      the text, and then these lines
 use Rattle.std.specs.Prelude.{ℕ, List, [], ◌∷◌, ◌++◌, map, flat_map, slice_index_or}
 use Rattle.jack_types.specs.declared.events.Event.{Event}
-use Rattle.session_model.specs.Grammar.{Slot, slot_text}
-use Rattle.session_model.specs.Reports.{line}
-use Rattle.session_model.specs.Samples.{below}
+use Rattle.grammar_laws.specs.session_model.specs.Grammar.{Slot, slot_text}
+use Rattle.grammar_laws.specs.session_model.specs.Reports.{line}
+use Rattle.grammar_laws.specs.session_model.specs.Samples.{below}
 
 abbrev pub with_words : List ℕ → List Slot → List ℕ
 with_words text [] = text

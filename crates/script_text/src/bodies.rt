@@ -2,7 +2,7 @@
 
 ghost use Rattle.std.specs.Prelude.{◌≡◌, ◌++◌, ◌∷◌, [], IfOk, codes, map, string_bytes};
 ghost use Rattle.jack_types.specs.declared.scripts.Body.TheVariants.{Do, Lane};
-ghost use Rattle.session_model.specs.Grammar.{body_slots};
+ghost use Rattle.grammar_laws.specs.session_model.specs.Grammar.{body_slots};
 ghost use Rattle.script_text.specs.Printing.{with_line, with_lines};
 
 use crate::commands::put_command;

@@ -3,7 +3,7 @@
 ghost use Rattle.std.specs.Prelude.{◌≡◌, ◌++◌, ◌∷◌, IfOk, decimal, string_bytes};
 ghost use Rattle.jack_types.specs.declared.commands.Command.TheVariants.{Latency, Open, Register, Slow};
 ghost use Rattle.jack_types.specs.declared.kinds.Kind.TheVariants.{Click, Gain, Tone};
-ghost use Rattle.session_model.specs.Grammar.{command_slots, kind_slots, mode_word, type_word, way_word};
+ghost use Rattle.grammar_laws.specs.session_model.specs.Grammar.{command_slots, kind_slots, mode_word, type_word, way_word};
 ghost use Rattle.script_text.specs.Printing.{with_words};
 
 use crate::words::{put_number, put_signed, put_word};

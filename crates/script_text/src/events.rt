@@ -2,8 +2,8 @@
 
 ghost use Rattle.std.specs.Prelude.{◌≡◌, ◌≤◌, ◌++◌, ◌∷◌, [], All, IfOk, codes, flat_map, length, map, string_bytes};
 ghost use Rattle.jack_types.specs.Events.{event_bytes};
-ghost use Rattle.session_model.specs.Grammar.{event_slots};
-ghost use Rattle.session_model.specs.Reports.{hex_byte};
+ghost use Rattle.grammar_laws.specs.session_model.specs.Grammar.{event_slots};
+ghost use Rattle.grammar_laws.specs.session_model.specs.Reports.{hex_byte};
 ghost use Rattle.script_text.specs.Printing.{first_lists, with_line, with_lines};
 
 use crate::words::{end_line, put_byte, put_number};

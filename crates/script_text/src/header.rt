@@ -2,7 +2,7 @@
 
 ghost use Rattle.std.specs.Prelude.{◌≡◌, ◌++◌, ◌==◌, ◌∷◌, [], IfOk, codes, map, string_bytes};
 ghost use Rattle.std.specs.Prelude.{if◌then◌else◌};
-ghost use Rattle.session_model.specs.Grammar.{mode_slots, number_slots, Numeral, recorder_slots, required_lines, Word};
+ghost use Rattle.grammar_laws.specs.session_model.specs.Grammar.{mode_slots, number_slots, Numeral, recorder_slots, required_lines, Word};
 ghost use Rattle.script_text.specs.Printing.{with_line, with_lines};
 
 use crate::words::{end_line, put_number, put_number_line, put_word};

@@ -1,7 +1,7 @@
 //! The whole text.
 
 ghost use Rattle.std.specs.Prelude.{◌≡◌, ◌≤◌, All, IfOk, length, map, string_bytes};
-ghost use Rattle.session_model.specs.Grammar.{script_text};
+ghost use Rattle.grammar_laws.specs.session_model.specs.Grammar.{script_text};
 
 use crate::bodies::put_bodies;
 use crate::events::put_events;

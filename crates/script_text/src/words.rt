@@ -1,8 +1,8 @@
 //! Words and simple lines.
 
 ghost use Rattle.std.specs.Prelude.{◌≡◌, ◌++◌, ◌∷◌, [], IfOk, decimal, string_bytes};
-ghost use Rattle.session_model.specs.Grammar.{int_text, Numeral, Word};
-ghost use Rattle.session_model.specs.Reports.{hex_byte};
+ghost use Rattle.grammar_laws.specs.session_model.specs.Grammar.{int_text, Numeral, Word};
+ghost use Rattle.grammar_laws.specs.session_model.specs.Reports.{hex_byte};
 ghost use Rattle.script_text.specs.Printing.{with_line, with_words};
 
 use std::alloc::AllocError;

@@ -2,7 +2,7 @@
 use Rattle.std.proofs.Common.{◌≡◌, ℕ, ◌+◌, ◌*◌, ◌<◌, ◌≤◌, Bool, true, false, ◌&&◌, List, [], ◌∷◌, ◌++◌, length, take, drop, refl, sym, ap, ◌∙◌, arith, append_assoc, length-append}
 use Rattle.std.specs.Prelude.{Option, Some, None, Ok, Err, ◌==◌, ◌||◌, nat_lt, slice_index, slice_set}
 use Rattle.std.proofs.lemmas.List.{take_all, take_more_set}
-use Rattle.jack_types.specs.declared.scripts.Cause.TheVariants.{Number}
+use Rattle.session_model.specs.jack_types.specs.declared.scripts.Cause.TheVariants.{Number}
 use Rattle.session_model.specs.Reading.{◌>>=◌, status_byte, event_with, hex_bytes, hex_value, is_hex_digit, with_pair}
 use Rattle.script_words.specs.Midi.{behind, midi_event}
 

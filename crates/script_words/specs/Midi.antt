@@ -2,8 +2,8 @@
 --     midi_event word      the event that the word spells, or the cause
 --     midi words      the same as a reading function
 use Rattle.std.specs.Prelude.{ℕ, List, ◌++◌, Option, Some, None, Result, Ok}
-use Rattle.jack_types.specs.declared.events.Event.{Event}
-use Rattle.jack_types.specs.declared.scripts.Cause.{Cause}
+use Rattle.session_model.specs.jack_types.specs.declared.events.Event.{Event}
+use Rattle.session_model.specs.jack_types.specs.declared.scripts.Cause.{Cause}
 use Rattle.session_model.specs.Reading.{◌>>=◌, Reader, word, status_byte, hex_bytes, event_with}
 
 abbrev pub midi_event : List ℕ → Result Event Cause

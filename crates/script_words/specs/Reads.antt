@@ -1,7 +1,7 @@
 -- What a call that reads words answers.
 --     Reads result left read      the value with the words behind it, or the cause, as a reading function gives them
 use Rattle.std.specs.Prelude.{◌≡◌, ℕ, List, Result, Ok, Err}
-use Rattle.jack_types.specs.declared.scripts.Cause.{Cause}
+use Rattle.session_model.specs.jack_types.specs.declared.scripts.Cause.{Cause}
 use Rattle.session_model.specs.Reading.{Read}
 
 -- the call and the reading function agree: on the value and the words left, or on the cause

@@ -4,7 +4,7 @@ ghost use Rattle.std.specs.Prelude.{◌≡◌, ◌<◌, ◌≤◌, ◌+◌, ◌*
 ghost use Rattle.session_model.specs.Reading.{hex_bytes, hex_value, is_hex_digit};
 ghost use Rattle.script_words.specs.Midi.{midi_event};
 
-use jack_types::{Cause, Event};
+use session_model::jack_types::{Cause, Event};
 
 fn is_hex_digit(b: u8) -> bool
     ensures { result ≡ is_hex_digit b }

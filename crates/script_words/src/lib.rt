@@ -9,4 +9,5 @@ mod words;
 
 pub use hexed::spelled;
 pub use lines::{Line, Lines};
+pub use session_model::jack_types;
 pub use words::Words;

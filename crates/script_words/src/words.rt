@@ -8,7 +8,7 @@ ghost use Rattle.session_model.specs.Reading.{any_number, client, number_up_to, 
 use crate::bytes::first_word;
 use crate::hexed::event_of;
 use crate::numbers::{is_period, number_of, signed_of};
-use jack_types::{Cause, ClientName, Event, PortName};
+use session_model::jack_types::{Cause, ClientName, Event, PortName};
 use std::marker::Model;
 
 /// The words of a line that are not read yet. Contracts see their list.

@@ -8,7 +8,7 @@ use Rattle.session_model.specs.Scripts.{Script, Phase, Planned, phases}
 use Rattle.session_model.specs.Serial.{calls_from, do_calls, lanes_at}
 use Rattle.control_desk.specs.Desks.{cycles_before}
 use Rattle.serial_lanes.specs.Lanes.{calls_behind}
-use Rattle.call_laws.proofs.ItemLemmas.{none-some, some-same}
+use Rattle.control_desk.specs.call_laws.proofs.ItemLemmas.{none-some, some-same}
 use Rattle.serial_lanes.proofs.ItemLemmas.{take-whole}
 use Rattle.serial_lanes.specs.Laws.{CallsNextRound, CallsWhole, CallsNextPhase}
 

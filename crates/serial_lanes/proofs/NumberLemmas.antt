@@ -24,7 +24,7 @@ use Rattle.serial_lanes.proofs.TurnLemmas.{phase_at, cycles_in, cycles_more, tur
 use Rattle.serial_lanes.proofs.RoundLemmas.{IsLaterRound, rounds_split, calls_split, due_is}
 use Rattle.control_desk.proofs.LegalLemmas.{asked_within}
 use Rattle.serial_lanes.proofs.GroupLemmas.{dos_wait}
-use Rattle.call_laws.proofs.ItemLemmas.{none-some, some-same, mapped_some}
+use Rattle.control_desk.specs.call_laws.proofs.ItemLemmas.{none-some, some-same, mapped_some}
 use Rattle.serial_lanes.proofs.ItemLemmas.{there as there_in}
 use Rattle.std.proofs.lemmas.List.{length-take-le}
 use Rattle.std.proofs.lemmas.List.Sums.{sum_by-take-le}

@@ -18,7 +18,7 @@ use Rattle.serial_lanes.specs.Lanes.{BehindPhases, calls_behind}
 use Rattle.serial_lanes.specs.Laws.{BehindAll, BehindLastRound, BehindNone}
 use Rattle.serial_lanes.proofs.CallFronts.{calls-next_phase, calls-whole}
 use Rattle.serial_lanes.proofs.GroupLemmas.{dos_own}
-use Rattle.call_laws.proofs.ItemLemmas.{contained}
+use Rattle.control_desk.specs.call_laws.proofs.ItemLemmas.{contained}
 use Rattle.serial_lanes.proofs.ItemLemmas.{first_of_rest, none_of_rest}
 use Rattle.serial_lanes.proofs.MadeLemmas.{made_behind, within-later, within-none, within-zero}
 use Rattle.serial_lanes.proofs.RoundLemmas.{calls_split, due_is, on_lane}

@@ -16,7 +16,7 @@ use Rattle.serial_lanes.specs.Laws.{RoundOfLanes}
 use Rattle.control_desk.proofs.LaneLemmas.{within-some}
 use Rattle.serial_lanes.proofs.CallFronts.{calls-next_round}
 use Rattle.serial_lanes.proofs.GroupLemmas.{dos_are, dos_wait, group_waits}
-use Rattle.call_laws.proofs.ItemLemmas.{contained, none-some, some-same}
+use Rattle.control_desk.specs.call_laws.proofs.ItemLemmas.{contained, none-some, some-same}
 use Rattle.serial_lanes.proofs.ItemLemmas.{first_of_rest, none_of_rest, rest_behind}
 use Rattle.serial_lanes.proofs.MadeLemmas.{made_behind, within-here}
 use Rattle.serial_lanes.proofs.NumberLemmas.{history_append}

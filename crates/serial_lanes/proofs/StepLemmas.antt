@@ -10,10 +10,10 @@ use Rattle.session_model.specs.Publication.{SeenPair}
 use Rattle.session_model.specs.Scripts.{planned_of}
 use Rattle.session_model.specs.Serial.{answered}
 use Rattle.control_desk.specs.Desks.{Desk, IsDone, LooksBy, Makes, MayStep, Waits, made, within}
-use Rattle.call_laws.proofs.LaneLemmas.{of_lane}
+use Rattle.control_desk.specs.call_laws.proofs.LaneLemmas.{of_lane}
 use Rattle.control_desk.proofs.LaneLemmas.{within-some}
 use Rattle.serial_lanes.specs.Lanes.{LaneRuns, LaneSteps, LanesRun, RanOn, SawUpTo, Stops}
-use Rattle.call_laws.proofs.ItemLemmas.{contained}
+use Rattle.control_desk.specs.call_laws.proofs.ItemLemmas.{contained}
 use Rattle.serial_lanes.proofs.ItemLemmas.{all-front}
 use Rattle.serial_lanes.proofs.MadeLemmas.{made_more}
 

@@ -4,4 +4,5 @@
 mod lanes;
 pub mod laws;
 
+pub use control_desk;
 pub use lanes::{begin_group, begin_phase, round};

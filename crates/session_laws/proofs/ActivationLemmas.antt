@@ -7,7 +7,7 @@ use Rattle.std.proofs.Common.{◌≡◌, ℕ, zero, suc, ◌+◌, ◌-◌, ◌<�
 use Rattle.std.proofs.lemmas.Bool.Decides.{nat_tests}
 use Rattle.std.proofs.lemmas.List.Elements.{filter-append, All-contains}
 use Rattle.std.proofs.lemmas.List.Sums.{sum_by-append, sum_by-cons}
-use Rattle.jack_types.specs.declared.ports.Link.{Link}
+use Rattle.session_model.specs.jack_types.specs.declared.ports.Link.{Link}
 use Rattle.session_model.specs.Activation.{AreLinks, Place, Waiting, Held, Left, AtHome, Machine, Move, StartNode, ReleaseLink, HomeNode, LeaveNode, PickNode, PlayNode, no_link, link_at, fresh, incoming, outgoing, is_started, is_released, place_of, Allowed, with_fallen, moved, open_links, IsDone, IsConsistentNode, IsConsistent, place_among, given_within, given_to, value_of, sequential, IsBench, IsQuiet, Benches, Stays, Hands, Plays, Does, IsShown, IsRight}
 use Rattle.session_model.specs.Samples.{below}
 use Rattle.session_laws.proofs.ListLemmas.{Each, Each-below, Each-filter, Each-filter_kept, Each-both, Each-contains, Each-from_contains, Contains-kept}

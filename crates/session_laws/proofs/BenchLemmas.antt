@@ -9,10 +9,10 @@ use Rattle.std.specs.Str.{bytes_eq}
 use Rattle.std.proofs.lemmas.List.{get_or-map, get_or_default, length-map}
 use Rattle.std.proofs.lemmas.List.Quantifiers.{position-Some}
 use Rattle.std.proofs.lemmas.Option.{none-some}
-use Rattle.jack_types.specs.Names.{client_part}
-use Rattle.jack_types.specs.declared.ports.Link.{Link}
-use Rattle.jack_types.specs.declared.ports.Mark.{Mark}
-use Rattle.jack_types.specs.declared.ports.Mark.TheVariants.{Direct, Feedback}
+use Rattle.session_model.specs.jack_types.specs.Names.{client_part}
+use Rattle.session_model.specs.jack_types.specs.declared.ports.Link.{Link}
+use Rattle.session_model.specs.jack_types.specs.declared.ports.Mark.{Mark}
+use Rattle.session_model.specs.jack_types.specs.declared.ports.Mark.TheVariants.{Direct, Feedback}
 use Rattle.session_model.specs.Activation.{link_at, no_link, incoming, outgoing, place_among, given_to, value_of, sequential}
 use Rattle.session_model.specs.Benches.{Signal, Route, Task, Bench, no_signal, signal_at, audio_part, midi_part, mixed, merged, task_played, task_turn, routed, bench_played, bench_after, handed, bench_gives, node_at, place_in, edges_between, link_place, edge_place, fixed_audio, fixed_midi, direct_part, marked_part, audio_part_of, midi_part_of, port_place, route_of, task_of, IsPlan, IsReady, outputs_of, HaveCycle}
 use Rattle.session_model.specs.Commands.{ports_of, is_audio, is_input}

@@ -8,11 +8,11 @@ use Rattle.std.proofs.lemmas.List.{get_or_append_left, take-append-le, drop-appe
 use Rattle.std.proofs.lemmas.List.Folds.{list_any-append, Any-from_list_any}
 use Rattle.std.proofs.lemmas.List.Sums.{length-filter}
 use Rattle.session_model.specs.Commands.{replay}
-use Rattle.jack_types.specs.declared.commands.Change.{Change}
-use Rattle.jack_types.specs.declared.kinds.Kind.{Kind}
-use Rattle.jack_types.specs.declared.kinds.Kind.TheVariants.{Disk}
-use Rattle.jack_types.specs.declared.moments.Moment.{Moment}
-use Rattle.jack_types.specs.declared.replies.Underrun.{Underrun}
+use Rattle.session_model.specs.jack_types.specs.declared.commands.Change.{Change}
+use Rattle.session_model.specs.jack_types.specs.declared.kinds.Kind.{Kind}
+use Rattle.session_model.specs.jack_types.specs.declared.kinds.Kind.TheVariants.{Disk}
+use Rattle.session_model.specs.jack_types.specs.declared.moments.Moment.{Moment}
+use Rattle.session_model.specs.jack_types.specs.declared.replies.Underrun.{Underrun}
 use Rattle.session_model.specs.Courses.{Course, first_state, number, underruns_of, graph, adopted, period, captured, players, fed, is_disk, is_disk_active, is_underrun, played_before, disk_file, block_channel}
 use Rattle.session_model.specs.Cycles.{Settled, Cycle, signals, cycle, cycle_of, settled_after, previous, with_block}
 use Rattle.session_model.specs.Kinds.{Memory, first}

@@ -5,9 +5,9 @@
 --     Agree-signals      what solves the equations agrees with the recursion, as deep as the rank of the port's client
 use Rattle.std.proofs.Common.{◌≡◌, ℕ, ◌⊎◌, inl, inr, zero, suc, ◌<◌, Bool, true, false, cond, ◌&&◌, not, List, [], ◌∷◌, map, filter, find, Contains, Option, Some, None, refl, sym, ◌∙◌, ap, ap₂, subst, arith, true≢false}
 use Rattle.std.specs.Str.{bytes_eq}
-use Rattle.jack_types.specs.Names.{client_part}
-use Rattle.jack_types.specs.declared.ports.Mark.{Mark}
-use Rattle.jack_types.specs.declared.ports.Mark.TheVariants.{Direct, Feedback}
+use Rattle.session_model.specs.jack_types.specs.Names.{client_part}
+use Rattle.session_model.specs.jack_types.specs.declared.ports.Mark.{Mark}
+use Rattle.session_model.specs.jack_types.specs.declared.ports.Mark.TheVariants.{Direct, Feedback}
 use Rattle.session_model.specs.Commands.{ports_of, is_audio, is_input}
 use Rattle.session_model.specs.Courses.{Course, players}
 use Rattle.session_model.specs.Cycles.{Signals, Settled, ClientPlayed, carried, played_on, audio_into, midi_into, audio_inputs, midi_inputs, audio_outputs, midi_outputs, client_played, player_named, audio_of, midi_of, given, signals, at_port}

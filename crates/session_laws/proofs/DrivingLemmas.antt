@@ -5,13 +5,13 @@
 --     block-is_got, input_of-is_mixed      a recorder's block and a playback port's input, read from the benches
 use Rattle.std.proofs.Common.{Contains, List, None, Option, Some, [], ap, ap₂, arith, eqb-true, length, map, refl, subst, suc, sym, true, true≢false, unwrap_or, zero, ℕ, ◌<◌, ◌==◌, ◌∙◌, ◌≡◌}
 use Rattle.std.proofs.lemmas.List.{get_or_default}
-use Rattle.jack_types.specs.declared.commands.Change.{Change}
-use Rattle.jack_types.specs.declared.ports.Link.{Link}
+use Rattle.session_model.specs.jack_types.specs.declared.commands.Change.{Change}
+use Rattle.session_model.specs.jack_types.specs.declared.ports.Link.{Link}
 use Rattle.std.specs.Str.{bytes_eq}
-use Rattle.jack_types.specs.Names.{client_part}
-use Rattle.jack_types.specs.declared.ports.Mark.{Mark}
-use Rattle.jack_types.specs.declared.ports.Mark.TheVariants.{Direct, Feedback}
-use Rattle.jack_types.specs.declared.replies.Underrun.{Underrun}
+use Rattle.session_model.specs.jack_types.specs.Names.{client_part}
+use Rattle.session_model.specs.jack_types.specs.declared.ports.Mark.{Mark}
+use Rattle.session_model.specs.jack_types.specs.declared.ports.Mark.TheVariants.{Direct, Feedback}
+use Rattle.session_model.specs.jack_types.specs.declared.replies.Underrun.{Underrun}
 use Rattle.session_model.specs.Activation.{Machine, AtHome, place_of, IsSequential}
 use Rattle.session_model.specs.Benches.{Signal, Bench, bench_after, bench_gives, node_at, outputs_of, IsPlan, IsReady, HaveCycle}
 use Rattle.session_model.specs.Courses.{Course, graph, period, captured, players}

@@ -2,7 +2,7 @@
 --     AreApart-replay      no two edges of a state that changes led to have the same ends
 --     edge_place-at, link_place-at      an edge's and a link's place is where it stands
 use Rattle.std.proofs.Common.{map-id, inl, inr, ◌⊎◌, ◌==◌, eq-eqb, eqb-true, get_or, ◌≡◌, ℕ, ◌<◌, Bool, true, false, cond, ◌&&◌, List, [], ◌∷◌, ◌++◌, length, map, filter, find, Contains, is_none, is_some, nat_lt, refl, sym, ◌∙◌, ap, ap₂, subst, arith, append-nil, append_assoc}
-use Rattle.jack_types.specs.declared.ports.Link.{Link}
+use Rattle.session_model.specs.jack_types.specs.declared.ports.Link.{Link}
 use Rattle.session_model.specs.Activation.{AreLinks, link_at, no_link, incoming}
 use Rattle.session_model.specs.Samples.{below}
 use Rattle.std.proofs.lemmas.Bool.{cases_order}
@@ -11,10 +11,10 @@ use Rattle.session_laws.proofs.SequentialLemmas.{Contains-below}
 use Rattle.std.specs.Str.{bytes_eq}
 use Rattle.std.proofs.lemmas.List.{map-append, get_or_default}
 use Rattle.std.proofs.lemmas.List.Sums.{position_or_len_is}
-use Rattle.jack_types.specs.declared.commands.Change.{Change}
-use Rattle.jack_types.specs.declared.commands.Command.{Command}
-use Rattle.jack_types.specs.declared.commands.Command.TheVariants.{Open, Close, Activate, Deactivate, Register, Unregister, Connect, Disconnect, Start, Stop, Locate, Timeout, Slow, Timebase, TimebaseIf, Release, Latency}
-use Rattle.jack_types.specs.declared.replies.Refusal.TheVariants.{Exists}
+use Rattle.session_model.specs.jack_types.specs.declared.commands.Change.{Change}
+use Rattle.session_model.specs.jack_types.specs.declared.commands.Command.{Command}
+use Rattle.session_model.specs.jack_types.specs.declared.commands.Command.TheVariants.{Open, Close, Activate, Deactivate, Register, Unregister, Connect, Disconnect, Start, Stop, Locate, Timeout, Slow, Timebase, TimebaseIf, Release, Latency}
+use Rattle.session_model.specs.jack_types.specs.declared.replies.Refusal.TheVariants.{Exists}
 use Rattle.session_model.specs.Benches.{edge_place, link_place}
 use Rattle.session_model.specs.Commands.{effect, after, replay, refusal, refusals_of, applies, edges_left}
 use Rattle.session_model.specs.Loops.{mark_of, tested_edge, remark_from, remark}

@@ -2,12 +2,12 @@
 --     FeedbackInside edges      both ends of each feedback edge are clients'
 --     FeedbackInside-replay      so it is in each state that changes led to
 use Rattle.std.proofs.Common.{◌≡◌, ℕ, ◌<◌, Bool, true, false, cond, ◌⊎◌, inl, inr, List, [], ◌∷◌, ◌++◌, length, filter, Contains, is_none, nat_lt, refl, sym, ◌∙◌, ap, subst, arith, true≢false, append-nil}
-use Rattle.jack_types.specs.Names.{client_part}
-use Rattle.jack_types.specs.declared.commands.Change.{Change}
-use Rattle.jack_types.specs.declared.commands.Command.{Command}
-use Rattle.jack_types.specs.declared.commands.Command.TheVariants.{Open, Close, Activate, Deactivate, Register, Unregister, Connect, Disconnect, Start, Stop, Locate, Timeout, Slow, Timebase, TimebaseIf, Release, Latency}
-use Rattle.jack_types.specs.declared.ports.Mark.{Mark}
-use Rattle.jack_types.specs.declared.ports.Mark.TheVariants.{Direct, Feedback}
+use Rattle.session_model.specs.jack_types.specs.Names.{client_part}
+use Rattle.session_model.specs.jack_types.specs.declared.commands.Change.{Change}
+use Rattle.session_model.specs.jack_types.specs.declared.commands.Command.{Command}
+use Rattle.session_model.specs.jack_types.specs.declared.commands.Command.TheVariants.{Open, Close, Activate, Deactivate, Register, Unregister, Connect, Disconnect, Start, Stop, Locate, Timeout, Slow, Timebase, TimebaseIf, Release, Latency}
+use Rattle.session_model.specs.jack_types.specs.declared.ports.Mark.{Mark}
+use Rattle.session_model.specs.jack_types.specs.declared.ports.Mark.TheVariants.{Direct, Feedback}
 use Rattle.session_model.specs.Commands.{effect, after, replay, edges_left, refusal}
 use Rattle.session_model.specs.Loops.{IsPath, leads, direct_links, closes_loop, mark_of, tested_edge, remark_from, remark}
 use Rattle.session_model.specs.State.{State, NamedNode, CaptureNode, PlaybackNode, ClientNode, same_node, Connection, source_node, destination_node, is_direct, is_system, opening}

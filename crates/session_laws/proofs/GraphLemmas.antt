@@ -7,7 +7,7 @@ use Rattle.std.specs.List.{position_or_len}
 use Rattle.std.specs.Str.{bytes_eq}
 use Rattle.std.proofs.lemmas.List.{get_or_default}
 use Rattle.std.proofs.lemmas.List.Quantifiers.{position-Some}
-use Rattle.jack_types.specs.Names.{client_part}
+use Rattle.session_model.specs.jack_types.specs.Names.{client_part}
 use Rattle.session_model.specs.Benches.{port_place}
 use Rattle.session_model.specs.Commands.{ports_of, is_audio, is_input}
 use Rattle.session_model.specs.Courses.{Course, first_state, number, graph}

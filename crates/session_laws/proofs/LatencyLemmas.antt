@@ -4,10 +4,10 @@
 use Rattle.std.proofs.Common.{◌≡◌, ℕ, zero, suc, ◌<◌, ◌≤◌, ◌≢◌, Bool, true, false, cond, not, ◌&&◌, ◌⊎◌, inl, inr, List, [], ◌∷◌, ◌++◌, length, map, filter, Contains, if◌then◌else◌, refl, sym, ◌∙◌, ap, ap₂, subst, arith, true≢false}
 use Rattle.std.specs.Str.{bytes_eq}
 use lib.Pointwise.{bytes_decides}
-use Rattle.jack_types.specs.Names.{client_part}
-use Rattle.jack_types.specs.declared.ports.Mode.{Mode}
-use Rattle.jack_types.specs.declared.ports.Mode.TheVariants.{Capture, Playback}
-use Rattle.jack_types.specs.declared.ports.Range.{Range}
+use Rattle.session_model.specs.jack_types.specs.Names.{client_part}
+use Rattle.session_model.specs.jack_types.specs.declared.ports.Mode.{Mode}
+use Rattle.session_model.specs.jack_types.specs.declared.ports.Mode.TheVariants.{Capture, Playback}
+use Rattle.session_model.specs.jack_types.specs.declared.ports.Range.{Range}
 use Rattle.session_model.specs.Commands.{is_input}
 use Rattle.session_model.specs.Latencies.{Wiring, no_range, joined, later_by, direct_into, direct_from, inputs_of, outputs_of, output_range, input_range, range_of}
 use Rattle.session_model.specs.Loops.{IsPath, Leads, direct_links}

@@ -2,10 +2,10 @@
 --     IsLoopFree links      no list of nodes leads from a node to itself, but for the empty one
 --     HasNoLoop-replay      so it is of the direct edges of each state that changes led to
 use Rattle.std.proofs.Common.{◌≡◌, ℕ, ◌<◌, Bool, true, false, cond, ◌&&◌, ◌⊎◌, inl, inr, List, [], ◌∷◌, ◌++◌, length, map, filter, Contains, is_none, nat_lt, refl, sym, ◌∙◌, ap, subst, arith, true≢false, append-nil}
-use Rattle.jack_types.specs.declared.commands.Change.{Change}
-use Rattle.jack_types.specs.declared.commands.Command.{Command}
-use Rattle.jack_types.specs.declared.commands.Command.TheVariants.{Open, Close, Activate, Deactivate, Register, Unregister, Connect, Disconnect, Start, Stop, Locate, Timeout, Slow, Timebase, TimebaseIf, Release, Latency}
-use Rattle.jack_types.specs.declared.ports.Mark.TheVariants.{Direct, Feedback}
+use Rattle.session_model.specs.jack_types.specs.declared.commands.Change.{Change}
+use Rattle.session_model.specs.jack_types.specs.declared.commands.Command.{Command}
+use Rattle.session_model.specs.jack_types.specs.declared.commands.Command.TheVariants.{Open, Close, Activate, Deactivate, Register, Unregister, Connect, Disconnect, Start, Stop, Locate, Timeout, Slow, Timebase, TimebaseIf, Release, Latency}
+use Rattle.session_model.specs.jack_types.specs.declared.ports.Mark.TheVariants.{Direct, Feedback}
 use Rattle.session_model.specs.Commands.{effect, after, replay, edges_left, refusal}
 use Rattle.session_model.specs.Loops.{IsPath, leads, direct_links, closes_loop, mark_of, tested_edge, remark_from, remark}
 use Rattle.session_model.specs.State.{State, NamedNode, CaptureNode, PlaybackNode, ClientNode, same_node, Connection, source_node, destination_node, is_direct, opening}

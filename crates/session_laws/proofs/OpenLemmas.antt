@@ -5,17 +5,17 @@ use Rattle.std.specs.Str.{bytes_eq}
 use lib.Pointwise.{bytes_decides}
 use Rattle.std.proofs.lemmas.Bool.Decides.{nat_tests}
 use Rattle.std.proofs.lemmas.List.Elements.{Contains-append_left}
-use Rattle.jack_types.specs.Names.{client_part}
-use Rattle.jack_types.specs.declared.commands.Change.{Change}
-use Rattle.jack_types.specs.declared.commands.Command.{Command}
-use Rattle.jack_types.specs.declared.commands.Command.TheVariants.{Open, Close, Activate, Deactivate, Register, Unregister, Connect, Disconnect, Start, Stop, Locate, Timeout, Slow, Timebase, TimebaseIf, Release, Latency}
-use Rattle.jack_types.specs.declared.replies.Refusal.{Refusal}
-use Rattle.jack_types.specs.declared.replies.Refusal.TheVariants.{NoClient, IsSystem, NameTaken, PortsFull, NoSource, NoDestination, NotOutput, NotInput, TypeDiffers, Inactive, Exists, Full}
+use Rattle.session_model.specs.jack_types.specs.Names.{client_part}
+use Rattle.session_model.specs.jack_types.specs.declared.commands.Change.{Change}
+use Rattle.session_model.specs.jack_types.specs.declared.commands.Command.{Command}
+use Rattle.session_model.specs.jack_types.specs.declared.commands.Command.TheVariants.{Open, Close, Activate, Deactivate, Register, Unregister, Connect, Disconnect, Start, Stop, Locate, Timeout, Slow, Timebase, TimebaseIf, Release, Latency}
+use Rattle.session_model.specs.jack_types.specs.declared.replies.Refusal.{Refusal}
+use Rattle.session_model.specs.jack_types.specs.declared.replies.Refusal.TheVariants.{NoClient, IsSystem, NameTaken, PortsFull, NoSource, NoDestination, NotOutput, NotInput, TypeDiffers, Inactive, Exists, Full}
 use Rattle.session_model.specs.Commands.{refusal, applies, effect, after, replay, edges_left, touches, with_client}
 use Rattle.session_model.specs.Loops.{mark_of, tested_edge, remark_from, remark}
 use Rattle.session_model.specs.Samples.{below}
 use Rattle.session_model.specs.State.{State, OpenClient, OpenPort, Connection, is_direct, client_named, port_named, opening, capture_port, playback_port}
-use Rattle.jack_types.specs.declared.ports.Mode.{Mode}
+use Rattle.session_model.specs.jack_types.specs.declared.ports.Mode.{Mode}
 use Rattle.session_model.specs.Latencies.{Wiring, wiring_of, range_of}
 use Rattle.session_laws.proofs.CycleLemmas.{find-passes, find-contains}
 use Rattle.session_laws.proofs.LatencyLemmas.{range_at, range_at-enough, range_at-is}

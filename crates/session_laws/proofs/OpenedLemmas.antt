@@ -4,10 +4,10 @@
 use Rattle.std.proofs.Common.{◌≡◌, ℕ, ◌+◌, ◌<◌, Bool, true, false, cond, not, if◌then◌else◌, List, [], ◌∷◌, ◌++◌, slice_get, Contains, Some, is_none, inl, inr, ◌⊎◌, refl, sym, ◌∙◌, ap, subst, arith, true≢false, append_assoc, append-nil, ap₂}
 use Rattle.std.specs.Str.{bytes_eq}
 use Rattle.std.proofs.lemmas.Option.{slice_get-get_or}
-use Rattle.jack_types.specs.declared.commands.Change.{Change}
-use Rattle.jack_types.specs.declared.commands.Command.{Command}
-use Rattle.jack_types.specs.declared.commands.Command.TheVariants.{Open, Close, Activate, Deactivate, Register, Unregister, Connect, Disconnect, Start, Stop, Locate, Timeout, Slow, Timebase, TimebaseIf, Release, Latency}
-use Rattle.jack_types.specs.declared.kinds.Kind.{Kind}
+use Rattle.session_model.specs.jack_types.specs.declared.commands.Change.{Change}
+use Rattle.session_model.specs.jack_types.specs.declared.commands.Command.{Command}
+use Rattle.session_model.specs.jack_types.specs.declared.commands.Command.TheVariants.{Open, Close, Activate, Deactivate, Register, Unregister, Connect, Disconnect, Start, Stop, Locate, Timeout, Slow, Timebase, TimebaseIf, Release, Latency}
+use Rattle.session_model.specs.jack_types.specs.declared.kinds.Kind.{Kind}
 use Rattle.session_model.specs.Commands.{effect, after, replay, refusal, with_client}
 use Rattle.session_model.specs.Replies.{AreLawful}
 use Rattle.session_model.specs.Soundness.{IsOpenedBy}

@@ -10,9 +10,9 @@ use Rattle.std.proofs.lemmas.List.{get_or_default, length-set}
 use Rattle.std.proofs.lemmas.List.Edits.{swap_is, length-swap}
 use Rattle.std.proofs.lemmas.List.Quantifiers.{position-Some}
 use Rattle.std.proofs.lemmas.List.Sorted.{IsPermutation-keeps, IsPermutation-sym, length_permutation, Contains-permutation}
-use Rattle.jack_types.specs.declared.ports.Link.{Link}
-use Rattle.jack_types.specs.declared.ports.Mark.TheVariants.{Direct}
-use Rattle.jack_types.specs.Names.{client_part}
+use Rattle.session_model.specs.jack_types.specs.declared.ports.Link.{Link}
+use Rattle.session_model.specs.jack_types.specs.declared.ports.Mark.TheVariants.{Direct}
+use Rattle.session_model.specs.jack_types.specs.Names.{client_part}
 use Rattle.session_model.specs.Activation.{AreLinks}
 use Rattle.session_model.specs.Benches.{node_at, place_in, IsPlan}
 use Rattle.session_model.specs.Courses.{Course, first_state, number, graph, players}

@@ -6,8 +6,8 @@
 use Rattle.std.proofs.Common.{◌≡◌, ℕ, suc, ◌<◌, Bool, true, false, cond, ◌&&◌, ◌==◌, if◌then◌else◌, List, [], length, position, ℤ, Option, Some, None, refl, sym, ap, subst, arith}
 use Rattle.std.specs.Option.{option_map_or}
 use Rattle.std.specs.Str.{bytes_eq}
-use Rattle.jack_types.specs.Names.{client_part}
-use Rattle.jack_types.specs.declared.ports.Link.{Link}
+use Rattle.session_model.specs.jack_types.specs.Names.{client_part}
+use Rattle.session_model.specs.jack_types.specs.declared.ports.Link.{Link}
 use Rattle.session_model.specs.Activation.{Machine, AtHome, place_of, IsBench, IsSequential, sequential, given_to}
 use Rattle.session_model.specs.Benches.{Signal, Bench, bench_after, bench_gives, bench_played, IsPlan, IsReady, HaveCycle, outputs_of}
 use Rattle.session_model.specs.Courses.{Course, graph}

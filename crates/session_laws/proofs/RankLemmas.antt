@@ -5,7 +5,7 @@
 use Rattle.std.proofs.Common.{◌≡◌, ℕ, suc, ◌^◌, ◌<◌, ◌≤◌, ◌⊎◌, inl, inr, Bool, true, false, cond, not, ◌&&◌, List, [], ◌∷◌, ◌++◌, length, map, filter, find, Contains, Option, Some, None, is_some, refl, sym, ◌∙◌, ap, subst, arith, true≢false}
 use Rattle.std.specs.Prelude.{take, if◌then◌else◌}
 use Rattle.std.specs.Str.{bytes_eq}
-use Rattle.jack_types.specs.Names.{client_part}
+use Rattle.session_model.specs.jack_types.specs.Names.{client_part}
 use Rattle.session_model.specs.Courses.{Course, graph, number, first_state}
 use Rattle.session_model.specs.Cycles.{cycle}
 use Rattle.session_model.specs.Loops.{IsPath, leads, direct_links}

@@ -3,8 +3,8 @@
 --     AllClose-remark      each feedback edge of `remark edges` closes one
 --     remark-remark      marks that were made anew are not changed again
 use Rattle.std.proofs.Common.{◌≡◌, ℕ, ◌<◌, Bool, true, false, cond, ◌⊎◌, inl, inr, List, [], ◌∷◌, ◌++◌, Contains, refl, sym, ◌∙◌, ap, subst, arith, true≢false, append_assoc, append-nil}
-use Rattle.jack_types.specs.declared.ports.Mark.{Mark}
-use Rattle.jack_types.specs.declared.ports.Mark.TheVariants.{Direct, Feedback}
+use Rattle.session_model.specs.jack_types.specs.declared.ports.Mark.{Mark}
+use Rattle.session_model.specs.jack_types.specs.declared.ports.Mark.TheVariants.{Direct, Feedback}
 use Rattle.session_model.specs.Loops.{direct_links, closes_loop, mark_of, tested_edge, remark_from, remark}
 use Rattle.session_model.specs.State.{same_node, Connection, source_node, destination_node, is_direct}
 use Rattle.session_laws.proofs.LoopFreeLemmas.{AreAmong, IsPath-among, same_node-is, same_node-self, direct_links-contains, contains-direct_links, Contains-append_cases, Contains-append_left, Contains-append_right}

@@ -7,7 +7,7 @@ use Rattle.std.proofs.lemmas.List.{get_or_append_left}
 use Rattle.std.proofs.Math.Seq.{get_or-append_seam}
 use Rattle.std.proofs.lemmas.List.Elements.{filter-append}
 use Rattle.std.proofs.lemmas.List.Sums.{length-filter}
-use Rattle.jack_types.specs.declared.ports.Link.{Link}
+use Rattle.session_model.specs.jack_types.specs.declared.ports.Link.{Link}
 use Rattle.session_model.specs.Activation.{AreLinks, link_at, no_link, incoming, outgoing, place_among, given_within, given_to, value_of}
 use Rattle.session_model.specs.Samples.{below}
 use Rattle.session_laws.proofs.CycleLemmas.{map_filter-same}

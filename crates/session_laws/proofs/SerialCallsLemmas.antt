@@ -4,7 +4,7 @@ use Rattle.std.proofs.lemmas.Bool.{lt-leb}
 use Rattle.std.proofs.lemmas.Bool.Decides.{nat_tests}
 use Rattle.std.proofs.lemmas.List.Elements.{filter-append}
 use Rattle.std.proofs.lemmas.List.Concat.{flat_map-append}
-use Rattle.jack_types.specs.declared.commands.Command.{Command}
+use Rattle.session_model.specs.jack_types.specs.declared.commands.Command.{Command}
 use Rattle.session_model.specs.Samples.{below}
 use Rattle.session_model.specs.Scripts.{Script, Phase, LaneCall, Planned, Uncounted, phases, planned, planned_of, uncounted, counted}
 use Rattle.session_model.specs.Serial.{do_calls, due, lanes_at, calls_from, serial_calls}

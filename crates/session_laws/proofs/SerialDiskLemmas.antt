@@ -7,7 +7,7 @@ use Rattle.std.specs.List.{list_any}
 use Rattle.std.specs.List.Sorted.{IsStrictlyIncreasing}
 use Rattle.std.proofs.lemmas.Bool.Decides.{nat_tests}
 use Rattle.std.proofs.lemmas.List.Sums.{sum_by_push}
-use Rattle.jack_types.specs.declared.replies.Underrun.{Underrun}
+use Rattle.session_model.specs.jack_types.specs.declared.replies.Underrun.{Underrun}
 use Rattle.session_model.specs.Courses.{Course, turn, is_disk_active, is_underrun, played_before}
 use Rattle.session_model.specs.Disks.{Played, IsMissed, Turned, file_blocks, is_empty, filled, got_one, turned_before, is_missed_in, missed_at, missed_up_to, turned_underruns}
 use Rattle.session_model.specs.Samples.{below}

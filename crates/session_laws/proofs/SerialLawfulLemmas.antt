@@ -3,10 +3,10 @@
 --     serial-is_legal, serial-has_cycles      its serial history and numbers are lawful
 use Rattle.std.proofs.Common.{◌≡◌, ℕ, suc, ◌≤◌, Bool, true, false, cond, ◌==◌, List, [], ◌∷◌, ◌++◌, take, fold, slice_get, Some, None, refl, sym, ◌∙◌, ap, subst, arith, append_assoc, append-nil}
 use Rattle.std.proofs.lemmas.Bool.Decides.{nat_tests}
-use Rattle.jack_types.specs.declared.commands.Command.{Command}
-use Rattle.jack_types.specs.declared.scripts.Body.{Body}
-use Rattle.jack_types.specs.declared.scripts.Body.TheVariants.{Do, Run, Freewheel, Lane, Period}
-use Rattle.jack_types.specs.declared.scripts.Header.{Header}
+use Rattle.session_model.specs.jack_types.specs.declared.commands.Command.{Command}
+use Rattle.session_model.specs.jack_types.specs.declared.scripts.Body.{Body}
+use Rattle.session_model.specs.jack_types.specs.declared.scripts.Body.TheVariants.{Do, Run, Freewheel, Lane, Period}
+use Rattle.session_model.specs.jack_types.specs.declared.scripts.Header.{Header}
 use Rattle.session_model.specs.Grammar.{IsScript, IsBody, open_segment, segment_after, last_begun, begun_after}
 use Rattle.session_model.specs.Histories.{Legal, Cycles}
 use Rattle.session_model.specs.Scripts.{Script, Phase, LaneCall, phases, phases_of, lane_calls, with_do}

@@ -3,8 +3,8 @@
 use Rattle.std.proofs.Common.{◌≡◌, ℕ, zero, suc, ◌+◌, ◌<◌, ◌≤◌, Bool, true, false, cond, ◌&&◌, ◌==◌, ◌⊎◌, inl, inr, List, [], ◌∷◌, ◌++◌, length, map, filter, find, take, slice_get, All, Contains, Some, None, count_by, refl, sym, ◌∙◌, ap, subst, arith, eqb-true, eq-eqb, append_assoc, append-nil, true≢false, take_at}
 use Rattle.std.proofs.lemmas.List.Sums.{sum_by_push}
 use Rattle.std.proofs.lemmas.List.{take-append-le}
-use Rattle.jack_types.specs.declared.commands.Call.{Call}
-use Rattle.jack_types.specs.declared.replies.Entry.{Entry}
+use Rattle.session_model.specs.jack_types.specs.declared.commands.Call.{Call}
+use Rattle.session_model.specs.jack_types.specs.declared.replies.Entry.{Entry}
 use Rattle.session_model.specs.Histories.{Legal, KeepsLane, KeepsStages, KeepsReplies, calls_of, accepted, state_after, plan_of}
 use Rattle.session_model.specs.Replies.{reply}
 use Rattle.session_model.specs.Scripts.{Script, Planned, Uncounted, phases, planned, planned_of, uncounted, counted}

@@ -6,8 +6,8 @@ use native.Mathlib.Nat.{min-le_left, le-min}
 use Rattle.std.specs.List.{list_any}
 use Rattle.std.specs.List.Sorted.{IsStrictlyIncreasing}
 use Rattle.std.proofs.lemmas.List.Sums.{sum_by_push, sum_by-cons}
-use Rattle.jack_types.specs.declared.replies.Overrun.{Overrun}
-use Rattle.jack_types.specs.declared.replies.Underrun.{Underrun}
+use Rattle.session_model.specs.jack_types.specs.declared.replies.Overrun.{Overrun}
+use Rattle.session_model.specs.jack_types.specs.declared.replies.Underrun.{Underrun}
 use Rattle.session_model.specs.Courses.{Course, DiskFile, turn}
 use Rattle.session_model.specs.Grammar.{IsScript}
 use Rattle.session_model.specs.Kinds.{Sound}

@@ -4,9 +4,9 @@ use Rattle.std.proofs.Common.{◌≡◌, ℕ, zero, suc, ◌+◌, ◌*◌, ◌<�
 use Rattle.std.specs.Option.{option_map_or}
 use Rattle.std.proofs.lemmas.Bool.Decides.{nat_tests}
 use Rattle.std.proofs.lemmas.List.Elements.{filter-append, filter_map-append}
-use Rattle.jack_types.specs.declared.commands.Call.{Call}
-use Rattle.jack_types.specs.declared.commands.Command.{Command}
-use Rattle.jack_types.specs.declared.replies.Entry.{Entry}
+use Rattle.session_model.specs.jack_types.specs.declared.commands.Call.{Call}
+use Rattle.session_model.specs.jack_types.specs.declared.commands.Command.{Command}
+use Rattle.session_model.specs.jack_types.specs.declared.replies.Entry.{Entry}
 use Rattle.session_model.specs.Histories.{Cycles, KeepsAsked, IsWithinPhase, accepted, accepted_below, change_of, plan_of, stage_of}
 use Rattle.session_model.specs.Scripts.{Script, Phase, LaneCall, Planned, Uncounted, ScriptCycle, phases, planned, turns, turns_from, uncounted}
 use Rattle.session_model.specs.Serial.{serial, serial_calls, serial_history, serial_number, serial_numbers, numbers_from, is_before}

@@ -3,11 +3,11 @@
 --     IsPlan-from      nodes that are the playing clients in another order, with links that go upward, are a plan's
 use Rattle.std.proofs.Common.{◌≡◌, ℕ, zero, suc, ◌+◌, ◌<◌, ◌≤◌, Bool, true, false, cond, not, if◌then◌else◌, List, [], ◌∷◌, ◌++◌, length, map, filter, find, take, slice_get, get_or, Contains, Option, Some, None, is_some, is_none, inl, inr, ◌⊎◌, refl, sym, ◌∙◌, ap, subst, arith, true≢false}
 use Rattle.std.specs.Str.{bytes_eq}
-use Rattle.jack_types.specs.declared.commands.Change.{Change}
-use Rattle.jack_types.specs.declared.commands.Command.{Command}
-use Rattle.jack_types.specs.declared.commands.Command.TheVariants.{Open, Close, Activate, Deactivate, Register, Unregister, Connect, Disconnect, Start, Stop, Locate, Timeout, Slow, Timebase, TimebaseIf, Release, Latency}
-use Rattle.jack_types.specs.declared.replies.Refusal.{Refusal}
-use Rattle.jack_types.specs.declared.replies.Refusal.TheVariants.{NoClient, IsOpen, IsSystem, NameTaken, AlreadyActive, NotActive, ClientsFull, PortsFull, InUse}
+use Rattle.session_model.specs.jack_types.specs.declared.commands.Change.{Change}
+use Rattle.session_model.specs.jack_types.specs.declared.commands.Command.{Command}
+use Rattle.session_model.specs.jack_types.specs.declared.commands.Command.TheVariants.{Open, Close, Activate, Deactivate, Register, Unregister, Connect, Disconnect, Start, Stop, Locate, Timeout, Slow, Timebase, TimebaseIf, Release, Latency}
+use Rattle.session_model.specs.jack_types.specs.declared.replies.Refusal.{Refusal}
+use Rattle.session_model.specs.jack_types.specs.declared.replies.Refusal.TheVariants.{NoClient, IsOpen, IsSystem, NameTaken, AlreadyActive, NotActive, ClientsFull, PortsFull, InUse}
 use Rattle.session_model.specs.Commands.{effect, after, replay, refusal, refusals_of, applies, with_client}
 use Rattle.session_model.specs.Soundness.{Apart, IsSound}
 use Rattle.session_model.specs.State.{State, OpenClient, OpenPort, client_named, port_named, is_system, system_client, system_name}

@@ -3,12 +3,12 @@
 use Rattle.std.proofs.Common.{◌≡◌, ℕ, ◌<◌, ◌≤◌, Bool, true, false, cond, not, ◌&&◌, ◌||◌, List, [], ◌∷◌, ◌++◌, length, filter, find, Contains, Option, Some, None, is_some, is_none, nat_lt, inl, inr, ◌⊎◌, refl, sym, ◌∙◌, ap, subst, arith, true≢false, ltb-false, if◌then◌else◌}
 use Rattle.std.specs.Option.{option_map_or}
 use Rattle.std.specs.Str.{bytes_eq}
-use Rattle.jack_types.specs.Names.{client_part}
-use Rattle.jack_types.specs.declared.commands.Change.{Change}
-use Rattle.jack_types.specs.declared.commands.Command.{Command}
-use Rattle.jack_types.specs.declared.commands.Command.TheVariants.{Open, Close, Activate, Deactivate, Register, Unregister, Connect, Disconnect, Start, Stop, Locate, Timeout, Slow, Timebase, TimebaseIf, Release, Latency}
-use Rattle.jack_types.specs.declared.replies.Refusal.{Refusal}
-use Rattle.jack_types.specs.declared.replies.Refusal.TheVariants.{NoSource, NoDestination, NotOutput, NotInput, TypeDiffers, Inactive, Exists, Full}
+use Rattle.session_model.specs.jack_types.specs.Names.{client_part}
+use Rattle.session_model.specs.jack_types.specs.declared.commands.Change.{Change}
+use Rattle.session_model.specs.jack_types.specs.declared.commands.Command.{Command}
+use Rattle.session_model.specs.jack_types.specs.declared.commands.Command.TheVariants.{Open, Close, Activate, Deactivate, Register, Unregister, Connect, Disconnect, Start, Stop, Locate, Timeout, Slow, Timebase, TimebaseIf, Release, Latency}
+use Rattle.session_model.specs.jack_types.specs.declared.replies.Refusal.{Refusal}
+use Rattle.session_model.specs.jack_types.specs.declared.replies.Refusal.TheVariants.{NoSource, NoDestination, NotOutput, NotInput, TypeDiffers, Inactive, Exists, Full}
 use Rattle.session_model.specs.Commands.{effect, after, replay, refusal, refusals_of, applies, edges_left, touches, with_client, is_input, is_audio, same_bool, types_differ}
 use Rattle.session_model.specs.Loops.{mark_of, tested_edge, remark_from, remark}
 use Rattle.session_model.specs.Soundness.{IsEnd, IsWired}

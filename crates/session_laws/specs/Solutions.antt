@@ -4,8 +4,8 @@
 --     Rises rank state      each direct edge goes from a lower to a higher rank
 --     IsOneSolution course at now      these solve the equations, and no others do
 use Rattle.std.specs.Prelude.{◌≡◌, ℕ, ◌<◌, false, List, Contains}
-use Rattle.jack_types.specs.Names.{client_part}
-use Rattle.jack_types.specs.declared.ports.Mark.TheVariants.{Direct}
+use Rattle.session_model.specs.jack_types.specs.Names.{client_part}
+use Rattle.session_model.specs.jack_types.specs.declared.ports.Mark.TheVariants.{Direct}
 use Rattle.session_model.specs.Courses.{Course}
 use Rattle.session_model.specs.Cycles.{Signals, Settled, given}
 use Rattle.session_model.specs.State.{State, Connection, is_system}

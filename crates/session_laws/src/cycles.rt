@@ -1,7 +1,7 @@
 //! Laws of the cycles: a crew over a plan's benches plays what the definitions say.
 
 ghost use Rattle.std.specs.Prelude.{◌≡◌, ℕ, suc, ◌^◌, ◌<◌, ◌≤◌, List, length, Option, None, Some};
-ghost use Rattle.jack_types.specs.declared.ports.Link.{Link as LinkValue};
+ghost use Rattle.session_model.specs.jack_types.specs.declared.ports.Link.{Link as LinkValue};
 ghost use Rattle.session_model.specs.Activation.{AtHome, IsSequential, Machine, place_of};
 ghost use Rattle.session_model.specs.Benches.{Bench, IsPlan, HaveCycle, IsReady, Signal, bench_after, bench_gives, node_at};
 ghost use Rattle.session_model.specs.Courses.{Course, first_state, graph, number};

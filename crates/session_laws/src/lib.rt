@@ -5,3 +5,5 @@ pub mod cycles;
 pub mod loops;
 pub mod machine;
 pub mod serial;
+
+pub use session_model::jack_types;

@@ -1,7 +1,7 @@
 //! Laws of marks and of what feedback is.
 
 ghost use Rattle.std.specs.Prelude.{◌≡◌, ℕ, Bool, true, List, ◌↔◌};
-ghost use Rattle.jack_types.specs.declared.commands.Change.{Change as ChangeValue};
+ghost use Rattle.session_model.specs.jack_types.specs.declared.commands.Change.{Change as ChangeValue};
 ghost use Rattle.session_laws.specs.LoopFree.{AllClose, HasNoLoop};
 ghost use Rattle.session_model.specs.Commands.{replay};
 ghost use Rattle.session_model.specs.Loops.{Leads, leads, remark};

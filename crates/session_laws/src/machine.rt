@@ -1,7 +1,7 @@
 //! Laws of the activation machine, over any memories and values.
 
 ghost use Rattle.std.specs.Prelude.{◌≡◌, ℕ, ◌<◌, List, length, map, true, Some};
-ghost use Rattle.jack_types.specs.declared.ports.Link.{Link as LinkValue};
+ghost use Rattle.session_model.specs.jack_types.specs.declared.ports.Link.{Link as LinkValue};
 ghost use Rattle.session_model.specs.Activation.{Allowed, AreLinks, AtHome, Benches, Does, IsConsistent, IsQuiet, IsRight, Machine, Move, fresh, given_to, incoming, is_released, moved, place_of, sequential, value_of};
 
 /// Before any step counters, places and releases agree, and each step keeps that.

@@ -1,7 +1,7 @@
 //! Laws of serial mode.
 
 ghost use Rattle.std.specs.Prelude.{◌≡◌, ℕ, ◌<◌, ℤ, List, [], length, slice_index_or, None};
-ghost use Rattle.jack_types.specs.declared.replies.Underrun.{Underrun as UnderrunValue};
+ghost use Rattle.session_model.specs.jack_types.specs.declared.replies.Underrun.{Underrun as UnderrunValue};
 ghost use Rattle.session_model.specs.Courses.{DiskFile};
 ghost use Rattle.session_model.specs.Explanations.{Explained, Given, written_of};
 ghost use Rattle.session_model.specs.Grammar.{IsScript};

@@ -12,15 +12,15 @@ use Rattle.jack_types.specs.declared.scripts.ScriptFault.{ScriptFault}
 use Rattle.script_header.specs.declared.optional.Optional.{Optional}
 use Rattle.script_header.specs.declared.required.Required.{Required}
 use Rattle.script_header.specs.Fronts.{Item, required_of, optional_of, fill_of, disks_of, events_of, header_of, front_of}
-use Rattle.grammar_laws.proofs.GrammarLaws.{spelled, read}
-use Rattle.grammar_laws.proofs.GrammarReaders.{ok_is}
-use Rattle.grammar_laws.proofs.GrammarText.{printed}
-use Rattle.session_model.specs.Grammar.{IsListed, Spells, script_text}
-use Rattle.session_model.specs.Reading.{◌>>=◌, required, optional, several, version, number, period, channels_and_bits, workers, recorder, body_lines, script_of_lines, script_of, fault_of, script_fault}
-use Rattle.session_model.specs.Samples.{below}
-use Rattle.session_model.specs.Scripts.{Script}
-use Rattle.session_model.specs.Texts.{Line, line_after, said, text_lines}
-use Rattle.script_words.specs.Remaining.{Remaining, remaining_from}
+use Rattle.script_text.specs.grammar_laws.proofs.GrammarLaws.{spelled, read}
+use Rattle.script_text.specs.grammar_laws.proofs.GrammarReaders.{ok_is}
+use Rattle.script_text.specs.grammar_laws.proofs.GrammarText.{printed}
+use Rattle.script_text.specs.session_model.specs.Grammar.{IsListed, Spells, script_text}
+use Rattle.script_text.specs.session_model.specs.Reading.{◌>>=◌, required, optional, several, version, number, period, channels_and_bits, workers, recorder, body_lines, script_of_lines, script_of, fault_of, script_fault}
+use Rattle.script_text.specs.session_model.specs.Samples.{below}
+use Rattle.script_text.specs.session_model.specs.Scripts.{Script}
+use Rattle.script_text.specs.session_model.specs.Texts.{Line, line_after, said, text_lines}
+use Rattle.script_header.specs.script_words.specs.Remaining.{Remaining, remaining_from}
 use Rattle.session_script.specs.Parts.{list_of, lists_below, script_of_parts, IsLawful}
 
 -- what follows a chain goes into it

@@ -6,9 +6,9 @@ use Rattle.std.specs.Prelude.{ℕ, ◌==◌, List, map, filter}
 use Rattle.jack_types.specs.declared.events.Event.{Event}
 use Rattle.jack_types.specs.declared.scripts.Body.{Body}
 use Rattle.jack_types.specs.declared.scripts.Header.{Header}
-use Rattle.session_model.specs.Grammar.{IsScript}
-use Rattle.session_model.specs.Samples.{below}
-use Rattle.session_model.specs.Scripts.{Script}
+use Rattle.script_text.specs.session_model.specs.Grammar.{IsScript}
+use Rattle.script_text.specs.session_model.specs.Samples.{below}
+use Rattle.script_text.specs.session_model.specs.Scripts.{Script}
 
 -- the events of a list
 abbrev pub list_of : ℕ → List (ℕ × (ℕ × Event)) → List (ℕ × Event)

@@ -2,15 +2,15 @@
 
 ghost use Rattle.std.specs.Prelude.{◌≡◌, ◌≤◌, length, map};
 ghost use Rattle.script_body.specs.Bodies.{ReadsAllBy};
-ghost use Rattle.session_model.specs.Reading.{script_of, script_of_lines};
-ghost use Rattle.session_model.specs.Texts.{line_after, said};
+ghost use Rattle.script_text.specs.session_model.specs.Reading.{script_of, script_of_lines};
+ghost use Rattle.script_text.specs.session_model.specs.Texts.{line_after, said};
 ghost use Rattle.session_script.specs.Parts.{script_of_parts};
 
 use crate::lists::lists_of;
 use jack_types::{Body, Cause, Event, Header, ScriptFault};
 use script_body::read_body;
 use script_header::read_front;
-use script_words::Lines;
+use script_header::script_words::Lines;
 use std::alloc::Global;
 
 const MOST_BYTES: usize = 1048576;

@@ -21,7 +21,7 @@ pub struct Script {
 
 impl Model for Script {
     ghost use Rattle.std.specs.Prelude.{map};
-    ghost use Rattle.session_model.specs.Scripts.{Script as ScriptValue};
+    ghost use Rattle.script_text.specs.session_model.specs.Scripts.{Script as ScriptValue};
     ghost use Rattle.session_script.specs.Parts.{IsLawful, script_of_parts};
 
     ghost Value = { ScriptValue };
@@ -55,9 +55,9 @@ impl Text {
 }
 
 impl Script {
-    ghost use Rattle.session_model.specs.Grammar.{IsScript, Spells, script_text};
-    ghost use Rattle.session_model.specs.Reading.{script_fault};
-    ghost use Rattle.session_model.specs.Scripts.{Script as ScriptValue};
+    ghost use Rattle.script_text.specs.session_model.specs.Grammar.{IsScript, Spells, script_text};
+    ghost use Rattle.script_text.specs.session_model.specs.Reading.{script_fault};
+    ghost use Rattle.script_text.specs.session_model.specs.Scripts.{Script as ScriptValue};
 
     /// Reads a script in one pass, or answers its first fault. Any bytes will do.
     ///

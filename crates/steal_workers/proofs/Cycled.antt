@@ -7,10 +7,10 @@ use Rattle.std.proofs.Common.{◌≡◌, ℕ, ◌%◌, ◌<◌, ◌≤◌, Bool,
 use Rattle.std.specs.Global.{Global, Vec}
 use Rattle.std.proofs.lemmas.List.{get_or_default, length-map}
 use Rattle.crossbeam_deque.specs.Handles.{Pass, IsPassOf}
-use Rattle.activation.specs.declared.takens.Seat.{Seat}
-use Rattle.activation.specs.Rule.{has}
-use Rattle.activation.specs.Rounds.{AreSeats, HavePlayed, Know, AreFresh}
-use Rattle.activation.specs.Seats.{new_duty}
+use Rattle.cycle_workers.specs.activation.specs.declared.takens.Seat.{Seat}
+use Rattle.cycle_workers.specs.activation.specs.Rule.{has}
+use Rattle.cycle_workers.specs.activation.specs.Rounds.{AreSeats, HavePlayed, Know, AreFresh}
+use Rattle.cycle_workers.specs.activation.specs.Seats.{new_duty}
 use Rattle.cycle_workers.specs.Runs.{HaveRoom}
 use Rattle.cycle_workers.proofs.Going.{long_as, mapped_same}
 use Rattle.steal_workers.specs.declared.tallies.Tally.{Tally}

@@ -4,12 +4,12 @@ use mathlib.Core.Logic.{dite}
 use native.Mathlib.Decide.{ℕ_discrete}
 use Rattle.jack_types.specs.declared.ports.Link.{Link}
 use Rattle.session_model.specs.Activation.{AreLinks, link_at, outgoing}
-use Rattle.activation.specs.declared.views.Duty.{Duty}
-use Rattle.activation.specs.Rule.{has}
-use Rattle.activation.specs.Plays.{without}
-use Rattle.activation.specs.Takens.{with_started, with_released, with_held, with_home, with_left, with_looked, AreBetween}
-use Rattle.activation.proofs.Looking.{looked_on, looked_all, left_more}
-use Rattle.activation.proofs.Testing.{has_skip, off_or_on}
+use Rattle.cycle_workers.specs.activation.specs.declared.views.Duty.{Duty}
+use Rattle.cycle_workers.specs.activation.specs.Rule.{has}
+use Rattle.cycle_workers.specs.activation.specs.Plays.{without}
+use Rattle.cycle_workers.specs.activation.specs.Takens.{with_started, with_released, with_held, with_home, with_left, with_looked, AreBetween}
+use Rattle.cycle_workers.specs.activation.proofs.Looking.{looked_on, looked_all, left_more}
+use Rattle.cycle_workers.specs.activation.proofs.Testing.{has_skip, off_or_on}
 use Rattle.cycle_workers.specs.Runs.{IsRun}
 use Rattle.cycle_workers.proofs.Going.{Going, Shared, gone, has_without, going_none, going_some, shared_none, shared_some}
 use Rattle.steal_workers.specs.declared.ends.Deque.{Deque}

@@ -1,6 +1,6 @@
 -- A seat that has started its share, and goes on with its work.
 use Rattle.std.proofs.Common.{arith, ◌≡◌, ◌<◌, ℕ, Bool, List, length, get_or, sym, ap, ◌∙◌, subst}
-use Rattle.activation.specs.Rule.{has}
+use Rattle.cycle_workers.specs.activation.specs.Rule.{has}
 use Rattle.cycle_workers.specs.Runs.{HaveRoom}
 use Rattle.steal_workers.specs.declared.ends.Stealer.{Stealer}
 use Rattle.steal_workers.specs.declared.places.Place.{Place}

@@ -4,9 +4,9 @@
 use Rattle.std.specs.Prelude.{ℕ, List}
 use Rattle.atomic_table.specs.Seated.{TableId}
 use Rattle.jack_types.specs.declared.ports.Link.{Link}
-use Rattle.activation.specs.declared.crews.Crew.{Crew}
-use Rattle.activation.specs.declared.takens.Seat.{Seat}
-use Rattle.activation.specs.Seats.{Sits}
+use Rattle.cycle_workers.specs.activation.specs.declared.crews.Crew.{Crew}
+use Rattle.cycle_workers.specs.activation.specs.declared.takens.Seat.{Seat}
+use Rattle.cycle_workers.specs.activation.specs.Seats.{Sits}
 
 pub record CrewFacts : Type 0 where
   pub id : TableId

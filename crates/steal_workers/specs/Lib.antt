@@ -5,3 +5,5 @@ pub mod Places
 pub mod Steals
 pub mod Works
 pub mod Thefts
+pub use Rattle.cycle_workers
+pub use Rattle.cycle_workers.specs.session_laws

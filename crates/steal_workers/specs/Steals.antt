@@ -8,10 +8,10 @@
 use Rattle.std.specs.Prelude.{◌≡◌, ◌<◌, ◌%◌, ◌⊎◌, ℕ, true, false, List, [], length}
 use Rattle.jack_types.specs.declared.ports.Link.{Link}
 use Rattle.session_model.specs.Activation.{link_at}
-use Rattle.activation.specs.declared.views.Duty.{Duty}
-use Rattle.activation.specs.Rule.{has}
-use Rattle.activation.specs.Plays.{without}
-use Rattle.activation.specs.Takens.{AreBetween}
+use Rattle.cycle_workers.specs.activation.specs.declared.views.Duty.{Duty}
+use Rattle.cycle_workers.specs.activation.specs.Rule.{has}
+use Rattle.cycle_workers.specs.activation.specs.Plays.{without}
+use Rattle.cycle_workers.specs.activation.specs.Takens.{AreBetween}
 use Rattle.steal_workers.specs.declared.ends.Deque.{Deque}
 use Rattle.steal_workers.specs.Deques.{tally_of, SameDeque}
 

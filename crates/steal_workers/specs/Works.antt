@@ -5,9 +5,9 @@
 --     GoesOn .. old new, WorksOn .. old new      the seat sits there still, and has played on
 --     MaySweep .. seat, Sweeps .. old new      a seat before it looks for all nodes, and behind that
 use Rattle.std.specs.Prelude.{◌≡◌, ◌<◌, ℕ, Bool, List, [], ◌∷◌, Some, vec_capacity}
-use Rattle.activation.specs.declared.takens.Seat.{Seat}
-use Rattle.activation.specs.Seats.{new_duty}
-use Rattle.activation.specs.Takens.{AreBetween}
+use Rattle.cycle_workers.specs.activation.specs.declared.takens.Seat.{Seat}
+use Rattle.cycle_workers.specs.activation.specs.Seats.{new_duty}
+use Rattle.cycle_workers.specs.activation.specs.Takens.{AreBetween}
 use Rattle.cycle_workers.specs.Runs.{HaveRoom}
 use Rattle.steal_workers.specs.declared.ends.Stealer.{Stealer}
 use Rattle.steal_workers.specs.declared.places.Place.{Place}

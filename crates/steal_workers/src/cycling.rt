@@ -1,7 +1,7 @@
 //! All seats in threads, and what the calling thread does before and behind them.
 ghost use Rattle.std.specs.Prelude.{◌≡◌, List, length, All};
-ghost use Rattle.activation.specs.Ends.{AreEnded};
-ghost use Rattle.activation.specs.Rounds.{AreSeats, HavePlayed, Know, AreFresh};
+ghost use Rattle.cycle_workers.specs.activation.specs.Ends.{AreEnded};
+ghost use Rattle.cycle_workers.specs.activation.specs.Rounds.{AreSeats, HavePlayed, Know, AreFresh};
 ghost use Rattle.cycle_workers.specs.Runs.{HaveRoom};
 ghost use Rattle.steal_workers.specs.Crews.{facts_of};
 ghost use Rattle.steal_workers.specs.Thefts.{AreEmpty};
@@ -12,7 +12,7 @@ use crate::places::Place;
 use crate::seating::{begin, end};
 use crate::stealing::{start_all, sweep_all, work};
 use crate::thieves::Thieves;
-use activation::{Crew, Seat, Work};
+use cycle_workers::activation::{Crew, Seat, Work};
 use jack_host::Gate;
 use std::thread;
 use std::thread::Threads;

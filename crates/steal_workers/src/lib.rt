@@ -11,5 +11,6 @@ mod stealing;
 mod tallies;
 mod thieves;
 
+pub use cycle_workers;
 pub use cycling::steal_cycle;
 pub use thieves::Thieves;

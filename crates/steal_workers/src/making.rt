@@ -5,7 +5,7 @@ ghost use Rattle.steal_workers.specs.Thefts.{AreEmpty};
 use crate::ends::Deque;
 use crate::places::Place;
 use crate::thieves::Thieves;
-use activation::Work;
+use cycle_workers::activation::Work;
 use std::alloc::{AllocError, Global};
 
 impl<B: Work> Thieves<B> {

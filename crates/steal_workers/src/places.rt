@@ -1,6 +1,6 @@
 //! The place of a seat: its deque, and in a cycle the seat itself.
 use crate::ends::{Deque, Pass};
-use activation::{Seat, Work};
+use cycle_workers::activation::{Seat, Work};
 
 /// A seat in a cycle, with a pass to each deque, in the order of the seats.
 #[derive(Drop)]

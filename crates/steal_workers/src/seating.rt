@@ -3,7 +3,7 @@ ghost use Rattle.std.specs.Prelude.{◌≡◌, ◌+◌, ◌<◌, ◌≤◌, ℕ,
 ghost use Rattle.steal_workers.specs.Tallies.{every_part, HasAll, IsEven};
 ghost use Rattle.steal_workers.specs.Deques.{tally_of, SameDeque};
 ghost use Rattle.steal_workers.specs.Places.{Paired, parts_of, IsPassAt, Lends, TakesBack, Empties, thief_of, TakesPlace, MayLeave};
-ghost use Rattle.activation.specs.declared.takens.Seat.{Seat};
+ghost use Rattle.cycle_workers.specs.activation.specs.declared.takens.Seat.{Seat};
 ghost use Rattle.steal_workers.specs.declared.places.Place.{Place};
 ghost use Rattle.std.specs.Global.{Vec, Global};
 ghost use Rattle.crossbeam_deque.specs.Handles.{Pass};
@@ -11,7 +11,7 @@ ghost use Rattle.steal_workers.specs.declared.tallies.Tally.{Tally};
 
 use crate::ends::Pass;
 use crate::places::{Place, Thief};
-use activation::{Seat, Work};
+use cycle_workers::activation::{Seat, Work};
 
 // Lends a pass of each deque.
 fn lend<B: Work>(places: &mut [Place<B>], row: &mut Vec<Pass>)

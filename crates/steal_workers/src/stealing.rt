@@ -1,8 +1,8 @@
 //! What each seat runs.
 ghost use Rattle.std.specs.Prelude.{◌≡◌, ◌<◌, ◌⊎◌, [], ◌∷◌, length, All, vec_capacity};
-ghost use Rattle.activation.specs.Plays.{without};
-ghost use Rattle.activation.specs.Seats.{new_duty};
-ghost use Rattle.activation.specs.Takens.{IsUnplayed, AreBetween};
+ghost use Rattle.cycle_workers.specs.activation.specs.Plays.{without};
+ghost use Rattle.cycle_workers.specs.activation.specs.Seats.{new_duty};
+ghost use Rattle.cycle_workers.specs.activation.specs.Takens.{IsUnplayed, AreBetween};
 ghost use Rattle.cycle_workers.specs.Runs.{HaveRoom};
 ghost use Rattle.steal_workers.specs.Crews.{facts_of, IsSeatOf};
 ghost use Rattle.steal_workers.specs.Tallies.{with_pushed};
@@ -13,7 +13,7 @@ ghost use Rattle.steal_workers.specs.Works.{IsReady, IsUnderWay, IsAtWork, Works
 
 use crate::ends::{Deque, Pass, Stealer};
 use crate::places::{Place, Thief};
-use activation::{Crew, Seat, Taken, Work};
+use cycle_workers::activation::{Crew, Seat, Taken, Work};
 use cycle_workers::run;
 use jack_host::Gate;
 

@@ -1,7 +1,7 @@
 //! What the seats of a crew steal by.
 use crate::ends::{Pass, Stealer};
 use crate::places::Place;
-use activation::Work;
+use cycle_workers::activation::Work;
 use std::marker::Model;
 
 /// What the seats of a crew steal by: a deque of node numbers for each, and the passes to all of them.

@@ -11,13 +11,13 @@ use Rattle.jack_types.specs.declared.commands.Change.{Change}
 use Rattle.jack_types.specs.declared.commands.Command.{Command}
 use Rattle.jack_types.specs.declared.scripts.Body.{Body}
 use Rattle.jack_types.specs.declared.scripts.Body.TheVariants.{Do, Run, Freewheel, Lane, Period}
-use Rattle.session_model.specs.Commands.{after, effect, refusal, replay}
-use Rattle.session_model.specs.Grammar.{IsScript, IsBody, IsCommand}
-use Rattle.session_model.specs.Scripts.{Script, Phase, LaneCall, Planned, Uncounted, phases, phases_of, planned, uncounted, lane_calls, with_do}
-use Rattle.session_model.specs.State.{State}
-use Rattle.session_laws.proofs.ListLemmas.{Each, Each-append, Each-contains, Each-from_contains, Each-map, Each-unmap}
-use Rattle.session_laws.proofs.SerialCallsLemmas.{Each-counted, dos_of, calls_at}
-use Rattle.session_laws.proofs.SoundLemmas.{contains-map}
+use Rattle.driver_laws.specs.session_model.specs.Commands.{after, effect, refusal, replay}
+use Rattle.driver_laws.specs.session_model.specs.Grammar.{IsScript, IsBody, IsCommand}
+use Rattle.driver_laws.specs.session_model.specs.Scripts.{Script, Phase, LaneCall, Planned, Uncounted, phases, phases_of, planned, uncounted, lane_calls, with_do}
+use Rattle.driver_laws.specs.session_model.specs.State.{State}
+use Rattle.driver_laws.specs.session_laws.proofs.ListLemmas.{Each, Each-append, Each-contains, Each-from_contains, Each-map, Each-unmap}
+use Rattle.driver_laws.specs.session_laws.proofs.SerialCallsLemmas.{Each-counted, dos_of, calls_at}
+use Rattle.driver_laws.specs.session_laws.proofs.SoundLemmas.{contains-map}
 use Rattle.driver_laws.specs.Keeping.{AreOfCalls}
 
 each-at : {X : Type 0} (P : X → Type 0) (xs : List X) → ((i : ℕ) (x : X) → slice_get xs i ≡ Some x → P x) → Each P xs

@@ -13,13 +13,13 @@ use Rattle.jack_types.specs.declared.commands.Call.{Call}
 use Rattle.jack_types.specs.declared.commands.Change.{Change}
 use Rattle.jack_types.specs.declared.commands.Command.{Command}
 use Rattle.jack_types.specs.declared.kinds.Kind.{Kind}
-use Rattle.session_model.specs.Scripts.{Script, Planned, planned}
-use Rattle.session_model.specs.Soundness.{Apart}
-use Rattle.session_laws.proofs.CycleLemmas.{filter-passes}
-use Rattle.session_laws.proofs.ListLemmas.{Each, Each-from_contains, Each-weaker, Ordered, Ordered-filter}
-use Rattle.session_laws.proofs.PlaceLemmas.{filter-contains, filter-keeps}
-use Rattle.session_laws.proofs.SoundLemmas.{map-contains}
-use Rattle.session_laws.proofs.FilterLemmas.{count-cons, count-map_after}
+use Rattle.driver_laws.specs.session_model.specs.Scripts.{Script, Planned, planned}
+use Rattle.driver_laws.specs.session_model.specs.Soundness.{Apart}
+use Rattle.driver_laws.specs.session_laws.proofs.CycleLemmas.{filter-passes}
+use Rattle.driver_laws.specs.session_laws.proofs.ListLemmas.{Each, Each-from_contains, Each-weaker, Ordered, Ordered-filter}
+use Rattle.driver_laws.specs.session_laws.proofs.PlaceLemmas.{filter-contains, filter-keeps}
+use Rattle.driver_laws.specs.session_laws.proofs.SoundLemmas.{map-contains}
+use Rattle.driver_laws.specs.session_laws.proofs.FilterLemmas.{count-cons, count-map_after}
 use Rattle.driver_laws.specs.Keeping.{AreOfCalls}
 use Rattle.task_laws.specs.Calls.{AreOwners, HasOpened, kind_opened, open_kinds, opens}
 use Rattle.task_laws.proofs.PigeonLemmas.{pigeon, same_kind, same_kind-is, same_kind-itself}

@@ -6,12 +6,12 @@ use Rattle.jack_types.specs.declared.commands.Command.TheVariants.{Open, Close, 
 use Rattle.jack_types.specs.declared.kinds.Kind.{Kind}
 use Rattle.jack_types.specs.declared.kinds.Kind.TheVariants.{Pass, Gain, Mix, Delay, Tone, Click, Meter, Tape, Guest, Midiplay, Midithru, Midilog, Disk}
 use Rattle.jack_types.specs.declared.scripts.Header.{Header}
-use Rattle.session_model.specs.Grammar.{IsScript, IsCommand, IsKind}
-use Rattle.session_model.specs.Scripts.{Script, Planned, planned}
-use Rattle.session_laws.proofs.ListLemmas.{Each, Each-contains, Each-weaker}
-use Rattle.session_laws.proofs.LoopLemmas.{Contains-cases}
-use Rattle.session_laws.proofs.SoundLemmas.{map-contains}
-use Rattle.client_kinds.specs.Standings.{IsPlayable}
+use Rattle.driver_laws.specs.session_model.specs.Grammar.{IsScript, IsCommand, IsKind}
+use Rattle.driver_laws.specs.session_model.specs.Scripts.{Script, Planned, planned}
+use Rattle.driver_laws.specs.session_laws.proofs.ListLemmas.{Each, Each-contains, Each-weaker}
+use Rattle.driver_laws.specs.session_laws.proofs.LoopLemmas.{Contains-cases}
+use Rattle.driver_laws.specs.session_laws.proofs.SoundLemmas.{map-contains}
+use Rattle.client_benches.specs.client_kinds.specs.Standings.{IsPlayable}
 use Rattle.task_laws.specs.Calls.{IsOldKind, guest_bound, guests_needed, kind_opened, open_kinds}
 use Rattle.task_laws.proofs.CallLemmas.{each-filter_map, planned-lawful}
 

@@ -9,12 +9,12 @@ use Rattle.std.proofs.lemmas.List.Filters.{length-filter_both}
 use Rattle.std.proofs.lemmas.List.Elements.{All-get_or}
 use Rattle.std.proofs.lemmas.Map.Steps.{length-le_from_distinct_below}
 use Rattle.jack_types.specs.declared.ports.Link.{Link}
-use Rattle.session_model.specs.Activation.{AreLinks}
-use Rattle.session_laws.proofs.LoopLemmas.{Contains-first, Contains-later}
-use Rattle.session_laws.proofs.SoundLemmas.{contains-map}
-use Rattle.cycle_plan.specs.Plans.{IsPlanned, Planned}
-use Rattle.port_registry.specs.Registered.{open_client, open_clients}
-use Rattle.session_laws.proofs.ListLemmas.{Each, Each-contains, Each-filter, Each-filter_kept, Each-from_contains, Each-both, Ordered, Ordered-filter, Ordered-with}
+use Rattle.driver_laws.specs.session_model.specs.Activation.{AreLinks}
+use Rattle.driver_laws.specs.session_laws.proofs.LoopLemmas.{Contains-first, Contains-later}
+use Rattle.driver_laws.specs.session_laws.proofs.SoundLemmas.{contains-map}
+use Rattle.driver_laws.specs.cycle_plan.specs.Plans.{IsPlanned, Planned}
+use Rattle.driver_laws.specs.port_registry.specs.Registered.{open_client, open_clients}
+use Rattle.driver_laws.specs.session_laws.proofs.ListLemmas.{Each, Each-contains, Each-filter, Each-filter_kept, Each-from_contains, Each-both, Ordered, Ordered-filter, Ordered-with}
 
 ordered-from_pairs : {X : Type 0} (R : X → X → Type 0) (xs : List X) → AllPairs R xs → Ordered R xs
 ordered-from_pairs R [] h = tt

@@ -4,13 +4,13 @@ use Rattle.std.specs.List.{cons_option}
 use Rattle.jack_types.specs.declared.commands.Change.{Change}
 use Rattle.jack_types.specs.declared.commands.Command.{Command}
 use Rattle.jack_types.specs.declared.kinds.Kind.{Kind}
-use Rattle.graph_word.specs.Publications.{IsFront}
-use Rattle.session_model.specs.Commands.{replay}
-use Rattle.session_model.specs.Scripts.{Script, Planned, planned}
-use Rattle.session_model.specs.State.{OpenClient, is_system, opening}
-use Rattle.session_laws.proofs.ListLemmas.{Each-contains, Each-from_contains}
-use Rattle.session_laws.proofs.LoopLemmas.{Contains-cases, Contains-first, Contains-later}
-use Rattle.session_laws.proofs.OpenedLemmas.{AreOpened-replay}
+use Rattle.driver_laws.specs.graph_word.specs.Publications.{IsFront}
+use Rattle.driver_laws.specs.session_model.specs.Commands.{replay}
+use Rattle.driver_laws.specs.session_model.specs.Scripts.{Script, Planned, planned}
+use Rattle.driver_laws.specs.session_model.specs.State.{OpenClient, is_system, opening}
+use Rattle.driver_laws.specs.session_laws.proofs.ListLemmas.{Each-contains, Each-from_contains}
+use Rattle.driver_laws.specs.session_laws.proofs.LoopLemmas.{Contains-cases, Contains-first, Contains-later}
+use Rattle.driver_laws.specs.session_laws.proofs.OpenedLemmas.{AreOpened-replay}
 use Rattle.driver_laws.specs.Keeping.{AreOfCalls}
 use Rattle.task_laws.specs.Calls.{AreOwners, HasOpened, kind_opened, open_kinds}
 use Rattle.task_laws.proofs.CallLemmas.{changes-all}

@@ -9,8 +9,8 @@ use Rattle.std.proofs.lemmas.List.{get_or_default}
 use Rattle.std.proofs.lemmas.Map.Steps.{length-le_from_distinct_below}
 use Rattle.jack_types.specs.declared.kinds.Kind.{Kind}
 use Rattle.jack_types.specs.declared.kinds.Kind.TheVariants.{Pass, Gain, Mix, Delay, Tone, Click, Meter, Tape, Guest, Midiplay, Midithru, Midilog, Disk}
-use Rattle.session_laws.proofs.ListLemmas.{Each, Ordered}
-use Rattle.session_laws.proofs.LoopLemmas.{and_parts, and_true}
+use Rattle.driver_laws.specs.session_laws.proofs.ListLemmas.{Each, Ordered}
+use Rattle.driver_laws.specs.session_laws.proofs.LoopLemmas.{and_parts, and_true}
 
 module _ {X : Type 0} (ys : List X) where
   abbrev places : (xs : List X) → Each (Contains ys) xs → List ℕ

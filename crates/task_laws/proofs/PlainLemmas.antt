@@ -6,11 +6,11 @@ use Rattle.jack_types.specs.declared.commands.Change.{Change}
 use Rattle.jack_types.specs.declared.commands.Command.{Command}
 use Rattle.jack_types.specs.declared.commands.Command.TheVariants.{Open, Close, Activate, Deactivate, Register, Unregister, Connect, Disconnect, Start, Stop, Locate, Timeout, Slow, Timebase, TimebaseIf, Release, Latency}
 use Rattle.jack_types.specs.declared.kinds.Kind.{Kind}
-use Rattle.session_model.specs.Commands.{effect, replay, with_client}
-use Rattle.session_model.specs.Grammar.{IsCommand, IsScript}
-use Rattle.session_model.specs.Scripts.{Script, Planned, planned}
-use Rattle.session_model.specs.State.{OpenClient, State, opening}
-use Rattle.session_laws.proofs.ListLemmas.{Each, Each-append, Each-contains, Each-filter_kept, Each-map, Each-weaker}
+use Rattle.driver_laws.specs.session_model.specs.Commands.{effect, replay, with_client}
+use Rattle.driver_laws.specs.session_model.specs.Grammar.{IsCommand, IsScript}
+use Rattle.driver_laws.specs.session_model.specs.Scripts.{Script, Planned, planned}
+use Rattle.driver_laws.specs.session_model.specs.State.{OpenClient, State, opening}
+use Rattle.driver_laws.specs.session_laws.proofs.ListLemmas.{Each, Each-append, Each-contains, Each-filter_kept, Each-map, Each-weaker}
 use Rattle.driver_laws.specs.Keeping.{AreOfCalls}
 use Rattle.task_laws.specs.Calls.{IsOldKind, kind_opened}
 use Rattle.task_laws.proofs.CallLemmas.{changes-all, planned-lawful, replay-keeps}

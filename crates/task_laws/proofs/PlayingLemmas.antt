@@ -4,12 +4,12 @@ use Rattle.jack_types.specs.declared.events.Event.{Event}
 use Rattle.jack_types.specs.declared.kinds.Kind.{Kind}
 use Rattle.jack_types.specs.declared.kinds.Kind.TheVariants.{Pass, Gain, Mix, Delay, Tone, Click, Meter, Tape, Guest, Midiplay, Midithru, Midilog, Disk}
 use Rattle.jack_types.specs.declared.moments.Moment.{Moment}
-use Rattle.session_model.specs.Benches.{Signal, Task, merged, mixed}
-use Rattle.session_model.specs.Kinds.{GuestTurn, Memory, Sound, guest_played, midi_play, play, silent}
+use Rattle.driver_laws.specs.session_model.specs.Benches.{Signal, Task, merged, mixed}
+use Rattle.driver_laws.specs.session_model.specs.Kinds.{GuestTurn, Memory, Sound, guest_played, midi_play, play, silent}
 use Rattle.client_benches.specs.Seen.{Remembered, kept_after, own_sounds, task_in}
 use Rattle.client_benches.specs.declared.benches.Stint.{Stint}
-use Rattle.client_kinds.specs.Scores.{Score}
-use Rattle.client_kinds.specs.Standings.{IsDisk}
+use Rattle.client_benches.specs.client_kinds.specs.Scores.{Score}
+use Rattle.client_benches.specs.client_kinds.specs.Standings.{IsDisk}
 
 module _ {X : Type 0} (part : Memory → X) (numbers : (memory : Memory) (ns : List ℤ) (dead : Bool) → part (record memory { numbers = ns; is_dead = dead }) ≡ part memory) where
   guest-keeps : (memory : Memory) (b : Bool) (period outputs : ℕ) (turn : GuestTurn) → part (cond b (silent period outputs memory) (guest_played period outputs memory turn)).memory ≡ part memory

@@ -11,7 +11,7 @@ use Rattle.jack_types.specs.declared.commands.Command.{Command}
 use Rattle.jack_types.specs.declared.commands.Command.TheVariants.{Open}
 use Rattle.jack_types.specs.declared.kinds.Kind.{Kind}
 use Rattle.jack_types.specs.declared.kinds.Kind.TheVariants.{Guest, Midiplay, Midithru, Midilog, Disk}
-use Rattle.session_model.specs.Scripts.{Script, Planned, planned}
+use Rattle.driver_laws.specs.session_model.specs.Scripts.{Script, Planned, planned}
 
 abbrev pub kind_opened : Command → Option Kind
 kind_opened (Open _ kind) = Some kind

@@ -4,3 +4,7 @@
 pub mod plans;
 pub mod playing;
 pub mod scripts;
+
+pub use client_benches::client_kinds;
+pub use driver_laws;
+pub use driver_laws::cycle_plan;

@@ -2,11 +2,11 @@
 
 ghost use Rattle.std.specs.Prelude.{◌≡◌, ◌≢◌, [], List, None};
 ghost use Rattle.jack_types.specs.declared.kinds.Kind.TheVariants.{Meter};
-ghost use Rattle.session_model.specs.Benches.{Signal};
-ghost use Rattle.session_model.specs.Kinds.{Sound};
+ghost use Rattle.driver_laws.specs.session_model.specs.Benches.{Signal};
+ghost use Rattle.driver_laws.specs.session_model.specs.Kinds.{Sound};
 ghost use Rattle.client_benches.specs.Seen.{Remembered, kept_after};
-ghost use Rattle.client_kinds.specs.Scores.{Score};
-ghost use Rattle.client_kinds.specs.Standings.{IsDisk};
+ghost use Rattle.client_benches.specs.client_kinds.specs.Scores.{Score};
+ghost use Rattle.client_benches.specs.client_kinds.specs.Standings.{IsDisk};
 
 /// A play leaves a bench all but its memory and what it got and gave; of the memory, a block that was fed is left by all but
 /// disk players, which have none afterwards, and the peak by all but meters. An idle bench is left as it is.

@@ -5,12 +5,12 @@ ghost use Rattle.std.specs.List.Sorted.{IsPermutation};
 ghost use Rattle.jack_types.specs.declared.commands.Change.{Change as ChangeValue};
 ghost use Rattle.jack_types.specs.declared.kinds.Kind.{Kind as KindValue};
 ghost use Rattle.jack_types.specs.declared.kinds.Kind.TheVariants.{Guest};
-ghost use Rattle.graph_word.specs.Publications.{IsFront};
-ghost use Rattle.session_model.specs.Commands.{replay};
-ghost use Rattle.session_model.specs.Grammar.{IsScript};
-ghost use Rattle.session_model.specs.Scripts.{Script};
-ghost use Rattle.session_model.specs.State.{OpenClient, is_system, opening};
-ghost use Rattle.client_kinds.specs.Standings.{IsPlayable};
+ghost use Rattle.driver_laws.specs.graph_word.specs.Publications.{IsFront};
+ghost use Rattle.driver_laws.specs.session_model.specs.Commands.{replay};
+ghost use Rattle.driver_laws.specs.session_model.specs.Grammar.{IsScript};
+ghost use Rattle.driver_laws.specs.session_model.specs.Scripts.{Script};
+ghost use Rattle.driver_laws.specs.session_model.specs.State.{OpenClient, is_system, opening};
+ghost use Rattle.client_benches.specs.client_kinds.specs.Standings.{IsPlayable};
 ghost use Rattle.driver_laws.specs.Keeping.{AreOfCalls};
 ghost use Rattle.task_laws.specs.Calls.{AreOwners, HasOpened, IsOldKind, guests_needed, open_kinds, opens};
 

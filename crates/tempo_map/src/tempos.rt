@@ -4,7 +4,7 @@ ghost use Rattle.std.specs.Prelude.{◌≡◌, ◌↔◌, ◌≤◌, IfSome, IsS
 ghost use Rattle.session_model.specs.Grammar.{IsTempo};
 ghost use Rattle.session_model.specs.Tempo.{bbt};
 
-use jack_types::Bbt;
+use session_model::jack_types::Bbt;
 
 /// The numbers of a timebase master: thousandths of a beat a minute, beats a bar and ticks a beat.
 #[derive(Clone, Copy, PartialEq, Eq, Debug)]

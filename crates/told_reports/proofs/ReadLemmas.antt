@@ -10,12 +10,12 @@ use Rattle.session_model.specs.Scripts.{Script}
 use Rattle.session_laws.proofs.ListLemmas.{Each-append}
 use Rattle.session_laws.proofs.SerialLossLemmas.{All-from_each}
 use Rattle.check_laws.proofs.SameLemmas.{Each-from_all}
-use Rattle.report_reader.specs.Forms.{IsLineForm, line_text}
-use Rattle.report_reader.specs.declared.rows.Line.{Line}
-use Rattle.report_laws.proofs.WalkLemmas.{walk-more}
-use Rattle.report_laws.specs.Places.{limits_of}
-use Rattle.report_laws.specs.declared.places.Place.{Place}
-use Rattle.report_laws.specs.declared.places.Place.TheVariants.{Start}
+use Rattle.told_laws.specs.report_reader.specs.Forms.{IsLineForm, line_text}
+use Rattle.told_laws.specs.report_reader.specs.declared.rows.Line.{Line}
+use Rattle.told_laws.specs.report_laws.proofs.WalkLemmas.{walk-more}
+use Rattle.told_laws.specs.report_laws.specs.Places.{limits_of}
+use Rattle.told_laws.specs.report_laws.specs.declared.places.Place.{Place}
+use Rattle.told_laws.specs.report_laws.specs.declared.places.Place.TheVariants.{Start}
 use Rattle.told_laws.proofs.StuckLemmas.{stuck-wrong}
 use Rattle.told_laws.specs.Tellings.{IsStuck}
 use Rattle.told_reports.specs.Steps.{GoesOn, HasRead, Steps}

@@ -6,12 +6,12 @@
 use Rattle.std.specs.Prelude.{◌≡◌, ℕ, List, [], ◌∷◌, ◌++◌, All, IfSome, map, ⊤, Option, Some, None}
 use Rattle.check_model.specs.Checking.{ended_lines}
 use Rattle.session_model.specs.Scripts.{Script}
-use Rattle.report_reader.specs.Forms.{IsLineForm, line_text}
-use Rattle.report_reader.specs.declared.rows.Line.{Line}
-use Rattle.report_laws.specs.Places.{limits_of, next, walk}
-use Rattle.report_laws.specs.declared.places.Limits.{Limits}
-use Rattle.report_laws.specs.declared.places.Place.{Place}
-use Rattle.report_laws.specs.declared.places.Place.TheVariants.{Start}
+use Rattle.told_laws.specs.report_reader.specs.Forms.{IsLineForm, line_text}
+use Rattle.told_laws.specs.report_reader.specs.declared.rows.Line.{Line}
+use Rattle.told_laws.specs.report_laws.specs.Places.{limits_of, next, walk}
+use Rattle.told_laws.specs.report_laws.specs.declared.places.Limits.{Limits}
+use Rattle.told_laws.specs.report_laws.specs.declared.places.Place.{Place}
+use Rattle.told_laws.specs.report_laws.specs.declared.places.Place.TheVariants.{Start}
 use Rattle.told_laws.specs.Tellings.{IsStuck}
 use Rattle.told_reports.specs.declared.reading.ReportFault.{ReportFault}
 use Rattle.told_reports.specs.declared.reading.ReportFault.TheVariants.{Read, Memory, Wrong}

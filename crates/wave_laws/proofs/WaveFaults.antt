@@ -8,9 +8,9 @@ use Rattle.std.proofs.Math.Nat.{pow-suc}
 use Rattle.std.proofs.lemmas.Option.{cond_some}
 use Rattle.std.proofs.lemmas.Bool.{and_parts, and_from, not_from_false, not-true, le-ltb, le-leb, lt-leb, leb-true, leb-false, ltb-false, cond-true, cond-false, and_left, and_right, not-false}
 use Rattle.std.proofs.lemmas.Slice.Eq.{bytes_eq-Decides}
-use Rattle.jack_types.specs.declared.files.Format.{Format}
-use Rattle.jack_types.specs.declared.files.WaveFault.{WaveFault}
-use Rattle.jack_types.specs.declared.files.WaveFault.TheVariants.{NotRiff, NotWave, NoFormat, BadFormat, NoData, Ends, TooManyChunks}
+use Rattle.session_model.specs.jack_types.specs.declared.files.Format.{Format}
+use Rattle.session_model.specs.jack_types.specs.declared.files.WaveFault.{WaveFault}
+use Rattle.session_model.specs.jack_types.specs.declared.files.WaveFault.TheVariants.{NotRiff, NotWave, NoFormat, BadFormat, NoData, Ends, TooManyChunks}
 use Rattle.session_model.specs.Samples.{number_of, samples_of}
 use Rattle.session_model.specs.WaveFiles.{HasWave, HasFault, u32_bytes, u32_at, Test, Chunk, IsChunk, chunk_text, has_id, format_chunk, Parts, parts_text, IsWaveBy, IsWave, chunk_at, Chunks, whole_chunks, failed_test, test_fault, end_fault, begins_data, chunks_fault, or_else, cut_format_fault, wave_fault, format_of, whole_frames}
 use Rattle.wave_laws.proofs.WaveSamples.{slice_at, number_of_4, length-bytes_low_first}

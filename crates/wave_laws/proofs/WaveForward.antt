@@ -5,10 +5,10 @@ use Rattle.std.specs.Str.{bytes_eq}
 use Rattle.std.proofs.lemmas.List.Elements.{All-drop}
 use Rattle.std.proofs.lemmas.Bool.{cases_lt, cases_Bool, and_left, and_right, and_from, not_from_true, not_from_false, lt-ltb, le-ltb, le-leb, lt-leb, leb-true, cond-true, cond-false, not-false}
 use Rattle.std.proofs.lemmas.Slice.Eq.{bytes_eq-Decides}
-use Rattle.jack_types.specs.declared.files.Format.{Format}
-use Rattle.jack_types.specs.declared.files.Field.TheVariants.{Size}
-use Rattle.jack_types.specs.declared.files.WaveFault.{WaveFault}
-use Rattle.jack_types.specs.declared.files.WaveFault.TheVariants.{NotRiff, NotWave, NoFormat, BadFormat, NoData, Ends, TooManyChunks}
+use Rattle.session_model.specs.jack_types.specs.declared.files.Format.{Format}
+use Rattle.session_model.specs.jack_types.specs.declared.files.Field.TheVariants.{Size}
+use Rattle.session_model.specs.jack_types.specs.declared.files.WaveFault.{WaveFault}
+use Rattle.session_model.specs.jack_types.specs.declared.files.WaveFault.TheVariants.{NotRiff, NotWave, NoFormat, BadFormat, NoData, Ends, TooManyChunks}
 use Rattle.session_model.specs.WaveFiles.{u32_at, Test, Chunk, has_id, chunk_text, format_chunk, chunk_at, Chunks, whole_chunks, failed_test, test_fault, cut_format_fault, or_else, end_fault, begins_data, chunks_fault, wave_fault, format_of, IsWave}
 use Rattle.session_model.specs.WaveOpening.{fault_in, wave_in, Opened, Step, ended, at_data, skip, tested, at_other, step, forward, opened}
 use Rattle.session_model.specs.WaveOpening.Step.{Stop, Go}

@@ -7,7 +7,7 @@ use Rattle.std.proofs.lemmas.List.{take_at}
 use Rattle.std.proofs.lemmas.List.Elements.{All-nil, All-cons}
 use Rattle.std.proofs.lemmas.Bool.{le-leb, and_from, or_left, not_from_false, ne_eqb}
 use Rattle.std.proofs.lemmas.Nat.{div-mul-add, div-add-mod', mul-le, mul-lt}
-use Rattle.jack_types.specs.declared.files.Format.{Format}
+use Rattle.session_model.specs.jack_types.specs.declared.files.Format.{Format}
 use Rattle.session_model.specs.Samples.{width, up, down, samples_of, bytes_of}
 use Rattle.session_model.specs.WaveFiles.{IsFormat, AreWritable, u16_bytes, u32_bytes, u16_at, u32_at, Chunk, IsChunk, has_id, IsWave, is_width, is_extended, Test, failed_test, format_of, frame_bytes, whole_frames, header_text, wave_text, opening_text}
 use Rattle.wave_laws.proofs.WaveSamples.{number_of_2, number_of_4, width_some, by_width, length-bytes_of, samples_of-bytes_of}

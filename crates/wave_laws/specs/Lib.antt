@@ -1,0 +1,2 @@
+pub use Rattle.session_model.specs.jack_types
+pub use Rattle.session_model

@@ -2,3 +2,5 @@
 #![tactic(auto)]
 
 pub mod waves;
+
+pub use session_model::jack_types;

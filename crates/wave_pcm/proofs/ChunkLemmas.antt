@@ -5,14 +5,14 @@ use Rattle.std.specs.Str.{bytes_eq}
 use Rattle.std.specs.Io.KnownBytes.{Consumes, IsAtEnd}
 use Rattle.std.proofs.lemmas.List.{drop_at, length-drop, length-take-le, take-append-le, take-take, take_all}
 use Rattle.std.proofs.lemmas.Bool.{cond-false, cond-true, le-ltb, lt-ltb, not_from_false, not_from_true}
-use Rattle.jack_types.specs.declared.files.Format.{Format}
-use Rattle.jack_types.specs.declared.files.WaveFault.{WaveFault}
-use Rattle.jack_types.specs.declared.files.WaveFault.TheVariants.{Ends, NoData, NoFormat, NotRiff, NotWave, Read, TooManyChunks}
-use Rattle.session_model.specs.Samples.{number_of}
-use Rattle.session_model.specs.WaveFiles.{cut_format_fault, format_of, u32_at}
-use Rattle.session_model.specs.WaveOpening.{at_data, at_other, ended, forward, opened, Opened, skip, Step, step, tested}
-use Rattle.session_model.specs.WaveOpening.Step.{Go, Stop}
-use Rattle.wave_laws.proofs.WaveFormats.{slice_front}
+use Rattle.samples.specs.jack_types.specs.declared.files.Format.{Format}
+use Rattle.samples.specs.jack_types.specs.declared.files.WaveFault.{WaveFault}
+use Rattle.samples.specs.jack_types.specs.declared.files.WaveFault.TheVariants.{Ends, NoData, NoFormat, NotRiff, NotWave, Read, TooManyChunks}
+use Rattle.samples.specs.session_model.specs.Samples.{number_of}
+use Rattle.samples.specs.session_model.specs.WaveFiles.{cut_format_fault, format_of, u32_at}
+use Rattle.samples.specs.session_model.specs.WaveOpening.{at_data, at_other, ended, forward, opened, Opened, skip, Step, step, tested}
+use Rattle.samples.specs.session_model.specs.WaveOpening.Step.{Go, Stop}
+use Rattle.samples.specs.wave_laws.proofs.WaveFormats.{slice_front}
 use Rattle.wave_pcm.specs.declared.chunks.Next.{Next}
 use Rattle.wave_pcm.specs.declared.chunks.Next.TheVariants.{Chunk, Data}
 use Rattle.wave_pcm.specs.Openings.{Begins, IsOnward, Opens}

@@ -4,13 +4,13 @@ use Rattle.std.specs.Prelude.{IfSome, Option, slice_range, ◌==◌, nat_le, nat
 use Rattle.std.specs.Io.KnownBytes.{Consumes}
 use Rattle.std.proofs.lemmas.List.{length-drop, length-take-le, take-append-drop, take_all}
 use Rattle.std.proofs.lemmas.Bool.{and_from, and_parts, cond-false, cond-true, cond_both, le-leb, le-ltb, leb-true, lt-ltb, not-false}
-use Rattle.jack_types.specs.declared.files.WaveFault.{WaveFault}
-use Rattle.jack_types.specs.declared.files.WaveFault.TheVariants.{BadFormat, Ends}
-use Rattle.jack_types.specs.declared.files.Field.TheVariants.{Size}
-use Rattle.session_model.specs.Samples.{number_of}
-use Rattle.session_model.specs.WaveFiles.{cut_format_fault, failed_test, format_of, is_extended, is_width, needed, Test, test_fault, u16_at, u32_at}
-use Rattle.wave_laws.proofs.WaveFormats.{failed_test-front, format_of-front, slice_front}
-use Rattle.wave_laws.proofs.WaveFaults.{cond_none}
+use Rattle.samples.specs.jack_types.specs.declared.files.WaveFault.{WaveFault}
+use Rattle.samples.specs.jack_types.specs.declared.files.WaveFault.TheVariants.{BadFormat, Ends}
+use Rattle.samples.specs.jack_types.specs.declared.files.Field.TheVariants.{Size}
+use Rattle.samples.specs.session_model.specs.Samples.{number_of}
+use Rattle.samples.specs.session_model.specs.WaveFiles.{cut_format_fault, failed_test, format_of, is_extended, is_width, needed, Test, test_fault, u16_at, u32_at}
+use Rattle.samples.specs.wave_laws.proofs.WaveFormats.{failed_test-front, format_of-front, slice_front}
+use Rattle.samples.specs.wave_laws.proofs.WaveFaults.{cond_none}
 use Rattle.wave_pcm.specs.Contents.{IsTestedBy}
 use Rattle.wave_pcm.specs.Readings.{IsReadable}
 use Rattle.wave_pcm.specs.Steps.{Drops}

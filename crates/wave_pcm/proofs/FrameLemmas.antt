@@ -7,13 +7,13 @@ use Rattle.std.proofs.Math.Seq.{take-add}
 use Rattle.std.proofs.lemmas.List.{drop-drop, drop_at, length-drop, length-take-le, drop-append-le, take-append-drop, take-take, take_all, take_at}
 use Rattle.std.proofs.lemmas.Bool.{cases_lt}
 use Rattle.std.proofs.lemmas.Nat.{div-add-mod', div-mul-add, le-div, mod_below, mul-le, mul-lt}
-use Rattle.jack_types.specs.declared.files.Format.{Format}
-use Rattle.jack_types.specs.declared.files.WaveFault.{WaveFault}
-use Rattle.session_model.specs.Samples.{samples_of, width}
-use Rattle.session_model.specs.WaveFiles.{frame_bytes, IsWave, wave_fault, whole_frames}
-use Rattle.session_model.specs.WaveOpening.{fault_in, opened, Opened, wave_in}
-use Rattle.wave_laws.proofs.WaveForward.{fault_in-opened, wave-opened}
-use Rattle.wave_laws.proofs.WaveSamples.{length-samples_of, samples_of-append, width_some}
+use Rattle.samples.specs.jack_types.specs.declared.files.Format.{Format}
+use Rattle.samples.specs.jack_types.specs.declared.files.WaveFault.{WaveFault}
+use Rattle.samples.specs.session_model.specs.Samples.{samples_of, width}
+use Rattle.samples.specs.session_model.specs.WaveFiles.{frame_bytes, IsWave, wave_fault, whole_frames}
+use Rattle.samples.specs.session_model.specs.WaveOpening.{fault_in, opened, Opened, wave_in}
+use Rattle.samples.specs.wave_laws.proofs.WaveForward.{fault_in-opened, wave-opened}
+use Rattle.samples.specs.wave_laws.proofs.WaveSamples.{length-samples_of, samples_of-append, width_some}
 use Rattle.wave_pcm.specs.Openings.{Opens}
 use Rattle.wave_pcm.specs.Readings.{AreBytes, Gave, Gives, IsReadable, left_of, SameReading, Reading}
 

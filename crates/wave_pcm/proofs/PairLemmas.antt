@@ -6,10 +6,10 @@ use Rattle.std.proofs.Math.ListN.{set}
 use Rattle.std.proofs.lemmas.Bool.{ltb-false, ltb-true}
 use Rattle.std.proofs.lemmas.List.{drop-append-le, drop_more, get_or-set_other, get_or-set_same, get_or-take, length-take-le, take-append-drop, take_all}
 use Rattle.std.proofs.lemmas.Nat.{div-add-mod', div-mul-add}
-use Rattle.jack_types.specs.declared.files.Format.{Format}
-use Rattle.session_model.specs.Samples.{sample, samples_of, stored, up}
-use Rattle.session_model.specs.WaveFiles.{frame_bytes}
-use Rattle.wave_laws.proofs.WaveSamples.{get_or-samples_of, length-samples_of}
+use Rattle.samples.specs.jack_types.specs.declared.files.Format.{Format}
+use Rattle.samples.specs.session_model.specs.Samples.{sample, samples_of, stored, up}
+use Rattle.samples.specs.session_model.specs.WaveFiles.{frame_bytes}
+use Rattle.samples.specs.wave_laws.proofs.WaveSamples.{get_or-samples_of, length-samples_of}
 use Rattle.wave_pcm.proofs.FrameLemmas.{block_gives}
 use Rattle.wave_pcm.specs.Readings.{Gives, GivesPairs, IsReadable, left_of}
 

@@ -1,8 +1,8 @@
 -- The content of a `fmt ` chunk, and the part of it that was read.
 use Rattle.std.specs.Prelude.{◌≡◌, ℕ, not, find, false, List, [], ◌∷◌, length, nat_le, nat_lt, Option, slice_range}
 use Rattle.std.specs.Str.{bytes_eq}
-use Rattle.jack_types.specs.declared.files.Field.TheVariants.{Extended, Extra, Guid}
-use Rattle.session_model.specs.WaveFiles.{failed_test, format_of, needed, pcm_guid, Test, u16_at, u32_at}
+use Rattle.samples.specs.jack_types.specs.declared.files.Field.TheVariants.{Extended, Extra, Guid}
+use Rattle.samples.specs.session_model.specs.WaveFiles.{failed_test, format_of, needed, pcm_guid, Test, u16_at, u32_at}
 
 -- the tests of an extended format alone
 abbrev pub extended_test : ℕ → List ℕ → Option Test

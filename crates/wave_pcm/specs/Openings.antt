@@ -1,7 +1,7 @@
 -- How far the reading of a header came, where the source tells its bytes.
 use Rattle.std.specs.Prelude.{◌≡◌, ℕ, ◌+◌, ⊤, List, length, Option, Some, None, Ok}
-use Rattle.jack_types.specs.declared.files.Format.{Format}
-use Rattle.session_model.specs.WaveOpening.{forward, opened}
+use Rattle.samples.specs.jack_types.specs.declared.files.Format.{Format}
+use Rattle.samples.specs.session_model.specs.WaveOpening.{forward, opened}
 
 -- the first 12 bytes were read
 abbrev pub Begins : Option (List ℕ) → Option (List ℕ) → Type 0

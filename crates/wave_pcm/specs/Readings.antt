@@ -3,9 +3,9 @@
 --     Gives left left_after count asked out      the next samples were read
 --     GivesPairs left left_after count asked one other      the next frames of two channels were read
 use Rattle.std.specs.Prelude.{◌≡◌, ℕ, ◌+◌, ◌*◌, ◌≤◌, min, Bool, true, false, ⊤, List, length, take, drop, ℤ, Option, Some, None, All, ◌<◌}
-use Rattle.jack_types.specs.declared.files.Format.{Format}
-use Rattle.session_model.specs.Samples.{sample, samples_of}
-use Rattle.session_model.specs.WaveFiles.{is_width, whole_frames}
+use Rattle.samples.specs.jack_types.specs.declared.files.Format.{Format}
+use Rattle.samples.specs.session_model.specs.Samples.{sample, samples_of}
+use Rattle.samples.specs.session_model.specs.WaveFiles.{is_width, whole_frames}
 
 -- `left` are the samples that were not read yet, where the source tells; `size` is how many bytes of data the header tells, and
 -- `given` how many bytes of samples were given, 0 before the first; `failed` is whether a read failed, and `faults` the source's count

@@ -1,8 +1,8 @@
 -- What each step of reading a header takes from its source, and what it meets.
 use Rattle.std.specs.Prelude.{◌≡◌, ℕ, ◌^◌, ◌<◌, ◌≤◌, ⊤, List, length, drop, Option, Some, None, IfSome, Result, Ok, Err}
-use Rattle.jack_types.specs.declared.files.WaveFault.{WaveFault}
-use Rattle.session_model.specs.WaveOpening.{Step}
-use Rattle.session_model.specs.WaveOpening.Step.{Stop, Go}
+use Rattle.samples.specs.jack_types.specs.declared.files.WaveFault.{WaveFault}
+use Rattle.samples.specs.session_model.specs.WaveOpening.{Step}
+use Rattle.samples.specs.session_model.specs.WaveOpening.Step.{Stop, Go}
 use Rattle.wave_pcm.specs.Readings.{IsReadable}
 use Rattle.wave_pcm.specs.declared.chunks.Next.{Next}
 use Rattle.wave_pcm.specs.declared.chunks.Next.TheVariants.{Chunk, Data}

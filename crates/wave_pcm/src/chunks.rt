@@ -2,8 +2,8 @@ ghost use Rattle.std.specs.Prelude.{◌≡◌, ◌≢◌, ◌⊎◌, ◌+◌, �
 ghost use Rattle.std.specs.Io.KnownBytes.{Consumes};
 ghost use Rattle.std.specs.Str.{bytes_eq};
 ghost use Rattle.jack_host.specs.Causes.{Rose};
-ghost use Rattle.session_model.specs.WaveFiles.{cut_format_fault, format_of};
-ghost use Rattle.session_model.specs.WaveOpening.{ended as ended_fault, opened, step};
+ghost use Rattle.samples.specs.session_model.specs.WaveFiles.{cut_format_fault, format_of};
+ghost use Rattle.samples.specs.session_model.specs.WaveOpening.{ended as ended_fault, opened, step};
 ghost use Rattle.wave_pcm.specs.Readings.{IsReadable};
 ghost use Rattle.wave_pcm.specs.Openings.{Begins, Opens};
 ghost use Rattle.wave_pcm.specs.Steps.{Drops, IsReadableNext, met, taken};
@@ -11,7 +11,7 @@ ghost use Rattle.wave_pcm.specs.Steps.{Drops, IsReadableNext, met, taken};
 use crate::formats::{read_format, u32_at};
 use crate::input::{fill, skip};
 use jack_host::Source;
-use jack_types::{Format, WaveFault};
+use samples::jack_types::{Format, WaveFault};
 
 // How many chunks may stand before the data.
 const MOST_CHUNKS: u64 = 4096;

@@ -2,15 +2,15 @@ ghost use Rattle.std.specs.Prelude.{◌≡◌, ◌≢◌, ◌+◌, ◌-◌, ◌*
 ghost use Rattle.std.specs.Io.KnownBytes.{Consumes};
 ghost use Rattle.std.specs.Str.{bytes_eq};
 ghost use Rattle.jack_host.specs.Causes.{Rose};
-ghost use Rattle.session_model.specs.Samples.{width};
-ghost use Rattle.session_model.specs.WaveFiles.{cut_format_fault, failed_test, format_of, is_width, needed, pcm_guid, test_fault, u16_at as u16_number, u32_at as u32_number};
+ghost use Rattle.samples.specs.session_model.specs.Samples.{width};
+ghost use Rattle.samples.specs.session_model.specs.WaveFiles.{cut_format_fault, failed_test, format_of, is_width, needed, pcm_guid, test_fault, u16_at as u16_number, u32_at as u32_number};
 ghost use Rattle.wave_pcm.specs.Readings.{IsReadable};
 ghost use Rattle.wave_pcm.specs.Contents.{extended_test, IsTestedBy};
 ghost use Rattle.wave_pcm.specs.Steps.{Drops};
 
 use crate::input::fill;
 use jack_host::Source;
-use jack_types::{Field, Format, WaveFault};
+use samples::jack_types::{Field, Format, WaveFault};
 
 const EXTENDED: u16 = 0xfffe;
 

@@ -1,6 +1,6 @@
 // Frames of two channels, taken apart.
 ghost use Rattle.std.specs.Prelude.{◌≡◌, ◌+◌, ◌*◌, ◌<◌, ℕ, [], ◌∷◌, length};
-ghost use Rattle.session_model.specs.Samples.{sample, samples_of, stored, up};
+ghost use Rattle.samples.specs.session_model.specs.Samples.{sample, samples_of, stored, up};
 
 // The sample that two bytes store.
 fn sample_16(low: u8, high: u8) -> i32

@@ -1,16 +1,16 @@
 ghost use Rattle.std.specs.Prelude.{◌≡◌, ◌≢◌, ◌+◌, ◌*◌, ◌%◌, ◌^◌, ◌<◌, ◌≤◌, List, ℤ, Err, IfErr, IfOk, IfSome, None, Ok, OnErr, Some, drop, false, is_err, length, take, true};
 ghost use Rattle.jack_host.specs.Causes.{HasCause, Rose};
-ghost use Rattle.session_model.specs.Samples.{samples_of};
-ghost use Rattle.session_model.specs.WaveFiles.{frame_bytes, is_width, IsWave, wave_fault};
-ghost use Rattle.session_model.specs.WaveOpening.{opened, Opened, wave_in};
+ghost use Rattle.samples.specs.session_model.specs.Samples.{samples_of};
+ghost use Rattle.samples.specs.session_model.specs.WaveFiles.{frame_bytes, is_width, IsWave, wave_fault};
+ghost use Rattle.samples.specs.session_model.specs.WaveOpening.{opened, Opened, wave_in};
 ghost use Rattle.wave_pcm.specs.Readings.{AreBytes, Gives, GivesPairs, IsReadable, SameReading};
 
 use crate::chunks::read_header;
 use crate::input::{MOST_BYTES, fill};
 use crate::pairs::take_pairs;
 use jack_host::{ReadFailed, Source};
-use jack_types::{Format, WaveFault};
 use samples::from_bytes;
+use samples::jack_types::{Format, WaveFault};
 use std::marker::Model;
 
 // Sets the first frames of the buffer to those that the bytes store.

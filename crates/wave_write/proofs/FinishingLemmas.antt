@@ -5,8 +5,8 @@ use Rattle.std.specs.Option.{ForSome}
 use Rattle.std.proofs.lemmas.List.{take_all, drop_all, length-take, length-drop}
 use Rattle.jack_types.specs.declared.files.Format.{Format}
 use Rattle.jack_host.specs.Bytes.{put_at, Holds, Gains, Writes}
-use Rattle.session_model.specs.WaveFiles.{format_text, header_text, file_text, opening_text, u32_bytes}
-use Rattle.wave_laws.proofs.WaveSamples.{slice_at}
+use Rattle.driver_words.specs.session_model.specs.WaveFiles.{format_text, header_text, file_text, opening_text, u32_bytes}
+use Rattle.samples.specs.wave_laws.proofs.WaveSamples.{slice_at}
 use Rattle.driver_words.specs.Tapes.{AreInOrder, IsBetween, IsHeaded}
 use Rattle.wave_write.specs.Finishing.{Opens, Finished, FinishedPart}
 use Rattle.wave_write.proofs.Between.{AreBetween, between, between-append, between-same, between-cut}

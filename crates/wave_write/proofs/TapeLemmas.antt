@@ -11,10 +11,10 @@ use Rattle.std.proofs.lemmas.List.Concat.{flat_map-append}
 use Rattle.std.proofs.lemmas.Nat.{mul-le}
 use Rattle.jack_types.specs.declared.files.Format.{Format}
 use Rattle.jack_host.specs.Bytes.{put_at, Holds, Gains}
-use Rattle.session_model.specs.Samples.{bytes_of, storing, width, up, down}
-use Rattle.session_model.specs.WaveFiles.{IsFormat, IsWave, is_width, opening_text, file_text, wave_text}
-use Rattle.wave_laws.proofs.WaveSamples.{by_width, length-bytes_of}
-use Rattle.wave_laws.proofs.WaveWritten.{wave_text-wave}
+use Rattle.driver_words.specs.session_model.specs.Samples.{bytes_of, storing, width, up, down}
+use Rattle.driver_words.specs.session_model.specs.WaveFiles.{IsFormat, IsWave, is_width, opening_text, file_text, wave_text}
+use Rattle.samples.specs.wave_laws.proofs.WaveSamples.{by_width, length-bytes_of}
+use Rattle.samples.specs.wave_laws.proofs.WaveWritten.{wave_text-wave}
 use Rattle.driver_words.specs.Tapes.{Tape, HasSamples, HasFront, HasUnfinished, AreInOrder, IsCut, IsHeaded, Gained, GainedPart, SameFile, IsKept}
 use Rattle.wave_write.specs.Finishing.{Opens, Finished, FinishedPart}
 use Rattle.wave_write.proofs.FinishingLemmas.{put_at_end, gains_at_end, header-between, between-opens, none_is_not_some, opens, riff_of, size_of, take_past}

@@ -3,7 +3,7 @@
 use Rattle.std.specs.Prelude.{◌≡◌, ℕ, List, ◌++◌, drop, Option}
 use Rattle.jack_types.specs.declared.files.Format.{Format}
 use Rattle.jack_host.specs.Told.{BothTold}
-use Rattle.session_model.specs.WaveFiles.{file_text, opening_text}
+use Rattle.driver_words.specs.session_model.specs.WaveFiles.{file_text, opening_text}
 use Rattle.driver_words.specs.Tapes.{AreInOrder, IsHeaded}
 
 -- an unfinished file, where the store tells

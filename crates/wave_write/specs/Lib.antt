@@ -1,1 +1,2 @@
 pub mod Finishing
+pub use Rattle.samples.specs.wave_laws

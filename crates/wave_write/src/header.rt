@@ -1,5 +1,5 @@
 ghost use Rattle.std.specs.Prelude.{◌≡◌};
-ghost use Rattle.session_model.specs.WaveFiles.{IsFormat, opening_text};
+ghost use Rattle.driver_words.specs.session_model.specs.WaveFiles.{IsFormat, opening_text};
 
 use jack_types::Format;
 

@@ -3,8 +3,8 @@ ghost use Rattle.std.specs.Option.{ForSome};
 ghost use Rattle.std.specs.Int.{w32};
 ghost use Rattle.std.specs.Int.RustNames.{FitsSigned};
 ghost use Rattle.jack_host.specs.Causes.{HasCause, Rose};
-ghost use Rattle.session_model.specs.Samples.{bytes_of, down, up, width};
-ghost use Rattle.session_model.specs.WaveFiles.{IsFormat, IsWave, opening_text, wave_text};
+ghost use Rattle.driver_words.specs.session_model.specs.Samples.{bytes_of, down, up, width};
+ghost use Rattle.driver_words.specs.session_model.specs.WaveFiles.{IsFormat, IsWave, opening_text, wave_text};
 ghost use Rattle.driver_words.specs.Tapes.{AreInOrder, Gained, GainedPart, HasFront, HasSamples, HasUnfinished, IsCut, SameFile};
 
 use crate::finishing::{complete, write};

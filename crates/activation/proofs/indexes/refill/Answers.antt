@@ -1,5 +1,5 @@
 use Rattle.std.proofs.Common.{rules, ◌≡◌, length}
-use Rattle.session_model.specs.Activation.{link_at}
+use Rattle.session_laws.specs.session_model.specs.Activation.{link_at}
 use Rattle.activation.proofs.Indexed.{index_whole}
 use Rattle.activation.proofs.indexes.refill.Goals as goal
 

@@ -1,7 +1,7 @@
 use Rattle.std.proofs.Common.{rules, arith, ◌≡◌, ◌<◌, ◌≤◌, ◌+◌, ◌++◌, ℕ, suc, [], ◌∷◌, length, map, vec_capacity, refl, sym, ◌∙◌, ap, subst}
 use Rattle.std.specs.Global.{Vec}
-use Rattle.session_model.specs.Activation.{no_link, link_at, place_among}
-use Rattle.session_model.specs.Samples.{below}
+use Rattle.session_laws.specs.session_model.specs.Activation.{no_link, link_at, place_among}
+use Rattle.session_laws.specs.session_model.specs.Samples.{below}
 use Rattle.activation.proofs.Played.{map-snoc}
 use Rattle.activation.proofs.Indexed.{index_empty, index_on, index_short, place_is}
 use Rattle.activation.proofs.indexes.sort_links.Goals as goal

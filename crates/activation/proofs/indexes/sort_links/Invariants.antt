@@ -1,6 +1,6 @@
 use Rattle.std.proofs.Common.{◌≡◌, map, vec_capacity, vec_len}
-use Rattle.session_model.specs.Activation.{link_at, place_among}
-use Rattle.session_model.specs.Samples.{below}
+use Rattle.session_laws.specs.session_model.specs.Activation.{link_at, place_among}
+use Rattle.session_laws.specs.session_model.specs.Samples.{below}
 use Rattle.activation.specs.Indexes.{IsIndex}
 use Rattle.activation.proofs.indexes.sort_links.Given as goal
 

@@ -1,6 +1,6 @@
 use Rattle.std.proofs.Common.{rules, arith, ◌≡◌, ◌+◌, ◌++◌, ℕ, [], length, map, None, sym, ap, ◌∙◌, subst, refl, length-set}
-use Rattle.session_model.specs.Activation.{incoming}
-use Rattle.session_model.specs.Samples.{below}
+use Rattle.session_laws.specs.session_model.specs.Activation.{incoming}
+use Rattle.session_laws.specs.session_model.specs.Samples.{below}
 use Rattle.activation.specs.Contents.{first_view, benches_of, from_to}
 use lib.ListN.{get_elem?}
 use Rattle.atomic_table.proofs.Lists.{set_else}

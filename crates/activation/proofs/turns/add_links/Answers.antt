@@ -2,8 +2,8 @@ use Rattle.std.proofs.Common.{rules, arith, ◌<◌, ℕ, length, get_or, ap, �
 use Rattle.std.proofs.lemmas.Grind.{common_steps}
 use lib.ListN.{get_elem?}
 use Rattle.atomic_table.proofs.Lists.{set_else}
-use Rattle.jack_types.specs.declared.ports.Link.{Link}
-use Rattle.session_model.specs.Activation.{no_link}
+use Rattle.session_laws.specs.jack_types.specs.declared.ports.Link.{Link}
+use Rattle.session_laws.specs.session_model.specs.Activation.{no_link}
 use Rattle.activation.specs.Contents.{IsFull, IsDone}
 use Rattle.activation.proofs.Alone.{unlink_alone, link_alone}
 use Rattle.activation.proofs.turns.add_links.Goals as goal

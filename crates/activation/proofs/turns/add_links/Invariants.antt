@@ -1,6 +1,6 @@
 use Rattle.std.proofs.Common.{◌≡◌, ◌≤◌, ℕ, [], length, take}
 use lib.ListN.{get_elem?}
-use Rattle.session_model.specs.Activation.{AreLinks}
+use Rattle.session_laws.specs.session_model.specs.Activation.{AreLinks}
 use Rattle.activation.specs.Plays.{with_words, with_links}
 use Rattle.activation.proofs.turns.add_links.Given as goal
 

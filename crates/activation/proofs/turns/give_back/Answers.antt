@@ -1,5 +1,5 @@
 use Rattle.std.proofs.Common.{arith, ◌≡◌, ◌<◌, ℕ, [], length, get_or, sym, ap, ◌∙◌, refl}
-use Rattle.session_model.specs.Activation.{link_at, no_link, place_among}
+use Rattle.session_laws.specs.session_model.specs.Activation.{link_at, no_link, place_among}
 use Rattle.session_laws.proofs.ActivationLemmas.{length-map_below}
 use Rattle.activation.specs.Plays.{with_items}
 use Rattle.activation.proofs.Places.{low_place}

@@ -1,7 +1,7 @@
 use Rattle.std.proofs.Common.{rules, arith, ◌≡◌, ◌≤◌, ◌<◌, ◌+◌, ◌-◌, ℕ, true, false, length, get_or, All, IsSome, sym, subst, vec_len}
 use Rattle.std.proofs.lemmas.List.Elements.{All-take}
 use Rattle.session_model.specs.Activation.{link_at}
-use Rattle.activation.proofs.Places.{low_place}
+use Rattle.client_benches.specs.activation.proofs.Places.{low_place}
 use Rattle.bench_crew.proofs.TurnLemmas.{from-within, room-left, one-more}
 use Rattle.bench_crew.proofs.alone.return_values.Goals as goal
 

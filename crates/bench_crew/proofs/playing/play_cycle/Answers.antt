@@ -1,5 +1,5 @@
 use Rattle.std.proofs.Common.{rules, subst, sym}
-use Rattle.activation.specs.Rounds.{Know}
+use Rattle.client_benches.specs.activation.specs.Rounds.{Know}
 use Rattle.steal_workers.proofs.Changing.{written}
 use Rattle.bench_crew.proofs.playing.play_cycle.Goals as goal
 

@@ -1,8 +1,8 @@
 use Rattle.std.proofs.Common.{rules, sym, subst, ap, ◌∙◌, List, ◌++◌, length, take, drop}
 use Rattle.jack_types.specs.declared.ports.Link.{Link}
 use Rattle.session_model.specs.Activation.{AreLinks}
-use Rattle.activation.specs.Rounds.{AreFresh, AreReturned, AreUnused, HavePlayed, Know}
-use Rattle.cycle_workers.specs.Runs.{HaveRoom}
+use Rattle.client_benches.specs.activation.specs.Rounds.{AreFresh, AreReturned, AreUnused, HavePlayed, Know}
+use Rattle.steal_workers.specs.cycle_workers.specs.Runs.{HaveRoom}
 use Rattle.steal_workers.proofs.Changing.{written}
 use Rattle.bench_crew.specs.Ensembles.{AreReady}
 use Rattle.bench_crew.proofs.ReadyLemmas.{unused-fresh, known-fresh}

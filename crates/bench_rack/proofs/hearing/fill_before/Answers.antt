@@ -2,7 +2,7 @@ use Rattle.std.proofs.Common.{◌≡◌, ◌+◌, ◌<◌, ◌++◌, List, [], l
 use Rattle.std.specs.Prelude.{slice_set, slice_index_or}
 use Rattle.std.proofs.lemmas.List.{set-append_left}
 use Rattle.jack_types.specs.declared.kinds.Kind.TheVariants.{Pass}
-use Rattle.client_benches.specs.Seen.{Seen, new_bench}
+use Rattle.bench_crew.specs.client_benches.specs.Seen.{Seen, new_bench}
 use Rattle.bench_rack.specs.Insides.{bench_among}
 use Rattle.bench_rack.specs.Racks.{filled}
 use Rattle.bench_rack.proofs.WholeLemmas.{read-same}

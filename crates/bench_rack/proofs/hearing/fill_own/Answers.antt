@@ -1,6 +1,6 @@
 use Rattle.std.proofs.Common.{◌<◌, [], length, refl, sym, ◌∙◌, ap, subst}
 use Rattle.std.specs.Prelude.{slice_set, slice_index_or}
-use Rattle.client_benches.specs.Seen.{Seen}
+use Rattle.bench_crew.specs.client_benches.specs.Seen.{Seen}
 use Rattle.bench_rack.specs.Insides.{bench_among}
 use Rattle.bench_rack.specs.Racks.{filled}
 use Rattle.bench_rack.proofs.WholeLemmas.{read-same}

@@ -1,6 +1,6 @@
 use Rattle.std.proofs.Common.{List, [], ◌∷◌, ◌++◌, map, sym, ◌∙◌, ap, ap₂}
 use Rattle.std.proofs.lemmas.List.{map_more, take_all}
-use Rattle.client_benches.specs.Seen.{Seen, new_bench}
+use Rattle.bench_crew.specs.client_benches.specs.Seen.{Seen, new_bench}
 use Rattle.bench_rack.proofs.racks.make_benches.Goals as goal
 
 pub loop-kind-preserved : goal.loop-kind-preserved

@@ -1,6 +1,6 @@
 use Rattle.std.proofs.Common.{◌≡◌, map, take}
 use Rattle.std.specs.Prelude.{vec_capacity}
-use Rattle.client_benches.specs.Seen.{new_bench}
+use Rattle.bench_crew.specs.client_benches.specs.Seen.{new_bench}
 use Rattle.bench_rack.proofs.racks.make_benches.Given as goal
 
 abbrev pub invariant-loop-kind : goal.invariant-loop-kind

@@ -1,5 +1,5 @@
 use Rattle.std.proofs.Common.{◌≡◌, ◌+◌, length, map, take}
-use Rattle.port_mixer.specs.Sums.{GainsParts}
+use Rattle.client_kinds.specs.port_mixer.specs.Sums.{GainsParts}
 use Rattle.client_benches.proofs.gathering.add_all.Given as goal
 
 abbrev pub invariant-loop-part : goal.invariant-loop-part

@@ -1,6 +1,6 @@
 use Rattle.std.proofs.Common.{◌∙◌, ap, length}
-use Rattle.port_mixer.specs.Sums.{Mix}
-use Rattle.port_mixer.proofs.SumLemmas.{length-added}
+use Rattle.client_kinds.specs.port_mixer.specs.Sums.{Mix}
+use Rattle.client_kinds.specs.port_mixer.proofs.SumLemmas.{length-added}
 use Rattle.client_benches.proofs.PartLemmas.{added-padded}
 use Rattle.client_benches.proofs.gathering.add_part.Goals as goal
 

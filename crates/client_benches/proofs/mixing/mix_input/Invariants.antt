@@ -1,5 +1,5 @@
 use Rattle.std.proofs.Common.{◌≡◌, ◌+◌, ◌≤◌, take, length, map}
-use Rattle.session_model.specs.Benches.{audio_part}
+use Rattle.activation.specs.session_model.specs.Benches.{audio_part}
 use Rattle.activation.specs.Values.{values_of}
 use Rattle.client_benches.specs.Gathered.{AreGathered}
 use Rattle.client_benches.specs.Wires.{parts_of}

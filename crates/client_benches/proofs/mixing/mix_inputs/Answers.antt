@@ -1,7 +1,7 @@
 use Rattle.std.proofs.Common.{◌≡◌, ℕ, ◌+◌, ◌*◌, ◌≤◌, ◌∙◌, List, ℤ, length, map, refl, ap, arith}
 use Rattle.activation.specs.Values.{values_of}
-use Rattle.session_model.specs.Benches.{audio_part}
-use Rattle.session_model.specs.Samples.{mix}
+use Rattle.activation.specs.session_model.specs.Benches.{audio_part}
+use Rattle.activation.specs.session_model.specs.Samples.{mix}
 use Rattle.client_kinds.specs.Buffers.{buffers_of}
 use Rattle.client_kinds.proofs.BufferLemmas.{place_within}
 use Rattle.client_benches.specs.Wires.{parts_into}

@@ -1,6 +1,6 @@
 use Rattle.std.proofs.Common.{◌≡◌, ◌*◌, ◌∙◌, ap, arith}
 use Rattle.std.proofs.lemmas.List.{length-take-le}
-use Rattle.session_model.specs.Kinds.{play}
+use Rattle.activation.specs.session_model.specs.Kinds.{play}
 use Rattle.client_kinds.specs.Buffers.{buffers_of}
 use Rattle.client_benches.specs.Seen.{own_scores, own_sounds}
 use Rattle.client_benches.proofs.KeptLemmas.{HasScore-own}

@@ -1,5 +1,5 @@
 use Rattle.std.proofs.Common.{◌≡◌, replicate}
-use Rattle.session_model.specs.Samples.{silence}
+use Rattle.port_mixer.specs.session_model.specs.Samples.{silence}
 use Rattle.circular_buffer.specs.Buffer.{buffer}
 use Rattle.client_kinds.proofs.lines.silent_lines.Given as goal
 

@@ -1,7 +1,7 @@
 use Rattle.std.proofs.Common.{◌≡◌, ℕ, ◌≤◌, ℤ, take, drop, map, get_or, All}
 use Rattle.circular_buffer.specs.Buffer.{Buffer}
-use Rattle.session_model.specs.Kinds.{delayed}
-use Rattle.session_model.specs.Samples.{below}
+use Rattle.port_mixer.specs.session_model.specs.Kinds.{delayed}
+use Rattle.port_mixer.specs.session_model.specs.Samples.{below}
 use Rattle.client_kinds.specs.Buffers.{buffers_of}
 use Rattle.client_kinds.specs.Lines.{IsWhole, items_of}
 use Rattle.client_kinds.proofs.lines.step_lines.Given as goal

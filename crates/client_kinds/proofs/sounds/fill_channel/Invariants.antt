@@ -1,5 +1,5 @@
 use Rattle.std.proofs.Common.{◌≡◌, ◌+◌, ◌*◌, take, map}
-use Rattle.session_model.specs.Samples.{below, sample}
+use Rattle.port_mixer.specs.session_model.specs.Samples.{below, sample}
 use Rattle.client_kinds.proofs.sounds.fill_channel.Given as goal
 
 abbrev pub invariant-loop-i : goal.invariant-loop-i

@@ -1,6 +1,6 @@
 use Rattle.std.proofs.Common.{◌≡◌, ◌+◌, take, map, pos, if◌then◌else◌}
-use Rattle.session_model.specs.Tempo.{begins_beat}
-use Rattle.session_model.specs.Samples.{below}
+use Rattle.port_mixer.specs.session_model.specs.Tempo.{begins_beat}
+use Rattle.port_mixer.specs.session_model.specs.Samples.{below}
 use Rattle.client_kinds.proofs.sounds.fill_click.Given as goal
 
 abbrev pub invariant-loop-i : goal.invariant-loop-i

@@ -2,7 +2,7 @@ use Rattle.std.proofs.Common.{◌≡◌, ◌*ℤ◌, ◌≤◌, ◌-◌, ℤ, le
 use Rattle.std.specs.Int.{int_shr}
 use Rattle.std.proofs.lemmas.Int.{to_z-of_z}
 use borrow.Rule.Slice.PartMut.{same_len_mid}
-use Rattle.session_model.specs.Samples.{clamp}
+use Rattle.port_mixer.specs.session_model.specs.Samples.{clamp}
 use Rattle.client_kinds.proofs.FillLemmas.{piece-done}
 use Rattle.client_kinds.proofs.sounds.fill_gain.Goals as goal
 

@@ -2,7 +2,7 @@ use Rattle.std.proofs.Common.{◌≡◌, ◌∙◌, ◌*ℤ◌, ℤ, ap, map, of
 use Rattle.std.specs.Int.{int_shr}
 use Rattle.std.proofs.lemmas.Int.{to_z-of_z}
 use Rattle.std.proofs.lemmas.Simd.{map-map}
-use Rattle.session_model.specs.Samples.{clamp}
+use Rattle.port_mixer.specs.session_model.specs.Samples.{clamp}
 use Rattle.client_kinds.proofs.sounds.fill_piece.Goals as goal
 
 pub returns : goal.returns

@@ -1,6 +1,6 @@
 use Rattle.std.proofs.Common.{◌≡◌, ◌*ℤ◌, take, map}
 use Rattle.std.specs.Int.{int_shr}
-use Rattle.session_model.specs.Samples.{clamp}
+use Rattle.port_mixer.specs.session_model.specs.Samples.{clamp}
 use Rattle.client_kinds.proofs.sounds.fill_softer.Given as goal
 
 abbrev pub invariant-loop-i : goal.invariant-loop-i

@@ -1,6 +1,6 @@
 use Rattle.std.proofs.Common.{◌≡◌, ◌+◌, ◌*◌, ◌%◌, take, map}
-use Rattle.session_model.specs.Kinds.{tone_sample}
-use Rattle.session_model.specs.Samples.{below}
+use Rattle.port_mixer.specs.session_model.specs.Kinds.{tone_sample}
+use Rattle.port_mixer.specs.session_model.specs.Samples.{below}
 use Rattle.client_kinds.proofs.sounds.fill_tone.Given as goal
 
 abbrev pub invariant-loop-i : goal.invariant-loop-i

@@ -1,6 +1,6 @@
 use Rattle.std.proofs.Common.{◌+◌, ◌*◌, ◌≤◌, ◌∙◌, ap, length, map, mul_comm, subst, sym, arith}
 use Rattle.std.proofs.Math.Nat.{mul-le-mul_right}
-use Rattle.session_model.specs.Samples.{below, sample}
+use Rattle.port_mixer.specs.session_model.specs.Samples.{below, sample}
 use Rattle.client_kinds.proofs.BufferLemmas.{channel_front}
 use Rattle.client_kinds.proofs.voices.fill_fed.Goals as goal
 

@@ -1,5 +1,5 @@
 use Rattle.std.proofs.Common.{◌≡◌, fold}
-use Rattle.session_model.specs.Kinds.{peak_with}
+use Rattle.port_mixer.specs.session_model.specs.Kinds.{peak_with}
 use Rattle.client_kinds.specs.Buffers.{buffers_of}
 use Rattle.client_kinds.proofs.voices.peak_of.Given as goal
 

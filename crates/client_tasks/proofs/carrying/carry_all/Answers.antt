@@ -1,5 +1,5 @@
 use Rattle.std.proofs.Common.{◌≡◌, ◌≢◌, ◌<◌, ◌≤◌, ◌+◌, ◌∙◌, ℕ, List, ap, arith, get_or, length, sym, take}
-use Rattle.client_benches.specs.Seen.{Seen}
+use Rattle.bench_rack.specs.client_benches.specs.Seen.{Seen}
 use Rattle.client_wiring.specs.declared.joints.Carried.{Carried}
 use Rattle.client_wiring.specs.declared.joints.Output.TheVariants.{Audio}
 use Rattle.bench_rack.specs.Racks.{Racked, bench_at}

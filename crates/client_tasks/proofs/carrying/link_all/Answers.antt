@@ -7,7 +7,7 @@ use Rattle.jack_types.specs.declared.ports.Link.{Link}
 use Rattle.session_model.specs.Activation.{link_at, no_link, place_among}
 use Rattle.session_model.specs.Benches.{Signal}
 use Rattle.session_laws.proofs.SequentialLemmas.{outgoing_at}
-use Rattle.client_benches.specs.Seen.{Seen, has_room_at, new_bench, room_count}
+use Rattle.bench_rack.specs.client_benches.specs.Seen.{Seen, has_room_at, new_bench, room_count}
 use Rattle.bench_rack.specs.Racks.{Racked, bench_at, link_total, linked}
 use Rattle.client_tasks.specs.Steps.{count_out}
 use Rattle.client_tasks.proofs.ListLemmas.{out-more, out-other, outgoing-counted}

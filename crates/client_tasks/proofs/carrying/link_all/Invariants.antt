@@ -1,7 +1,7 @@
 use Rattle.std.proofs.Common.{◌≡◌, ◌≤◌, ◌<◌, ℕ, All, length}
 use Rattle.std.specs.Prelude.{nat_lt}
 use Rattle.jack_types.specs.declared.ports.Link.{Link}
-use Rattle.client_benches.specs.Seen.{has_room_at}
+use Rattle.bench_rack.specs.client_benches.specs.Seen.{has_room_at}
 use Rattle.bench_rack.specs.Racks.{bench_at, link_total}
 use Rattle.client_tasks.specs.Steps.{count_out}
 use Rattle.client_tasks.proofs.carrying.link_all.Given as goal

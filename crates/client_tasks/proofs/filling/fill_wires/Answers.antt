@@ -1,9 +1,9 @@
 use Rattle.std.proofs.Common.{◌≡◌, ◌≢◌, ◌<◌, ◌≤◌, ◌+◌, ◌∙◌, ◌⊎◌, inl, inr, ℕ, ℤ, List, None, ap, arith, get_or, length, map, refl, replicate, set, subst, sym, get_or-set_same, get_or-set_other}
 use Rattle.std.proofs.lemmas.Bool.{cases_eq}
 use Rattle.std.proofs.lemmas.List.{get_or-replicate, length-set}
-use Rattle.client_benches.specs.Seen.{Seen}
-use Rattle.client_benches.specs.Wires.{wire_at}
-use Rattle.client_benches.specs.declared.wires.Wire.{Wire}
+use Rattle.bench_rack.specs.client_benches.specs.Seen.{Seen}
+use Rattle.bench_rack.specs.client_benches.specs.Wires.{wire_at}
+use Rattle.bench_rack.specs.client_benches.specs.declared.wires.Wire.{Wire}
 use Rattle.client_wiring.specs.declared.joints.Joint.{Joint}
 use Rattle.client_wiring.specs.declared.joints.Origin.TheVariants.{Captured, Handed}
 use Rattle.bench_rack.specs.Racks.{bench_at}

@@ -1,7 +1,7 @@
 use Rattle.std.proofs.Common.{◌≡◌, ◌≢◌, ◌<◌, ◌≤◌, ◌+◌, ◌++◌, ◌∷◌, ◌∙◌, ℕ, List, [], ap, arith, get_or, length, refl, sym, take, Option}
 use Rattle.jack_types.specs.declared.kinds.Kind.TheVariants.{Pass}
-use Rattle.client_benches.specs.Seen.{Seen, new_bench}
-use Rattle.client_benches.specs.Wires.{kept_count}
+use Rattle.bench_rack.specs.client_benches.specs.Seen.{Seen, new_bench}
+use Rattle.bench_rack.specs.client_benches.specs.Wires.{kept_count}
 use Rattle.client_wiring.specs.declared.joints.Joint.{Joint}
 use Rattle.client_wiring.specs.declared.joints.Origin.TheVariants.{Handed}
 use Rattle.bench_rack.specs.Racks.{Racked, bench_at, wire_total}

@@ -1,8 +1,8 @@
 use Rattle.std.proofs.Common.{◌≡◌, ◌<◌, ◌≤◌, Some, ◌∙◌, ℕ, All, List, [], ap, arith, get_or, length, subst, sym}
 use Rattle.jack_types.specs.declared.ports.Edge.{Edge}
 use Rattle.jack_types.specs.declared.ports.Link.{Link}
-use Rattle.client_benches.specs.Seen.{Seen}
-use Rattle.client_benches.specs.declared.benches.Stint.{Stint}
+use Rattle.bench_rack.specs.client_benches.specs.Seen.{Seen}
+use Rattle.bench_rack.specs.client_benches.specs.declared.benches.Stint.{Stint}
 use Rattle.client_wiring.specs.Wirings.{Wired, wired_of}
 use Rattle.client_wiring.specs.declared.joints.Carried.{Carried}
 use Rattle.client_wiring.specs.declared.joints.Joint.{Joint}

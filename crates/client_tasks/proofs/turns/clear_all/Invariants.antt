@@ -1,5 +1,5 @@
 use Rattle.std.proofs.Common.{◌≡◌, ◌≤◌, ◌<◌, ℕ, length}
-use Rattle.client_benches.specs.Seen.{cleared}
+use Rattle.bench_rack.specs.client_benches.specs.Seen.{cleared}
 use Rattle.bench_rack.specs.Racks.{bench_at}
 use Rattle.client_tasks.proofs.turns.clear_all.Given as goal
 

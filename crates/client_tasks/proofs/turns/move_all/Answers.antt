@@ -1,5 +1,5 @@
 use Rattle.std.proofs.Common.{◌≡◌, ap, arith, sym, subst, ◌∙◌}
-use Rattle.client_benches.specs.Seen.{MayPlay, Seen, moved_to}
+use Rattle.bench_rack.specs.client_benches.specs.Seen.{MayPlay, Seen, moved_to}
 use Rattle.bench_rack.specs.Racks.{bench_at}
 use Rattle.client_tasks.proofs.turns.move_all.Goals as goal
 

@@ -1,7 +1,7 @@
 use Rattle.std.proofs.Common.{◌≡◌, ◌==◌, true, arith, eq-eqb, length, sym, subst}
 use Rattle.std.proofs.lemmas.List.Sums.{position_or_len_is}
 use Rattle.jack_types.specs.declared.ports.Client.{Client}
-use Rattle.port_registry.specs.Registered.{system_entry}
+use Rattle.cycle_plan.specs.port_registry.specs.Registered.{system_entry}
 use Rattle.client_wiring.proofs.ends.first_of.Goals as goal
 
 pub returns-then-id-client : goal.returns-then-id-client

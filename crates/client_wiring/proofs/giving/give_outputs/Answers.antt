@@ -3,7 +3,7 @@ use Rattle.std.specs.List.{cons_option}
 use Rattle.jack_types.specs.declared.ports.Port.{Port}
 use Rattle.session_model.specs.Ids.{open_port, open_ports}
 use Rattle.session_model.specs.State.{State}
-use Rattle.port_registry.specs.Registered.{open_clients}
+use Rattle.cycle_plan.specs.port_registry.specs.Registered.{open_clients}
 use Rattle.cycle_plan.specs.Graphs.{state_of}
 use Rattle.client_wiring.specs.Wirings.{given_of}
 use Rattle.client_wiring.proofs.EndLemmas.{given-step, ids-low, ports-few}

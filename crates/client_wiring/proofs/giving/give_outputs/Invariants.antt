@@ -1,7 +1,7 @@
 use Rattle.std.proofs.Common.{◌≡◌, ◌≤◌, filter_map, length, take}
 use Rattle.std.specs.Vec.{vec_capacity}
 use Rattle.session_model.specs.Ids.{open_ports}
-use Rattle.port_registry.specs.Registered.{open_clients}
+use Rattle.cycle_plan.specs.port_registry.specs.Registered.{open_clients}
 use Rattle.cycle_plan.specs.Graphs.{state_of}
 use Rattle.client_wiring.specs.Wirings.{given_of}
 use Rattle.client_wiring.proofs.giving.give_outputs.Given as goal

@@ -3,8 +3,8 @@ use Rattle.std.specs.List.{cons_option}
 use Rattle.jack_types.specs.declared.ports.Edge.{Edge}
 use Rattle.session_model.specs.Ids.{connection, connections}
 use Rattle.session_model.specs.State.{State}
-use Rattle.connection_set.specs.Connections.{no_edge}
-use Rattle.port_registry.specs.Registered.{open_clients}
+use Rattle.cycle_plan.specs.connection_set.specs.Connections.{no_edge}
+use Rattle.cycle_plan.specs.port_registry.specs.Registered.{open_clients}
 use Rattle.cycle_plan.specs.Graphs.{state_of}
 use Rattle.client_wiring.specs.Wirings.{carried_by, heard_of, joint_of}
 use Rattle.client_wiring.proofs.EndLemmas.{carried-step, destination-listed, heard-step, ids-low, joint-step, source-listed}

@@ -1,5 +1,5 @@
 use Rattle.std.proofs.Common.{ap, subst, sym, ◌∙◌}
-use Rattle.cycle_plan.specs.Plans.{opening_of}
+use Rattle.call_laws.specs.cycle_plan.specs.Plans.{opening_of}
 use Rattle.session_model.specs.Replies.{AreLawful}
 use Rattle.control_desk.proofs.desk.publish.Goals as goal
 

@@ -1,7 +1,7 @@
 use Rattle.std.proofs.Common.{◌≡◌, ◌*◌, [], length, map, get_or, set}
 use Rattle.session_model.specs.Samples.{below}
 use Rattle.bench_rack.specs.Racks.{bench_at}
-use Rattle.device_periods.specs.Blocks.{IsLaid}
+use Rattle.recorder_rings.specs.device_periods.specs.Blocks.{IsLaid}
 use Rattle.recorder_rings.specs.Sending.{block_at, channels_at}
 use Rattle.cycle_blocks.proofs.laying.lay_block.Given as goal
 

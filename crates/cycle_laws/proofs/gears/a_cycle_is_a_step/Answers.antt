@@ -1,6 +1,6 @@
 use Rattle.std.proofs.Common.{◌+◌, length}
 use Rattle.port_registry.specs.Registered.{open_clients}
-use Rattle.driver_laws.specs.Playing.{last_number}
+use Rattle.plan_transport.specs.driver_laws.specs.Playing.{last_number}
 use Rattle.cycle_laws.specs.Gears.{driver_of}
 use Rattle.cycle_laws.proofs.StepLemmas.{StepsOnce-turned}
 use Rattle.cycle_laws.proofs.gears.a_cycle_is_a_step.Goals as goal

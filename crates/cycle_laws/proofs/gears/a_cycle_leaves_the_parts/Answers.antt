@@ -1,6 +1,6 @@
 use Rattle.std.proofs.Common.{◌≡◌, length, true}
 use Rattle.port_registry.specs.Registered.{open_clients}
-use Rattle.driver_laws.specs.Keeping.{AreOfCalls}
+use Rattle.plan_transport.specs.driver_laws.specs.Keeping.{AreOfCalls}
 use Rattle.cycle_laws.specs.Gears.{StandsOn}
 use Rattle.cycle_laws.proofs.PartLemmas.{IsGear-turned, guests-are, kinds-is, logs-are, staffed-is, stands-is}
 use Rattle.cycle_laws.proofs.gears.a_cycle_leaves_the_parts.Goals as goal

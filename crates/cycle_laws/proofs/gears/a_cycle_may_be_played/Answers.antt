@@ -1,5 +1,5 @@
 use Rattle.std.proofs.Common.{◌≡◌, ◌+◌, ◌≤◌, length, arith}
-use Rattle.driver_laws.specs.Drivers.{turn_of}
+use Rattle.plan_transport.specs.driver_laws.specs.Drivers.{turn_of}
 use Rattle.cycle_laws.proofs.MayLemmas.{MayGet-gear, MaySend-gear, cycles-gear, frames-gear, later}
 use Rattle.cycle_laws.proofs.gears.a_cycle_may_be_played.Goals as goal
 

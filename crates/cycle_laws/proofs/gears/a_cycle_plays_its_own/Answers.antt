@@ -3,13 +3,13 @@ use Rattle.session_model.specs.Benches.{node_at}
 use Rattle.session_model.specs.Kinds.{Memory}
 use Rattle.port_registry.specs.Registered.{open_clients}
 use Rattle.driver_words.specs.Feeding.{fed_at}
-use Rattle.driver_laws.specs.Cycling.{StepsOnce}
-use Rattle.driver_laws.specs.Drivers.{Driver, content_now}
-use Rattle.driver_laws.specs.Keeping.{AreOfCalls}
-use Rattle.driver_laws.specs.Playing.{fed_now, own_course, settled_now, with_fed}
-use Rattle.client_wiring.specs.Keeping.{GoesOn}
-use Rattle.midi_wiring.specs.Hearings.{HearsPlan}
-use Rattle.midi_wiring.specs.Keeping.{BringsCarried}
+use Rattle.plan_transport.specs.driver_laws.specs.Cycling.{StepsOnce}
+use Rattle.plan_transport.specs.driver_laws.specs.Drivers.{Driver, content_now}
+use Rattle.plan_transport.specs.driver_laws.specs.Keeping.{AreOfCalls}
+use Rattle.plan_transport.specs.driver_laws.specs.Playing.{fed_now, own_course, settled_now, with_fed}
+use Rattle.playback_laws.specs.client_wiring.specs.Keeping.{GoesOn}
+use Rattle.play_laws.specs.midi_wiring.specs.Hearings.{HearsPlan}
+use Rattle.play_laws.specs.midi_wiring.specs.Keeping.{BringsCarried}
 use Rattle.play_laws.specs.Plays.{IsSettledOn}
 use Rattle.cycle_laws.specs.Gears.{driver_of}
 use Rattle.cycle_laws.proofs.FeedLemmas.{fed-now, first-now}

@@ -1,5 +1,5 @@
 use Rattle.std.proofs.Common.{◌≡◌, ◌+◌, ◌==◌, count_by, length, take, sym, ◌∙◌, ap, arith}
-use Rattle.jack_types.specs.declared.ports.Link.{Link}
+use Rattle.graph_word.specs.jack_types.specs.declared.ports.Link.{Link}
 use Rattle.cycle_plan.proofs.PlannedLemmas.{incoming-counted, take-whole}
 use Rattle.cycle_plan.proofs.counts.count_into.Goals as goal
 

@@ -1,5 +1,5 @@
 use Rattle.std.proofs.Common.{◌≡◌, ◌+◌, ◌==◌, count_by, take}
-use Rattle.jack_types.specs.declared.ports.Link.{Link}
+use Rattle.graph_word.specs.jack_types.specs.declared.ports.Link.{Link}
 use Rattle.cycle_plan.proofs.counts.count_into.Given as goal
 
 abbrev pub invariant-loop-link : goal.invariant-loop-link

@@ -1,7 +1,7 @@
 use Rattle.std.proofs.Common.{◌≡◌, ◌+◌, ◌<◌, length, sym, ◌∙◌, ap, arith, true≢false}
 use Rattle.std.specs.Vec.{vec_capacity, vec_len}
 use Rattle.std.specs.Prelude.{is_ok}
-use Rattle.session_model.specs.Activation.{incoming}
+use Rattle.graph_word.specs.session_model.specs.Activation.{incoming}
 use Rattle.cycle_plan.proofs.PlannedLemmas.{room-left}
 use Rattle.cycle_plan.proofs.counts.count_links.Goals as goal
 

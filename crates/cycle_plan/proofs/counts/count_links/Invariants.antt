@@ -1,7 +1,7 @@
 use Rattle.std.proofs.Common.{◌≡◌, ◌≤◌, ◌+◌, length, map}
 use Rattle.std.specs.Vec.{vec_capacity}
-use Rattle.session_model.specs.Activation.{incoming}
-use Rattle.session_model.specs.Samples.{below}
+use Rattle.graph_word.specs.session_model.specs.Activation.{incoming}
+use Rattle.graph_word.specs.session_model.specs.Samples.{below}
 use Rattle.cycle_plan.proofs.counts.count_links.Given as goal
 
 abbrev pub invariant-loop-node : goal.invariant-loop-node

@@ -1,7 +1,7 @@
 use Rattle.std.proofs.Common.{◌≡◌, ◌+◌, ◌≤◌, ◌∙◌, Global, Vec, None, Some, ap, sym, arith, length}
 use Rattle.std.specs.Vec.{vec_capacity}
-use Rattle.jack_types.specs.declared.ports.Link.{Link}
-use Rattle.connection_set.specs.Connections.{no_edge}
+use Rattle.graph_word.specs.jack_types.specs.declared.ports.Link.{Link}
+use Rattle.feedback_edges.specs.connection_set.specs.Connections.{no_edge}
 use Rattle.cycle_plan.specs.Layouts.{with_link}
 use Rattle.cycle_plan.specs.Searching.{link_at_numbers}
 use Rattle.cycle_plan.proofs.NodeLemmas.{links_more, length-with_link}

@@ -1,7 +1,7 @@
 use Rattle.std.proofs.Common.{◌≡◌, ℕ, ◌<◌, ◌≤◌, ◌∙◌, Option, None, Some, not, ap, get_or, set, subst, sym, arith, length}
 use Rattle.std.specs.Option.{is_some}
 use Rattle.std.proofs.lemmas.List.{get_or-replicate, length-replicate, length-set}
-use Rattle.jack_types.specs.declared.ports.Client.{Client}
+use Rattle.graph_word.specs.jack_types.specs.declared.ports.Client.{Client}
 use Rattle.cycle_plan.specs.Searching.{client_number}
 use Rattle.cycle_plan.proofs.NodeLemmas.{place_new, place_kept}
 use Rattle.cycle_plan.proofs.links.node_places.Goals as goal

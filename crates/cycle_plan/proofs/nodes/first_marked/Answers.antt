@@ -1,6 +1,6 @@
 use Rattle.std.proofs.Common.{◌≡◌, true, false, get_or, arith, length, sym, subst}
 use Rattle.std.proofs.lemmas.List.Sums.{position_or_len_is}
-use Rattle.jack_types.specs.declared.ports.Client.{Client}
+use Rattle.graph_word.specs.jack_types.specs.declared.ports.Client.{Client}
 use Rattle.cycle_plan.specs.Searching.{client_number}
 use Rattle.cycle_plan.proofs.NodeLemmas.{no_client}
 use Rattle.cycle_plan.proofs.nodes.first_marked.Goals as goal

@@ -1,5 +1,5 @@
 use Rattle.std.proofs.Common.{◌≡◌, ℕ, ◌<◌, false, get_or}
-use Rattle.jack_types.specs.declared.ports.Client.{Client}
+use Rattle.graph_word.specs.jack_types.specs.declared.ports.Client.{Client}
 use Rattle.cycle_plan.specs.Searching.{client_number}
 use Rattle.cycle_plan.proofs.nodes.first_marked.Given as goal
 

@@ -1,6 +1,6 @@
 use Rattle.std.proofs.Common.{◌≡◌, ◌+◌, ◌≤◌, ◌∙◌, All, Global, Vec, true, false, ap, subst, sym, arith, length}
 use Rattle.std.specs.Vec.{vec_capacity}
-use Rattle.jack_types.specs.declared.ports.Client.{Client}
+use Rattle.graph_word.specs.jack_types.specs.declared.ports.Client.{Client}
 use Rattle.cycle_plan.specs.Layouts.{with_node}
 use Rattle.cycle_plan.specs.Searching.{numbers_lead}
 use Rattle.cycle_plan.proofs.NodeLemmas.{ordered_more, All-with_node, length-with_node}

@@ -1,6 +1,6 @@
 use Rattle.std.proofs.Common.{◌≡◌, ◌≤◌, All, filter, length, take}
 use Rattle.std.specs.Vec.{vec_capacity}
-use Rattle.jack_types.specs.declared.ports.Client.{Client}
+use Rattle.graph_word.specs.jack_types.specs.declared.ports.Client.{Client}
 use Rattle.cycle_plan.specs.Layouts.{is_player, ordered}
 use Rattle.cycle_plan.specs.Searching.{numbers_lead}
 use Rattle.cycle_plan.proofs.nodes.order_nodes.Given as goal

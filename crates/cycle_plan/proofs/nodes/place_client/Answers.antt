@@ -1,7 +1,7 @@
 use Rattle.std.proofs.Common.{◌≤◌, ◌∙◌, ◌↔◌, ℕ, false, ap, get_or, insert, length, subst, arith}
 use Rattle.std.specs.List.{position_or_len}
-use Rattle.jack_types.specs.declared.ports.Client.{Client}
-use Rattle.session_model.specs.Loops.{Leads}
+use Rattle.graph_word.specs.jack_types.specs.declared.ports.Client.{Client}
+use Rattle.graph_word.specs.session_model.specs.Loops.{Leads}
 use Rattle.feedback_edges.specs.Search.{IsMarked, number_links}
 use Rattle.cycle_plan.specs.Searching.{client_number}
 use Rattle.cycle_plan.proofs.NodeLemmas.{place-within, placed}

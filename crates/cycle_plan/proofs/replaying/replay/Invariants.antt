@@ -1,7 +1,7 @@
 use Rattle.std.proofs.Common.{◌≡◌, ◌≤◌, take}
 use Rattle.std.specs.Vec.{vec_capacity}
-use Rattle.session_model.specs.Commands.{replay}
-use Rattle.session_model.specs.State.{State}
+use Rattle.graph_word.specs.session_model.specs.Commands.{replay}
+use Rattle.graph_word.specs.session_model.specs.State.{State}
 use Rattle.cycle_plan.specs.Graphs.{state_of}
 use Rattle.cycle_plan.proofs.replaying.replay.Given as goal
 

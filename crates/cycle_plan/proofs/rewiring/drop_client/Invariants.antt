@@ -1,5 +1,5 @@
 use Rattle.std.proofs.Common.{◌≡◌, fold, take}
-use Rattle.jack_types.specs.declared.ports.Node.TheVariants.{Client as ClientNode}
+use Rattle.graph_word.specs.jack_types.specs.declared.ports.Node.TheVariants.{Client as ClientNode}
 use Rattle.cycle_plan.specs.Rewiring.{without_edges_at}
 use Rattle.cycle_plan.proofs.rewiring.drop_client.Given as goal
 

@@ -1,7 +1,7 @@
 use Rattle.std.proofs.Common.{false, map, None, refl, sym, ◌∙◌, ap, subst}
 use Rattle.jack_types.specs.declared.scripts.Header.{Header}
 use Rattle.midi_stage.specs.Standing.{OnMidi}
-use Rattle.driver_laws.specs.Openings.{IsNew}
+use Rattle.midi_stage.specs.driver_laws.specs.Openings.{IsNew}
 use Rattle.cycle_laws.specs.Gears.{driver_of}
 use Rattle.cycle_works.specs.Insides.{gear_of}
 use Rattle.cycle_works.proofs.InsideLemmas.{script-noted, whole-new}

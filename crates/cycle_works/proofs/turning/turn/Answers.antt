@@ -2,16 +2,16 @@ use Rattle.std.proofs.Common.{◌≡◌, ◌+◌, List, length, All, drop, refl,
 use Rattle.jack_types.specs.declared.ports.Client.{Client}
 use Rattle.session_model.specs.Transport.{next_row, slow_numbers, timeout_of}
 use Rattle.port_registry.specs.Registered.{open_clients}
-use Rattle.cycle_plan.specs.Plans.{Planned, state_of_plan}
+use Rattle.midi_stage.specs.cycle_plan.specs.Plans.{Planned, state_of_plan}
 use Rattle.graph_word.specs.Publications.{IsFront, Reading}
 use Rattle.session_model.specs.Scripts.{Script}
-use Rattle.disk_feeds.specs.Cycling.{GetsAll}
+use Rattle.client_stage.specs.disk_feeds.specs.Cycling.{GetsAll}
 use Rattle.driver_words.specs.Feeding.{Fed}
-use Rattle.driver_laws.specs.Keeping.{AreOfCalls}
+use Rattle.midi_stage.specs.driver_laws.specs.Keeping.{AreOfCalls}
 use Rattle.midi_stage.specs.Standing.{device_of}
 use Rattle.transport.specs.Standings.{HasTarget}
 use Rattle.cycle_laws.specs.Gears.{StandsOn}
-use Rattle.cycle_blocks.specs.Blocks.{Sends}
+use Rattle.cycle_laws.specs.cycle_blocks.specs.Blocks.{Sends}
 use Rattle.cycle_works.specs.Insides.{gear_of}
 use Rattle.cycle_laws.proofs.FrontLemmas.{front-front}
 use Rattle.cycle_works.proofs.ResultLemmas.{any-err, either, last-row}

@@ -1,5 +1,5 @@
 use Rattle.std.proofs.Common.{◌≡◌, ◌≢◌, ℕ, ◌+◌, ◌*◌, ◌<◌, length}
-use Rattle.session_model.specs.Samples.{sample}
+use Rattle.wave_pcm.specs.session_model.specs.Samples.{sample}
 use Rattle.device_periods.proofs.blocks.lay_channel.Given as goal
 
 abbrev pub invariant-loop-i : goal.invariant-loop-i

@@ -1,5 +1,5 @@
 use Rattle.std.proofs.Common.{◌≡◌, ◌*◌, take, map}
-use Rattle.session_model.specs.Samples.{below, sample}
+use Rattle.wave_pcm.specs.session_model.specs.Samples.{below, sample}
 use Rattle.device_periods.proofs.blocks.take_every_other.Given as goal
 
 abbrev pub invariant-loop-i : goal.invariant-loop-i

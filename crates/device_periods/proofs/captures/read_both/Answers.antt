@@ -1,5 +1,5 @@
 use Rattle.std.proofs.Common.{rules, ◌≡◌, ap, length, ◌∙◌}
-use Rattle.session_model.specs.Samples.{silence}
+use Rattle.wave_pcm.specs.session_model.specs.Samples.{silence}
 use Rattle.device_periods.proofs.PeriodLemmas.{pair_reads}
 use Rattle.device_periods.proofs.captures.read_both.Goals as goal
 

@@ -1,5 +1,5 @@
 use Rattle.std.proofs.Common.{◌≡◌, ◌*◌, length}
-use Rattle.session_model.specs.Kinds.{outputs_by}
+use Rattle.wave_pcm.specs.session_model.specs.Kinds.{outputs_by}
 use Rattle.client_kinds.specs.Buffers.{buffers_of}
 use Rattle.device_periods.specs.Blocks.{channel_of}
 use Rattle.device_periods.proofs.captures.take_apart.Given as goal

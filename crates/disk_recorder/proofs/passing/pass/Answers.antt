@@ -2,7 +2,7 @@ use Rattle.std.proofs.Common.{rules, ◌++◌, List, subst}
 use Rattle.std.specs.Prelude.{ℤ}
 use Rattle.session_model.specs.Samples.{bytes_of}
 use Rattle.record_ring.specs.Rings.{content}
-use Rattle.driver_words.specs.Tapes.{Tape, HasSamples, HasUnfinished, Gained, GainedPart}
+use Rattle.record_ring.specs.driver_words.specs.Tapes.{Tape, HasSamples, HasUnfinished, Gained, GainedPart}
 use Rattle.disk_recorder.specs.Recordings.{Fails}
 use Rattle.disk_recorder.proofs.Blocks.{broke, on_err, wrote}
 use Rattle.disk_recorder.proofs.passing.pass.Goals as goal

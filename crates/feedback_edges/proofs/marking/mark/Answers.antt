@@ -1,6 +1,6 @@
 use Rattle.std.proofs.Common.{true, false, sym, ◌∙◌, true≢false}
-use Rattle.session_model.specs.Ids.{connections, node_links}
-use Rattle.session_model.specs.Loops.{closes_loop}
+use Rattle.connection_set.specs.session_model.specs.Ids.{connections, node_links}
+use Rattle.connection_set.specs.session_model.specs.Loops.{closes_loop}
 use Rattle.feedback_edges.proofs.NameLemmas.{marked, closes_loop-by_name}
 use Rattle.feedback_edges.proofs.marking.mark.Goals as goal
 

@@ -2,8 +2,8 @@ use Rattle.std.proofs.Common.{◌≡◌, ◌<◌, ◌+◌, ◌∙◌, ap, sym, s
 use Rattle.connection_set.specs.Connections.{ConnectionSet, edge_at, with_direct}
 use Rattle.feedback_edges.specs.Marking.{ends_by_id}
 use Rattle.feedback_edges.specs.Search.{ClosesNone}
-use Rattle.session_model.specs.Ids.{connections}
-use Rattle.session_model.specs.Loops.{remark, remark_from}
+use Rattle.connection_set.specs.session_model.specs.Ids.{connections}
+use Rattle.connection_set.specs.session_model.specs.Loops.{remark, remark_from}
 use Rattle.feedback_edges.proofs.NameLemmas.{AreAmong-same}
 use Rattle.feedback_edges.proofs.RemarkSteps.{ends-direct, same-length, kept-direct, kept-stays}
 use Rattle.feedback_edges.proofs.TableLemmas.{sources_below, destinations_below}

@@ -1,6 +1,6 @@
 use Rattle.std.proofs.Common.{◌≡◌, drop, length, take}
-use Rattle.session_model.specs.Ids.{connections}
-use Rattle.session_model.specs.Loops.{remark, remark_from}
+use Rattle.connection_set.specs.session_model.specs.Ids.{connections}
+use Rattle.connection_set.specs.session_model.specs.Loops.{remark, remark_from}
 use Rattle.feedback_edges.specs.Marking.{AreNamed, ends_by_id}
 use Rattle.feedback_edges.proofs.marking.remark.Given as goal
 

@@ -1,6 +1,6 @@
 use Rattle.std.proofs.Common.{◌≡◌, true, get_or, arith}
 use Rattle.std.proofs.lemmas.Grind.{common_steps}
-use Rattle.session_model.specs.State.{is_direct}
+use Rattle.connection_set.specs.session_model.specs.State.{is_direct}
 use Rattle.feedback_edges.proofs.SearchLemmas.{led_set, unmarked-set}
 use Rattle.feedback_edges.proofs.searching.mark_end.Goals as goal
 

@@ -1,5 +1,5 @@
 use Rattle.std.proofs.Common.{All, subst, sym, ◌∙◌}
-use Rattle.task_laws.specs.Calls.{open_kinds}
+use Rattle.midi_seats.specs.task_laws.specs.Calls.{open_kinds}
 use Rattle.midi_player.specs.Standings.{IsMidi}
 use Rattle.midi_stage.proofs.OpeningLemmas.{all-midi}
 use Rattle.midi_stage.proofs.opening.make_parts.Goals as goal

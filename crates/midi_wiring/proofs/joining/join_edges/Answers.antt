@@ -5,7 +5,7 @@ use Rattle.session_model.specs.Ids.{connection, connections}
 use Rattle.session_model.specs.State.{State}
 use Rattle.connection_set.specs.Connections.{no_edge}
 use Rattle.port_registry.specs.Registered.{open_clients}
-use Rattle.cycle_plan.specs.Graphs.{state_of}
+use Rattle.client_wiring.specs.cycle_plan.specs.Graphs.{state_of}
 use Rattle.midi_wiring.specs.Wirings.{midi_joint_of}
 use Rattle.midi_wiring.proofs.PortLemmas.{destination-listed, ids-low, joint-step, source-listed}
 use Rattle.client_wiring.proofs.ListLemmas.{made_more, taken-whole}

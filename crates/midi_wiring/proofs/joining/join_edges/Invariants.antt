@@ -2,7 +2,7 @@ use Rattle.std.proofs.Common.{◌≡◌, ◌≤◌, filter_map, length, take}
 use Rattle.std.specs.Vec.{vec_capacity}
 use Rattle.session_model.specs.Ids.{connections}
 use Rattle.port_registry.specs.Registered.{open_clients}
-use Rattle.cycle_plan.specs.Graphs.{state_of}
+use Rattle.client_wiring.specs.cycle_plan.specs.Graphs.{state_of}
 use Rattle.midi_wiring.specs.Wirings.{midi_joint_of}
 use Rattle.midi_wiring.proofs.joining.join_edges.Given as goal
 

@@ -2,7 +2,7 @@ use Rattle.std.proofs.Common.{length, take, ◌+◌, ◌*◌, ◌-◌, ◌/◌, 
 use Rattle.std.specs.Prelude.{drop, unwrap_or}
 use Rattle.jack_types.specs.declared.moments.Moment.{Moment}
 use Rattle.session_model.specs.Transport.{active_master, next_row, timeout_of}
-use Rattle.cycle_plan.specs.Plans.{state_of_plan}
+use Rattle.task_laws.specs.cycle_plan.specs.Plans.{state_of_plan}
 use Rattle.transport.specs.Standings.{counted, with_targets}
 use Rattle.transport.proofs.TargetLemmas.{with_targets-all}
 use Rattle.plan_transport.specs.Rows.{row_by}

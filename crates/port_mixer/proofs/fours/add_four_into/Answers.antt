@@ -1,5 +1,5 @@
 use Rattle.std.proofs.Common.{◌+ℤ◌, [], ◌∷◌, fold, arith, rules}
-use Rattle.session_model.specs.Samples.{sample}
+use Rattle.session_laws.specs.session_model.specs.Samples.{sample}
 use Rattle.port_mixer.proofs.SumLemmas.{all_added-is, more-of}
 use Rattle.port_mixer.proofs.fours.add_four_into.Goals as goal
 

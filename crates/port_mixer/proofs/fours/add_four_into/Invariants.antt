@@ -1,5 +1,5 @@
 use Rattle.std.proofs.Common.{◌≡◌, ℕ, ◌<◌, ◌≤◌, ◌+ℤ◌, [], ◌∷◌, fold}
-use Rattle.session_model.specs.Samples.{sample}
+use Rattle.session_laws.specs.session_model.specs.Samples.{sample}
 use Rattle.port_mixer.proofs.fours.add_four_into.Given as goal
 
 abbrev pub invariant-loop-i : goal.invariant-loop-i

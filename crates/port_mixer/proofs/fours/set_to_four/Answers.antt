@@ -1,6 +1,6 @@
 use Rattle.std.proofs.Common.{ℤ, ◌+ℤ◌, [], ◌∷◌, ◌∙◌, length, fold, ap, sym, arith, rules}
 use Rattle.std.proofs.lemmas.List.{length-replicate}
-use Rattle.session_model.specs.Samples.{sample, silence, total}
+use Rattle.session_laws.specs.session_model.specs.Samples.{sample, silence, total}
 use Rattle.session_laws.proofs.PlaceLemmas.{sample-silence}
 use Rattle.port_mixer.proofs.SumLemmas.{all_added-is, more-of}
 use Rattle.port_mixer.proofs.fours.set_to_four.Goals as goal

@@ -1,5 +1,5 @@
 use Rattle.std.proofs.Common.{◌≡◌, ℕ, ◌<◌, [], ◌∷◌}
-use Rattle.session_model.specs.Samples.{sample, total}
+use Rattle.session_laws.specs.session_model.specs.Samples.{sample, total}
 use Rattle.port_mixer.proofs.fours.set_to_four.Given as goal
 
 abbrev pub invariant-loop-i : goal.invariant-loop-i

@@ -1,6 +1,6 @@
 use Rattle.std.proofs.Common.{sym, ◌∙◌, subst, arith}
 use Rattle.std.proofs.lemmas.List.{length-take-le}
-use Rattle.session_model.specs.Samples.{sample}
+use Rattle.session_laws.specs.session_model.specs.Samples.{sample}
 use Rattle.port_mixer.specs.Sums.{IsSumOf}
 use Rattle.port_mixer.proofs.SumLemmas.{IsSumOf-alone, front}
 use Rattle.port_mixer.proofs.mixing.set_first.Goals as goal

@@ -1,6 +1,6 @@
 use Rattle.std.proofs.Common.{◌≡◌, ℕ, sym, ◌∙◌, ap, map, arith}
 use Rattle.std.proofs.lemmas.Grind.{common_steps}
-use Rattle.session_model.specs.Samples.{clamp}
+use Rattle.session_laws.specs.session_model.specs.Samples.{clamp}
 use Rattle.port_mixer.specs.Insides.{sums_in}
 use Rattle.port_mixer.proofs.SumLemmas.{clamped_silence, silence-is}
 use Rattle.port_mixer.proofs.mixing.settle_first.Goals as goal

@@ -1,5 +1,5 @@
 use Rattle.std.proofs.Common.{◌≡◌, ◌++◌, ◌∷◌, [], map, ◌∙◌, ap}
-use Rattle.jack_types.specs.declared.ports.Port.{Port}
+use Rattle.session_laws.specs.jack_types.specs.declared.ports.Port.{Port}
 use Rattle.port_registry.specs.Registered.{system_port, unlisted}
 use Rattle.port_registry.proofs.OpeningLemmas.{listed-more, long-more, IsListed-more}
 use Rattle.port_registry.proofs.opening.add_device_ports.Goals as goal

@@ -1,5 +1,5 @@
 use Rattle.std.proofs.Common.{◌≡◌, ◌+◌, ◌++◌, length, map}
-use Rattle.session_model.specs.Samples.{below}
+use Rattle.session_laws.specs.session_model.specs.Samples.{below}
 use Rattle.port_registry.specs.Kept.{IsListed}
 use Rattle.port_registry.specs.Registered.{system_port, unlisted}
 use Rattle.port_registry.proofs.opening.add_device_ports.Given as goal

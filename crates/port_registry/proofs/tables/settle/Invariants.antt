@@ -1,6 +1,6 @@
 use Rattle.std.proofs.Common.{◌≡◌, ℕ, ◌<◌, slice_get, Some, IsSome}
 use Rattle.slab.specs.Slab.{get, slab_len}
-use Rattle.jack_types.specs.declared.ports.Port.{Port}
+use Rattle.session_laws.specs.jack_types.specs.declared.ports.Port.{Port}
 use Rattle.port_registry.proofs.tables.settle.Given as goal
 
 abbrev pub invariant-loop-place : goal.invariant-loop-place

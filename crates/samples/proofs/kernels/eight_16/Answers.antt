@@ -1,5 +1,5 @@
 use Rattle.std.proofs.Common.{◌≡◌, ℕ, ◌+◌, ◌*◌, [], ◌∷◌, ℤ, get_or, arith, refl}
-use Rattle.session_model.specs.Samples.{up, stored}
+use Rattle.wave_laws.specs.session_model.specs.Samples.{up, stored}
 use Rattle.samples.proofs.KernelLemmas.{joined}
 use Rattle.samples.proofs.SpreadLemmas.{eight_16, words_16}
 use Rattle.samples.proofs.kernels.eight_16.Goals as goal

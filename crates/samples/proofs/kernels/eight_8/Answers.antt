@@ -1,5 +1,5 @@
 use Rattle.std.proofs.Common.{◌≡◌, ℕ, [], ◌∷◌, ℤ, get_or, map, refl, to_z, w32}
-use Rattle.session_model.specs.Samples.{up, stored}
+use Rattle.wave_laws.specs.session_model.specs.Samples.{up, stored}
 use lib.Lanes.{digits_l, number_l}
 use Rattle.samples.proofs.KernelLemmas.{joined}
 use Rattle.samples.proofs.SpreadLemmas.{eight_8, spread_8, flipped}

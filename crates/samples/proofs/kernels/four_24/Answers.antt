@@ -1,5 +1,5 @@
 use Rattle.std.proofs.Common.{◌≡◌, ℕ, ◌+◌, ◌*◌, [], ◌∷◌, ℤ, get_or, arith, refl}
-use Rattle.session_model.specs.Samples.{up, stored}
+use Rattle.wave_laws.specs.session_model.specs.Samples.{up, stored}
 use Rattle.samples.proofs.KernelLemmas.{joined, four_24, words_of, spread_24}
 use Rattle.samples.proofs.kernels.four_24.Goals as goal
 

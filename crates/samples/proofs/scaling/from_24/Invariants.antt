@@ -1,5 +1,5 @@
 use Rattle.std.proofs.Common.{◌≡◌, ℕ, ◌+◌, ◌*◌, ◌<◌, [], ◌∷◌, get_or, pos}
-use Rattle.session_model.specs.Samples.{up, stored}
+use Rattle.wave_laws.specs.session_model.specs.Samples.{up, stored}
 use Rattle.samples.proofs.scaling.from_24.Given as goal
 
 abbrev pub invariant-loop-block : goal.invariant-loop-block

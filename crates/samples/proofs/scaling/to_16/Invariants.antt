@@ -1,5 +1,5 @@
 use Rattle.std.proofs.Common.{◌≡◌, ◌*◌, take}
-use Rattle.session_model.specs.Samples.{bytes_of}
+use Rattle.wave_laws.specs.session_model.specs.Samples.{bytes_of}
 use Rattle.samples.proofs.scaling.to_16.Given as goal
 
 abbrev pub invariant-loop-block : goal.invariant-loop-block

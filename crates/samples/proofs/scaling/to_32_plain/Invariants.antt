@@ -1,5 +1,5 @@
 use Rattle.std.proofs.Common.{◌≡◌, ◌*◌, take}
-use Rattle.session_model.specs.Samples.{bytes_of}
+use Rattle.wave_laws.specs.session_model.specs.Samples.{bytes_of}
 use Rattle.samples.proofs.scaling.to_32_plain.Given as goal
 
 abbrev pub invariant-loop-i : goal.invariant-loop-i

@@ -1,5 +1,5 @@
 use Rattle.std.proofs.Common.{◌≡◌, ℕ, ◌<◌, ◌≤◌, ◌+ℤ◌}
-use Rattle.session_model.specs.Samples.{sample}
+use Rattle.wave_laws.specs.session_model.specs.Samples.{sample}
 use Rattle.samples.proofs.sums.add_into.Given as goal
 
 abbrev pub invariant-loop-i : goal.invariant-loop-i

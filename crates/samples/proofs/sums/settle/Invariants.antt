@@ -1,5 +1,5 @@
 use Rattle.std.proofs.Common.{◌≡◌, ◌*◌, take, map}
-use Rattle.session_model.specs.Samples.{clamp}
+use Rattle.wave_laws.specs.session_model.specs.Samples.{clamp}
 use Rattle.samples.proofs.sums.settle.Given as goal
 
 abbrev pub invariant-loop-block : goal.invariant-loop-block

@@ -1,6 +1,6 @@
 use Rattle.std.proofs.Common.{◌≡◌, ◌≤◌, [], length}
 use Rattle.grammar_laws.proofs.GrammarLimits.{Limits}
-use Rattle.session_model.specs.Reading.{body_lines}
+use Rattle.grammar_laws.specs.session_model.specs.Reading.{body_lines}
 use Rattle.script_body.specs.Standings.{Follows}
 use Rattle.script_body.proofs.bodies.read_body.Given as goal
 

@@ -1,7 +1,7 @@
 use Rattle.std.proofs.Common.{◌≡◌, ◌<◌, ◌≤◌, [], length}
 use Rattle.std.specs.Prelude.{All, codes}
 use Rattle.jack_types.specs.declared.scripts.Many.TheVariants.{Events}
-use Rattle.session_model.specs.Reading.{event, several}
+use Rattle.grammar_laws.specs.session_model.specs.Reading.{event, several}
 use Rattle.script_header.specs.Fronts.{Item}
 use Rattle.script_header.proofs.EventLemmas.{AreLast}
 use Rattle.script_header.proofs.events.some_events.Given as goal

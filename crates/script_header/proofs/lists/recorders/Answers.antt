@@ -1,7 +1,7 @@
 use Rattle.std.proofs.Common.{◌<◌, length, length-set, take, arith, ◌∙◌}
 use Rattle.std.specs.Prelude.{codes}
 use Rattle.jack_types.specs.declared.scripts.Many.TheVariants.{Recorders}
-use Rattle.session_model.specs.Reading.{recorder}
+use Rattle.grammar_laws.specs.session_model.specs.Reading.{recorder}
 use Rattle.script_header.proofs.HeaderLemmas.{several-faulty, several-stored}
 use Rattle.script_header.proofs.lists.recorders.Goals as goal
 

@@ -1,7 +1,7 @@
 use Rattle.std.proofs.Common.{◌≡◌, ◌≤◌, [], length, take}
 use Rattle.std.specs.Prelude.{codes}
 use Rattle.jack_types.specs.declared.scripts.Many.TheVariants.{Recorders}
-use Rattle.session_model.specs.Reading.{recorder, several}
+use Rattle.grammar_laws.specs.session_model.specs.Reading.{recorder, several}
 use Rattle.script_header.proofs.lists.recorders.Given as goal
 
 abbrev pub invariant-lines : goal.invariant-lines

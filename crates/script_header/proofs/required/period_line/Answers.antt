@@ -1,5 +1,5 @@
 use Rattle.std.specs.Prelude.{Ok, Err, codes}
-use Rattle.session_model.specs.Reading.{period}
+use Rattle.grammar_laws.specs.session_model.specs.Reading.{period}
 use Rattle.script_header.proofs.HeaderLemmas.{required-reads, value-at, fault-at}
 use Rattle.script_header.proofs.required.period_line.Goals as goal
 

@@ -1,6 +1,6 @@
 use Rattle.std.proofs.Common.{◌+◌, ◌≤◌, subst, sym}
 use Rattle.grammar_laws.proofs.GrammarBodies.{period_in}
-use Rattle.driver_laws.specs.Drivers.{greatest_period, turn_of}
+use Rattle.task_laws.specs.driver_laws.specs.Drivers.{greatest_period, turn_of}
 use Rattle.script_needs.proofs.LineLemmas.{greatest-from}
 use Rattle.script_needs.proofs.PeriodLemmas.{greatest-lawful, turns-within}
 use Rattle.script_needs.proofs.lengths.greatest_period.Goals as goal

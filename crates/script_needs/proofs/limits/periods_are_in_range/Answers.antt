@@ -1,7 +1,7 @@
 use Rattle.std.proofs.Common.{◌+◌}
 use Rattle.grammar_laws.proofs.GrammarBodies.{period_in}
 use Rattle.session_model.specs.Grammar.{IsPeriod}
-use Rattle.driver_laws.specs.Drivers.{greatest_period, turn_of}
+use Rattle.task_laws.specs.driver_laws.specs.Drivers.{greatest_period, turn_of}
 use Rattle.script_needs.proofs.PeriodLemmas.{greatest-lawful, phases-lawful, turns-have, turns-within}
 use Rattle.script_needs.proofs.limits.periods_are_in_range.Goals as goal
 

@@ -1,6 +1,6 @@
 use Rattle.std.proofs.Common.{slice_index_or}
 use Rattle.session_model.specs.Grammar.{most_channels}
-use Rattle.driver_laws.specs.Drivers.{channels_on, frames_run, run}
+use Rattle.task_laws.specs.driver_laws.specs.Drivers.{channels_on, frames_run, run}
 use Rattle.script_needs.proofs.SampleLemmas.{capture-within, disk-within, narrow-few, playback-within, recorder-within, samples-few}
 use Rattle.script_needs.proofs.limits.samples_are_few.Goals as goal
 

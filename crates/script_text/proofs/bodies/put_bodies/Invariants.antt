@@ -1,6 +1,6 @@
 use Rattle.std.proofs.Common.{◌≡◌, map, take}
 use Rattle.std.specs.Prelude.{string_bytes}
-use Rattle.session_model.specs.Grammar.{body_slots}
+use Rattle.grammar_laws.specs.session_model.specs.Grammar.{body_slots}
 use Rattle.script_text.specs.Printing.{with_lines}
 use Rattle.script_text.proofs.bodies.put_bodies.Given as goal
 

@@ -1,5 +1,5 @@
 use Rattle.std.specs.Prelude.{codes, string_bytes}
-use Rattle.session_model.specs.Grammar.{Word, command_slots}
+use Rattle.grammar_laws.specs.session_model.specs.Grammar.{Word, command_slots}
 use Rattle.script_text.proofs.PrintingLemmas.{line-put}
 use Rattle.script_text.proofs.bodies.put_do.Goals as goal
 

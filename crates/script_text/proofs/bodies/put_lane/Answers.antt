@@ -1,6 +1,6 @@
 use Rattle.std.proofs.Common.{ℕ, List, ◌∷◌, ◌++◌, ap, ◌∙◌}
 use Rattle.std.specs.Prelude.{codes, decimal, string_bytes}
-use Rattle.session_model.specs.Grammar.{Word, Numeral, command_slots}
+use Rattle.grammar_laws.specs.session_model.specs.Grammar.{Word, Numeral, command_slots}
 use Rattle.script_text.specs.Printing.{with_words}
 use Rattle.script_text.proofs.PrintingLemmas.{line-put}
 use Rattle.script_text.proofs.bodies.put_lane.Goals as goal

@@ -1,6 +1,6 @@
 use Rattle.std.proofs.Common.{◌≡◌, map}
 use Rattle.std.specs.Prelude.{string_bytes}
-use Rattle.session_model.specs.Grammar.{event_slots}
+use Rattle.grammar_laws.specs.session_model.specs.Grammar.{event_slots}
 use Rattle.script_text.specs.Printing.{first_lists, with_lines}
 use Rattle.script_text.proofs.events.put_events.Given as goal
 

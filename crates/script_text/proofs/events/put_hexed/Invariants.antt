@@ -1,6 +1,6 @@
 use Rattle.std.proofs.Common.{◌≡◌, ◌∷◌, ◌++◌, take}
 use Rattle.std.specs.Prelude.{flat_map, string_bytes}
-use Rattle.session_model.specs.Reports.{hex_byte}
+use Rattle.grammar_laws.specs.session_model.specs.Reports.{hex_byte}
 use Rattle.script_text.proofs.events.put_hexed.Given as goal
 
 abbrev pub invariant-loop-b : goal.invariant-loop-b

@@ -1,7 +1,7 @@
 use Rattle.std.proofs.Common.{ℕ, []}
 use Rattle.std.specs.Prelude.{string_bytes}
 use Rattle.jack_types.specs.declared.events.Event.{Event}
-use Rattle.session_model.specs.Grammar.{event_slots}
+use Rattle.grammar_laws.specs.session_model.specs.Grammar.{event_slots}
 use Rattle.script_text.proofs.PrintingLemmas.{lines-next-made}
 use Rattle.script_text.proofs.events.put_list.Goals as goal
 

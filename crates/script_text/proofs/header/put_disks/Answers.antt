@@ -1,5 +1,5 @@
 use Rattle.std.specs.Prelude.{codes, string_bytes}
-use Rattle.session_model.specs.Grammar.{number_slots}
+use Rattle.grammar_laws.specs.session_model.specs.Grammar.{number_slots}
 use Rattle.script_text.proofs.PrintingLemmas.{lines-next-at}
 use Rattle.script_text.proofs.header.put_disks.Goals as goal
 

@@ -1,5 +1,5 @@
 use Rattle.std.specs.Prelude.{string_bytes}
-use Rattle.session_model.specs.Grammar.{recorder_slots}
+use Rattle.grammar_laws.specs.session_model.specs.Grammar.{recorder_slots}
 use Rattle.script_text.proofs.PrintingLemmas.{lines-next-at}
 use Rattle.script_text.proofs.header.put_recorders.Goals as goal
 

@@ -1,6 +1,6 @@
 use Rattle.std.proofs.Common.{map, refl}
 use Rattle.std.specs.Prelude.{[], ◌∷◌, codes, string_bytes, if◌then◌else◌, ◌==◌}
-use Rattle.session_model.specs.Grammar.{body_slots, event_slots, number_slots, recorder_slots, required_lines}
+use Rattle.grammar_laws.specs.session_model.specs.Grammar.{body_slots, event_slots, number_slots, recorder_slots, required_lines}
 use Rattle.script_text.specs.Printing.{first_lists}
 use Rattle.script_text.proofs.PrintingLemmas.{all-printed}
 use Rattle.script_text.proofs.script.printed.Goals as goal

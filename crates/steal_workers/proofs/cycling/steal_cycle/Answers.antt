@@ -2,10 +2,10 @@ use Rattle.std.proofs.Common.{rules, arith, ◌≡◌, ◌≤◌, ◌<◌, ℕ, 
 use Rattle.std.proofs.lemmas.List.{length-map}
 use Rattle.std.specs.Global.{Global, Vec}
 use Rattle.crossbeam_deque.specs.Handles.{Pass}
-use Rattle.activation.specs.declared.takens.Seat.{Seat}
-use Rattle.activation.specs.Ends.{AreEnded}
-use Rattle.activation.specs.Rounds.{AreSeats, HavePlayed, Know}
-use Rattle.activation.proofs.Ended.{all_ended}
+use Rattle.cycle_workers.specs.activation.specs.declared.takens.Seat.{Seat}
+use Rattle.cycle_workers.specs.activation.specs.Ends.{AreEnded}
+use Rattle.cycle_workers.specs.activation.specs.Rounds.{AreSeats, HavePlayed, Know}
+use Rattle.cycle_workers.specs.activation.proofs.Ended.{all_ended}
 use Rattle.steal_workers.specs.declared.tallies.Tally.{Tally}
 use Rattle.steal_workers.specs.declared.places.Place.{Place}
 use Rattle.steal_workers.specs.Crews.{facts_of}

@@ -1,7 +1,7 @@
 use Rattle.std.proofs.Common.{rules, ◌≡◌, ◌<◌, ℕ, List, length, get_or, Some, subst}
 use Rattle.std.specs.Global.{Vec, Global}
 use Rattle.crossbeam_deque.specs.Handles.{Pass}
-use Rattle.activation.specs.declared.takens.Seat.{Seat}
+use Rattle.cycle_workers.specs.activation.specs.declared.takens.Seat.{Seat}
 use Rattle.steal_workers.specs.declared.tallies.Tally.{Tally}
 use Rattle.steal_workers.specs.declared.places.Place.{Place}
 use Rattle.steal_workers.specs.Places.{Paired, Lends, thief_of}

@@ -1,7 +1,7 @@
 use Rattle.std.proofs.Common.{◌≡◌, ◌<◌, ℕ, length, get_or, Some, None, vec_capacity}
 use Rattle.crossbeam_deque.specs.Handles.{Pass}
 use Rattle.std.specs.Global.{Global, Vec}
-use Rattle.activation.specs.declared.takens.Seat.{Seat}
+use Rattle.cycle_workers.specs.activation.specs.declared.takens.Seat.{Seat}
 use Rattle.steal_workers.specs.declared.tallies.Tally.{Tally}
 use Rattle.steal_workers.specs.declared.places.Place.{Place}
 use Rattle.steal_workers.specs.Places.{thief_of}

@@ -1,7 +1,7 @@
 use Rattle.std.proofs.Common.{rules, arith, ◌≡◌, ◌<◌, ◌+◌, ℕ, [], ◌∷◌, length, get_or, set, take, Some, sym, refl, ap, ◌∙◌, subst, length-append}
 use Rattle.std.specs.Global.{Global, Vec}
 use Rattle.crossbeam_deque.specs.Handles.{Pass}
-use Rattle.activation.specs.declared.takens.Seat.{Seat}
+use Rattle.cycle_workers.specs.activation.specs.declared.takens.Seat.{Seat}
 use Rattle.steal_workers.specs.declared.tallies.Tally.{Tally}
 use Rattle.steal_workers.specs.declared.places.Place.{Place}
 use Rattle.steal_workers.specs.Places.{thief_of}

@@ -1,6 +1,6 @@
 use Rattle.std.proofs.Common.{arith, ◌≡◌, ℕ, sym, ap, ◌∙◌, subst}
-use Rattle.activation.specs.Takens.{with_left}
-use Rattle.activation.proofs.Waiting.{unplayed_low}
+use Rattle.cycle_workers.specs.activation.specs.Takens.{with_left}
+use Rattle.cycle_workers.specs.activation.proofs.Waiting.{unplayed_low}
 use Rattle.cycle_workers.specs.Runs.{IsRun}
 use Rattle.steal_workers.specs.Steals.{IsOffered}
 use Rattle.steal_workers.proofs.Offered.{ran}

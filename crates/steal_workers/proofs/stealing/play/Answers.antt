@@ -1,12 +1,12 @@
 use Rattle.std.proofs.Common.{arith, ◌≡◌, ◌<◌, ◌+◌, ℕ, false, List, ◌∷◌, length, get_or, sym, ap, ◌∙◌, subst, refl, inl, inr, ⊎_elim}
 use Rattle.jack_types.specs.declared.ports.Link.{Link}
 use Rattle.session_model.specs.Activation.{no_link, link_at, outgoing}
-use Rattle.activation.specs.declared.takens.Seat.{Seat}
-use Rattle.activation.specs.Rule.{has}
-use Rattle.activation.specs.Plays.{without}
-use Rattle.activation.specs.Seats.{Sits}
-use Rattle.activation.specs.Takens.{IsPlayed, with_released}
-use Rattle.activation.proofs.Waiting.{unplayed_low, played_stays, has_room_at}
+use Rattle.cycle_workers.specs.activation.specs.declared.takens.Seat.{Seat}
+use Rattle.cycle_workers.specs.activation.specs.Rule.{has}
+use Rattle.cycle_workers.specs.activation.specs.Plays.{without}
+use Rattle.cycle_workers.specs.activation.specs.Seats.{Sits}
+use Rattle.cycle_workers.specs.activation.specs.Takens.{IsPlayed, with_released}
+use Rattle.cycle_workers.specs.activation.proofs.Waiting.{unplayed_low, played_stays, has_room_at}
 use Rattle.cycle_workers.specs.Runs.{HaveRoom}
 use Rattle.cycle_workers.proofs.Going.{Going, out_fact, kept_held, going_first, going_done}
 use Rattle.steal_workers.specs.declared.ends.Deque.{Deque}
@@ -169,7 +169,7 @@ returns-clause-played g c =
     let i = c.loop-link.invariant in
     let old = c.args.seat.now.token.me.0.duty in
     let d = c.loop-link.seat.token.me.0.duty in
-    came_home c.args.crew.now.links.items c.args.taken.node c.loop-link.link-index old d c.home.new.seat.token.me.0.duty (c.home.ensures.home ∙ ap (λ n. Rattle.activation.specs.Takens.with_home d n) i.same) i.going
+    came_home c.args.crew.now.links.items c.args.taken.node c.loop-link.link-index old d c.home.new.seat.token.me.0.duty (c.home.ensures.home ∙ ap (λ n. Rattle.cycle_workers.specs.activation.specs.Takens.with_home d n) i.same) i.going
 
 pub returns-clause-left : goal.returns-clause-left
 returns-clause-left g c =

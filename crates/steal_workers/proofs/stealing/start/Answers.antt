@@ -1,10 +1,10 @@
 use Rattle.std.proofs.Common.{arith, ◌≡◌, ◌≢◌, ◌<◌, ◌+◌, ◌%◌, ◌⊎◌, ℕ, ◌∷◌, sym, refl, ap, ◌∙◌, subst, inl, inr, ⊎_elim}
-use Rattle.activation.specs.declared.takens.Seat.{Seat}
-use Rattle.activation.specs.Rule.{has}
-use Rattle.activation.specs.Plays.{without}
-use Rattle.activation.specs.Seats.{Sits}
-use Rattle.activation.specs.Takens.{AreBetween}
-use Rattle.activation.proofs.Looking.{none_between}
+use Rattle.cycle_workers.specs.activation.specs.declared.takens.Seat.{Seat}
+use Rattle.cycle_workers.specs.activation.specs.Rule.{has}
+use Rattle.cycle_workers.specs.activation.specs.Plays.{without}
+use Rattle.cycle_workers.specs.activation.specs.Seats.{Sits}
+use Rattle.cycle_workers.specs.activation.specs.Takens.{AreBetween}
+use Rattle.cycle_workers.specs.activation.proofs.Looking.{none_between}
 use Rattle.cycle_workers.specs.Runs.{HaveRoom}
 use Rattle.cycle_workers.proofs.Going.{Shared, shared_skip}
 use Rattle.steal_workers.specs.declared.ends.Deque.{Deque}

@@ -1,6 +1,6 @@
 use Rattle.std.proofs.Common.{◌≡◌}
-use Rattle.activation.specs.Seats.{Sits}
-use Rattle.activation.specs.Takens.{AreBetween}
+use Rattle.cycle_workers.specs.activation.specs.Seats.{Sits}
+use Rattle.cycle_workers.specs.activation.specs.Takens.{AreBetween}
 use Rattle.cycle_workers.proofs.Going.{Shared}
 use Rattle.steal_workers.specs.Steals.{KeepsDeque}
 use Rattle.steal_workers.proofs.Offered.{aside}

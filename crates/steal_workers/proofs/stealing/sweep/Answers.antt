@@ -1,6 +1,6 @@
 use Rattle.std.proofs.Common.{arith, ◌≡◌, ◌+◌, ℕ, sym, refl, ap, ◌∙◌, subst}
-use Rattle.activation.specs.declared.takens.Seat.{Seat}
-use Rattle.activation.specs.Seats.{Sits}
+use Rattle.cycle_workers.specs.activation.specs.declared.takens.Seat.{Seat}
+use Rattle.cycle_workers.specs.activation.specs.Seats.{Sits}
 use Rattle.cycle_workers.specs.Runs.{HaveRoom, IsRun}
 use Rattle.steal_workers.proofs.Offered.{Sweeping, swept_none, swept_some, swept_all}
 use Rattle.steal_workers.proofs.stealing.sweep.Goals as goal

@@ -1,5 +1,5 @@
 use Rattle.std.proofs.Common.{◌≡◌}
-use Rattle.activation.specs.Seats.{Sits}
+use Rattle.cycle_workers.specs.activation.specs.Seats.{Sits}
 use Rattle.steal_workers.proofs.Offered.{Sweeping}
 use Rattle.steal_workers.proofs.stealing.sweep.Given as goal
 

@@ -1,6 +1,6 @@
 use Rattle.std.proofs.Common.{◌≡◌, ◌∙◌, [], refl, subst, sym}
-use Rattle.report_reader.specs.Nexts.{IsNext, TakesNext, next_text}
-use Rattle.report_reader.specs.declared.lines.Next.TheVariants.{Line, Other, End}
+use Rattle.told_laws.specs.report_reader.specs.Nexts.{IsNext, TakesNext, next_text}
+use Rattle.told_laws.specs.report_reader.specs.declared.lines.Next.TheVariants.{Line, Other, End}
 use Rattle.told_laws.specs.Tellings.{IsStuck}
 use Rattle.told_reports.proofs.StepLemmas.{done-is, if-some-map, left-nothing, steps-line, stuck-end, stuck-line, stuck-other}
 use Rattle.told_reports.proofs.reading.next_line.Goals as goal

@@ -1,7 +1,7 @@
 use Rattle.std.proofs.Common.{rules, ◌≡◌, ◌+◌, length, refl, subst, sym}
 use Rattle.std.specs.Prelude.{IfSome, Option}
-use Rattle.jack_types.specs.declared.files.Format.{Format}
-use Rattle.session_model.specs.WaveOpening.{step}
+use Rattle.samples.specs.jack_types.specs.declared.files.Format.{Format}
+use Rattle.samples.specs.session_model.specs.WaveOpening.{step}
 use Rattle.wave_pcm.specs.Steps.{met}
 use Rattle.wave_pcm.proofs.ChunkLemmas.{step_data, step_format, step_pass, takes, takes_pass}
 use Rattle.wave_pcm.proofs.chunks.read_chunk.Goals as goal

@@ -1,7 +1,7 @@
 use Rattle.std.proofs.Common.{rules, ◌≡◌, ◌&&◌, ℕ, ap, length, sym, true, ◌∙◌}
 use Rattle.std.specs.Prelude.{◌==◌, nat_le}
 use Rattle.std.proofs.lemmas.Bool.{and_parts, leb-true}
-use Rattle.session_model.specs.WaveFiles.{u16_at}
+use Rattle.samples.specs.session_model.specs.WaveFiles.{u16_at}
 use Rattle.wave_pcm.proofs.ContentLemmas.{content_taken, cut_later, whole_told}
 use Rattle.wave_pcm.proofs.formats.read_content.Goals as goal
 

@@ -1,5 +1,5 @@
 use Rattle.std.proofs.Common.{rules, ◌+◌, ◌*◌, [], ◌∷◌, ℕ, arith, slice_index_or, ◌∙◌}
-use Rattle.session_model.specs.Samples.{stored, up}
+use Rattle.samples.specs.session_model.specs.Samples.{stored, up}
 use Rattle.wave_pcm.proofs.PairLemmas.{sample_at, set_more}
 use Rattle.wave_pcm.proofs.pairs.take_pairs.Goals as goal
 

@@ -1,5 +1,5 @@
 use Rattle.std.proofs.Common.{◌≡◌, ℕ, ◌+◌, ◌*◌, ◌<◌, [], ◌∷◌, get_or, pos}
-use Rattle.session_model.specs.Samples.{up, stored}
+use Rattle.samples.specs.session_model.specs.Samples.{up, stored}
 use Rattle.wave_pcm.proofs.pairs.take_pairs.Given as goal
 
 abbrev pub invariant-loop-i : goal.invariant-loop-i

@@ -1,6 +1,6 @@
 use Rattle.std.proofs.Common.{◌≡◌, ◌*◌, ℕ, ap, arith, length, sym, take, ◌∙◌}
 use Rattle.std.proofs.lemmas.List.{length-take}
-use Rattle.session_model.specs.Samples.{width}
+use Rattle.samples.specs.session_model.specs.Samples.{width}
 use Rattle.wave_pcm.proofs.wave.convert.Goals as goal
 
 pub from_bytes-requires-clause-lengths : goal.from_bytes-requires-clause-lengths

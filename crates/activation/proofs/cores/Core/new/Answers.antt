@@ -1,6 +1,6 @@
 use Rattle.std.proofs.Common.{rules, arith, ◌≡◌, ◌+◌, length, map, sym, ap, ◌∙◌, subst}
-use Rattle.session_model.specs.Activation.{incoming}
-use Rattle.session_model.specs.Samples.{below}
+use Rattle.session_laws.specs.session_model.specs.Activation.{incoming}
+use Rattle.session_laws.specs.session_model.specs.Samples.{below}
 use Rattle.session_laws.proofs.ActivationLemmas.{length-map_below}
 use Rattle.activation.specs.Steps.{IsCourse}
 use Rattle.activation.proofs.Courses.{opening-is, opening-course}

@@ -1,7 +1,7 @@
 use Rattle.std.proofs.Common.{◌≡◌, ◌<◌, ◌-◌, ◌==◌, ◌∙◌, cond, set, slice_index, sym, ap, subst, arith, true}
 use Rattle.std.proofs.lemmas.List.{length-map}
-use Rattle.jack_types.specs.declared.ports.Link.{Link}
-use Rattle.session_model.specs.Activation.{link_at, no_link, IsConsistent}
+use Rattle.session_laws.specs.jack_types.specs.declared.ports.Link.{Link}
+use Rattle.session_laws.specs.session_model.specs.Activation.{link_at, no_link, IsConsistent}
 use Rattle.activation.specs.declared.stands.Stand.TheVariants as stand
 use Rattle.activation.specs.declared.stands.Step.{Step}
 use Rattle.activation.specs.declared.stands.Step.TheVariants as step

@@ -2,7 +2,7 @@ use Rattle.std.proofs.Common.{arith, ◌≡◌, ◌<◌, ⊎_elim, true, List, l
 use mathlib.Core.Option.{some, some-injective}
 use lib.ListN.{get_elem?}
 use Rattle.table_lemmas.proofs.Readings.{inside}
-use Rattle.jack_types.specs.declared.ports.Link.{Link}
+use Rattle.session_laws.specs.jack_types.specs.declared.ports.Link.{Link}
 use Rattle.activation.specs.Contents.{IsFull, IsDone, Roomed, IsPlayedAt}
 use Rattle.activation.specs.Rounds.{HavePlayed, AreUnused, Know}
 use Rattle.activation.proofs.Alone.{enter_alone}

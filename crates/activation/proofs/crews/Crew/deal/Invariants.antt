@@ -1,5 +1,5 @@
 use Rattle.std.proofs.Common.{◌≡◌, ◌<◌, ◌-◌, ℕ, map, get_or}
-use Rattle.session_model.specs.Samples.{below}
+use Rattle.session_laws.specs.session_model.specs.Samples.{below}
 use Rattle.activation.specs.declared.takens.Seat.{Seat}
 use Rattle.activation.specs.Contents.{from_to}
 use Rattle.activation.specs.Seats.{IsIdle, IsShare, new_duty}

@@ -2,7 +2,7 @@ use Rattle.std.proofs.Common.{rules, arith, ◌<◌, ◌+◌, ◌-◌, ◌%◌, 
 use mathlib.Core.Option.{none}
 use Rattle.atomic_table.specs.Table.{Allows, step}
 use Rattle.table_lemmas.proofs.Readings.{inside}
-use Rattle.session_model.specs.Activation.{link_at}
+use Rattle.session_laws.specs.session_model.specs.Activation.{link_at}
 use Rattle.activation.specs.declared.views.Item.TheVariants.{Bench}
 use Rattle.activation.specs.Rule.{has, Rule}
 use Rattle.activation.specs.Plays.{fill_after, came_home}

@@ -1,5 +1,5 @@
 use Rattle.std.proofs.Common.{arith, ◌≡◌, ◌∙◌, ap, length}
-use Rattle.session_model.specs.Activation.{incoming}
+use Rattle.session_laws.specs.session_model.specs.Activation.{incoming}
 use Rattle.activation.proofs.Played.{at_mapped, length-mapped}
 use Rattle.activation.proofs.crews.Crew.incoming.Goals as goal
 

@@ -1,6 +1,6 @@
 use Rattle.std.proofs.Common.{arith, ◌≡◌, ◌<◌, ◌+◌, ℕ, List, length, get_or, Some, None, sym, ap, ◌∙◌, subst}
 use Rattle.std.proofs.lemmas.List.{length-map}
-use Rattle.session_model.specs.Activation.{incoming, link_at}
+use Rattle.session_laws.specs.session_model.specs.Activation.{incoming, link_at}
 use Rattle.activation.specs.Rule.{has}
 use Rattle.activation.proofs.Machines.{get_or_any}
 use Rattle.activation.proofs.Listed.{each_at, incoming-facts, incoming-contains}

@@ -1,7 +1,7 @@
 use Rattle.std.proofs.Common.{rules, arith, ◌<◌, ◌+◌, ℕ, [], length, Some, refl, sym, ap, ◌∙◌, subst}
 use mathlib.Core.Option.{none}
 use Rattle.atomic_table.specs.Table.{Allows, step}
-use Rattle.session_model.specs.Activation.{link_at}
+use Rattle.session_laws.specs.session_model.specs.Activation.{link_at}
 use Rattle.activation.specs.declared.views.Item.TheVariants.{Bench}
 use Rattle.activation.specs.Rule.{has, Rule}
 use Rattle.activation.specs.Plays.{refill_after, left_node}

@@ -1,7 +1,7 @@
 use Rattle.std.proofs.Common.{arith, ◌≡◌, ◌≤◌, ◌<◌, ◌+◌, ℕ, suc, List, [], take, get_or, length, Some, vec_capacity, refl, sym, ap, ◌∙◌, subst, length-take-le}
 use lib.Seq.{take-length}
 use Rattle.std.proofs.lemmas.List.{length-map}
-use Rattle.session_model.specs.Activation.{incoming, link_at}
+use Rattle.session_laws.specs.session_model.specs.Activation.{incoming, link_at}
 use Rattle.activation.specs.Rule.{has}
 use Rattle.activation.specs.Contents.{AreValuesOf, IsValueOf}
 use Rattle.activation.proofs.Listed.{each_at, incoming-facts, incoming-rises, incoming-short}

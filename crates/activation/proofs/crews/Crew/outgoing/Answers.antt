@@ -1,5 +1,5 @@
 use Rattle.std.proofs.Common.{arith, ◌≡◌, ◌∙◌, ap, length}
-use Rattle.session_model.specs.Activation.{outgoing}
+use Rattle.session_laws.specs.session_model.specs.Activation.{outgoing}
 use Rattle.activation.proofs.Played.{at_mapped, length-mapped}
 use Rattle.activation.proofs.crews.Crew.outgoing.Goals as goal
 

@@ -1,5 +1,5 @@
 use Rattle.std.proofs.Common.{arith, ◌<◌, ◌+◌, [], ◌∷◌, length, Some, sym, ap, ◌∙◌, subst}
-use Rattle.session_model.specs.Activation.{link_at, no_link}
+use Rattle.session_laws.specs.session_model.specs.Activation.{link_at, no_link}
 use Rattle.activation.specs.declared.views.Item.TheVariants.{Value}
 use Rattle.activation.specs.Rule.{has}
 use Rattle.activation.specs.Plays.{out_after}

@@ -1,5 +1,5 @@
 use Rattle.std.proofs.Common.{arith, ◌≡◌, ◌∙◌, ap, length}
-use Rattle.session_model.specs.Activation.{place_among}
+use Rattle.session_laws.specs.session_model.specs.Activation.{place_among}
 use Rattle.session_laws.proofs.ActivationLemmas.{length-map_below}
 use Rattle.activation.proofs.Played.{at_listed}
 use Rattle.activation.proofs.crews.Crew.place.Goals as goal

@@ -3,7 +3,7 @@ use Rattle.activation.specs.declared.views.Item.TheVariants.{Value}
 use Rattle.activation.specs.declared.views.Duty.{Duty}
 use Rattle.activation.specs.Contents.{IsFull, IsValueOf}
 use Rattle.std.proofs.lemmas.List.{length-map}
-use Rattle.session_model.specs.Activation.{incoming, link_at}
+use Rattle.session_laws.specs.session_model.specs.Activation.{incoming, link_at}
 use Rattle.activation.specs.Rule.{has}
 use Rattle.activation.proofs.Machines.{get_or_any}
 use Rattle.activation.proofs.Listed.{each_at, incoming-facts, incoming-contains}

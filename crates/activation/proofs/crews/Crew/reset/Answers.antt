@@ -1,9 +1,9 @@
 use Rattle.std.proofs.Common.{arith, ◌≡◌, ◌<◌, List, length, map, sym, ap, ◌∙◌, subst, refl}
 use mathlib.Core.Option.{some}
 use Rattle.table_lemmas.proofs.Readings.{inside}
-use Rattle.jack_types.specs.declared.ports.Link.{Link}
-use Rattle.session_model.specs.Activation.{AreLinks, incoming, outgoing, place_among}
-use Rattle.session_model.specs.Samples.{below}
+use Rattle.session_laws.specs.jack_types.specs.declared.ports.Link.{Link}
+use Rattle.session_laws.specs.session_model.specs.Activation.{AreLinks, incoming, outgoing, place_among}
+use Rattle.session_laws.specs.session_model.specs.Samples.{below}
 use Rattle.activation.specs.declared.takens.Seat.{Seat}
 use Rattle.activation.specs.Contents.{benches_in}
 use Rattle.activation.specs.Rounds.{AreSeats, AreFresh, IsReturned}

@@ -1,7 +1,7 @@
 use Rattle.std.proofs.Common.{arith, ◌≡◌, ◌+◌, ◌-◌, ◌++◌, ℕ, List, length, map, sym, ap, ◌∙◌, subst, length-set}
-use Rattle.jack_types.specs.declared.ports.Link.{Link}
-use Rattle.session_model.specs.Activation.{AreLinks, incoming}
-use Rattle.session_model.specs.Samples.{below}
+use Rattle.session_laws.specs.jack_types.specs.declared.ports.Link.{Link}
+use Rattle.session_laws.specs.session_model.specs.Activation.{AreLinks, incoming}
+use Rattle.session_laws.specs.session_model.specs.Samples.{below}
 use Rattle.activation.specs.Contents.{AreLaid, benches_in, from_to}
 use lib.ListN.{get_elem?}
 use Rattle.atomic_table.proofs.Lists.{set_else}

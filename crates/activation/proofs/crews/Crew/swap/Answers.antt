@@ -1,8 +1,8 @@
 use Rattle.std.proofs.Common.{arith, ◌≡◌, ◌++◌, ℕ, List, length, sym, ap, ◌∙◌, subst}
 use lib.ListN.{get_elem?}
 use Rattle.table_lemmas.proofs.Readings.{inside}
-use Rattle.jack_types.specs.declared.ports.Link.{Link}
-use Rattle.session_model.specs.Activation.{AreLinks, fresh}
+use Rattle.session_laws.specs.jack_types.specs.declared.ports.Link.{Link}
+use Rattle.session_laws.specs.session_model.specs.Activation.{AreLinks, fresh}
 use Rattle.activation.specs.Contents.{IsFull, IsDone, benches_of, from_to}
 use Rattle.activation.specs.Plays.{AreClear}
 use Rattle.activation.specs.Rounds.{AreSeats, AreFresh}

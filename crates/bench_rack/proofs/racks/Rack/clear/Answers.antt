@@ -1,6 +1,6 @@
 use Rattle.std.proofs.Common.{◌≡◌, ◌∙◌, ap, arith}
-use Rattle.client_benches.specs.Seen.{Seen, cleared, room_count}
-use Rattle.client_benches.specs.Wires.{kept_count}
+use Rattle.bench_crew.specs.client_benches.specs.Seen.{Seen, cleared, room_count}
+use Rattle.bench_crew.specs.client_benches.specs.Wires.{kept_count}
 use Rattle.bench_rack.proofs.TotalLemmas.{room_count-none}
 use Rattle.bench_rack.proofs.WholeLemmas.{IsSlot, changed-is, whole-set, space-links, space-wires}
 use Rattle.bench_rack.proofs.racks.Rack.clear.Goals as goal

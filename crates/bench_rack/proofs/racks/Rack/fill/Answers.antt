@@ -1,6 +1,6 @@
 use Rattle.std.proofs.Common.{◌<◌, length, sym, ◌∙◌, ap, subst}
-use Rattle.client_benches.specs.Seen.{Seen}
-use Rattle.client_benches.specs.Wires.{kept_count}
+use Rattle.bench_crew.specs.client_benches.specs.Seen.{Seen}
+use Rattle.bench_crew.specs.client_benches.specs.Wires.{kept_count}
 use Rattle.bench_rack.specs.Racks.{filled}
 use Rattle.bench_rack.proofs.TotalLemmas.{kept_count-filled}
 use Rattle.bench_rack.proofs.WholeLemmas.{IsSlot, changed-is, slot-is, whole-stays}

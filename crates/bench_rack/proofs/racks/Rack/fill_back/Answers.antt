@@ -1,7 +1,7 @@
 use Rattle.std.proofs.Common.{◌≡◌, ◌<◌, List, [], length, refl, sym, ◌∙◌, ap, subst}
 use Rattle.std.specs.Prelude.{slice_index_or}
 use Rattle.std.proofs.lemmas.List.{length-set, with_items_is}
-use Rattle.client_benches.specs.Seen.{Seen}
+use Rattle.bench_crew.specs.client_benches.specs.Seen.{Seen}
 use Rattle.bench_rack.specs.Insides.{IsWhole, bench_among, racked}
 use Rattle.bench_rack.specs.Racks.{Racked, bench_at, filled, with_bench}
 use Rattle.bench_rack.proofs.TotalLemmas.{kept_count-filled}

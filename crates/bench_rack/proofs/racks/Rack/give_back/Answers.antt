@@ -1,6 +1,6 @@
 use Rattle.std.proofs.Common.{◌≡◌, [], Some, None, IfSome, false, ap, subst}
-use Rattle.client_benches.specs.Seen.{Seen}
-use Rattle.client_benches.specs.Wires.{kept_count}
+use Rattle.bench_crew.specs.client_benches.specs.Seen.{Seen}
+use Rattle.bench_crew.specs.client_benches.specs.Wires.{kept_count}
 use Rattle.bench_rack.proofs.WholeLemmas.{IsSlot, changed-is, slot-is, whole-stays}
 use Rattle.bench_rack.proofs.racks.Rack.give_back.Goals as goal
 

@@ -1,8 +1,8 @@
 use Rattle.std.proofs.Common.{◌≡◌, ◌+◌, ◌<◌, List, [], ◌∷◌, ◌++◌, length, ℤ, sym, ◌∙◌, ap, subst, arith}
-use Rattle.client_benches.specs.declared.wires.Source.TheVariants.{Kept}
+use Rattle.bench_crew.specs.client_benches.specs.declared.wires.Source.TheVariants.{Kept}
 use Rattle.bench_rack.specs.Insides.{racked}
-use Rattle.client_benches.specs.Seen.{Seen}
-use Rattle.client_benches.specs.Wires.{kept_count}
+use Rattle.bench_crew.specs.client_benches.specs.Seen.{Seen}
+use Rattle.bench_crew.specs.client_benches.specs.Wires.{kept_count}
 use Rattle.bench_rack.specs.Racks.{Racked, heard_kept, wire_total}
 use Rattle.bench_rack.proofs.TotalLemmas.{kept_count-kept, room_count-rooms}
 use Rattle.bench_rack.proofs.WholeLemmas.{IsSlot, changed-is, whole-set}

@@ -1,6 +1,6 @@
 use Rattle.std.proofs.Common.{◌∙◌, ap}
-use Rattle.client_benches.specs.Seen.{Seen}
-use Rattle.client_benches.specs.Wires.{kept_count}
+use Rattle.bench_crew.specs.client_benches.specs.Seen.{Seen}
+use Rattle.bench_crew.specs.client_benches.specs.Wires.{kept_count}
 use Rattle.bench_rack.specs.Racks.{heard_like}
 use Rattle.bench_rack.proofs.TotalLemmas.{kept_count-like}
 use Rattle.bench_rack.proofs.WholeLemmas.{IsSlot, changed-is, whole-stays}

@@ -1,6 +1,6 @@
 use Rattle.std.proofs.Common.{sym, ◌∙◌, ap}
-use Rattle.client_benches.specs.Seen.{Seen}
-use Rattle.client_benches.specs.Wires.{kept_count}
+use Rattle.bench_crew.specs.client_benches.specs.Seen.{Seen}
+use Rattle.bench_crew.specs.client_benches.specs.Wires.{kept_count}
 use Rattle.bench_rack.specs.Racks.{bench_at, with_bench}
 use Rattle.bench_rack.proofs.WholeLemmas.{IsSlot, changed-is, changed-there, slot-is, whole-stays}
 use Rattle.bench_rack.proofs.racks.Rack.lend.Goals as goal

@@ -1,8 +1,8 @@
 use Rattle.std.proofs.Common.{◌≡◌, ◌+◌, ◌<◌, [], length, Some, None, sym, ◌∙◌, ap, subst, arith}
 use Rattle.std.proofs.lemmas.List.{length-set}
 use Rattle.bench_rack.specs.Insides.{racked}
-use Rattle.client_benches.specs.Seen.{Seen, room_at, room_count}
-use Rattle.client_benches.specs.Wires.{kept_count}
+use Rattle.bench_crew.specs.client_benches.specs.Seen.{Seen, room_at, room_count}
+use Rattle.bench_crew.specs.client_benches.specs.Wires.{kept_count}
 use Rattle.bench_rack.specs.Racks.{Racked, link_total, linked}
 use Rattle.bench_rack.proofs.TotalLemmas.{room_count-linked}
 use Rattle.bench_rack.proofs.WholeLemmas.{IsSlot, changed-is, slot-is, whole-set}

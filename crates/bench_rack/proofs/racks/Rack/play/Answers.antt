@@ -2,7 +2,7 @@ use Rattle.std.proofs.Common.{◌≡◌, ℕ, ◌<◌, ◌≤◌, true, List, le
 use Rattle.std.specs.Vec.{with_items}
 use Rattle.std.proofs.lemmas.List.{with_items_is}
 use Rattle.session_model.specs.Activation.{link_at, place_among, sequential}
-use Rattle.client_benches.specs.Seen.{Seen, has_room_at, kept_after, kept_gives}
+use Rattle.bench_crew.specs.client_benches.specs.Seen.{Seen, has_room_at, kept_after, kept_gives}
 use Rattle.bench_rack.specs.Insides.{IsWhole, bench_among, racked}
 use Rattle.bench_rack.specs.Racks.{Racked, bench_at}
 use Rattle.bench_rack.proofs.PlayedLemmas.{whole-played, wires-played}

@@ -1,7 +1,7 @@
 use Rattle.std.proofs.Common.{◌<◌, List, length, sym, ◌∙◌, ap, subst}
 use Rattle.std.specs.Prelude.{slice_set}
 use Rattle.jack_types.specs.declared.kinds.Kind.TheVariants.{Pass}
-use Rattle.client_benches.specs.Seen.{Seen, new_bench}
+use Rattle.bench_crew.specs.client_benches.specs.Seen.{Seen, new_bench}
 use Rattle.bench_rack.specs.Insides.{IsWhole, racked}
 use Rattle.bench_rack.specs.Racks.{Racked, bench_at}
 use Rattle.bench_rack.proofs.WholeLemmas.{whole-swapped}

@@ -1,7 +1,7 @@
 use Rattle.std.proofs.Common.{◌≡◌, ◌++◌, [], List, ℤ, Option, Some, None, sym, ◌∙◌, ap, ap₂, length, take, drop, option_map}
 use Rattle.std.specs.Prelude.{slice_index_or, nat_lt, if◌then◌else◌}
-use Rattle.session_model.specs.Benches.{Signal}
-use Rattle.session_model.specs.Kinds.{play}
+use Rattle.activation.specs.session_model.specs.Benches.{Signal}
+use Rattle.activation.specs.session_model.specs.Kinds.{play}
 use Rattle.activation.specs.Values.{values_of}
 use Rattle.client_kinds.specs.Buffers.{buffers_of}
 use Rattle.client_benches.specs.declared.values.Route.{Route}

@@ -1,5 +1,5 @@
 use Rattle.std.proofs.Common.{◌∙◌, ap, length, arith}
-use Rattle.session_model.specs.Samples.{mix}
+use Rattle.activation.specs.session_model.specs.Samples.{mix}
 use Rattle.client_benches.proofs.GatherLemmas.{eight-of}
 use Rattle.client_benches.proofs.gathering.Few.mix.Goals as goal
 

@@ -1,5 +1,5 @@
 use Rattle.std.proofs.Common.{◌∙◌, length, sym, ap, arith}
-use Rattle.session_model.specs.Samples.{mix}
+use Rattle.activation.specs.session_model.specs.Samples.{mix}
 use Rattle.client_benches.proofs.GatherLemmas.{gathered-few}
 use Rattle.client_benches.proofs.gathering.Few.settle.Goals as goal
 

@@ -1,5 +1,5 @@
 use Rattle.std.proofs.Common.{◌≡◌}
-use Rattle.session_model.specs.Kinds.{outputs_by}
+use Rattle.port_mixer.specs.session_model.specs.Kinds.{outputs_by}
 use Rattle.client_kinds.specs.Buffers.{buffers_of}
 use Rattle.client_kinds.specs.Sounds.{sound}
 use Rattle.client_kinds.proofs.voices.Voice.fill_all.Given as goal

@@ -1,5 +1,5 @@
 use Rattle.std.proofs.Common.{◌∙◌, ℕ, [], None, Some, ap, map, option_map, replicate, subst, sym}
-use Rattle.client_benches.specs.Seen.{Seen, new_bench}
+use Rattle.bench_rack.specs.client_benches.specs.Seen.{Seen, new_bench}
 use Rattle.client_seats.specs.Owners.{Owned}
 use Rattle.client_seats.specs.Seatings.{IsSeating}
 use Rattle.client_seats.proofs.NewLemmas.{IsSeating-new, map-empty, pool-of, same-owned}

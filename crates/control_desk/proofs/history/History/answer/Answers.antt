@@ -1,5 +1,5 @@
 use Rattle.std.proofs.Common.{◌≡◌, ◌<◌, ◌+◌, ◌++◌, ◌∷◌, [], ap, arith, get_or, length, refl, slice_set, subst, sym, ◌∙◌}
-use Rattle.cycle_plan.specs.Graphs.{state_of}
+use Rattle.call_laws.specs.cycle_plan.specs.Graphs.{state_of}
 use Rattle.jack_types.specs.declared.replies.Entry.{Entry}
 use Rattle.session_model.specs.Serial.{answered}
 use Rattle.lane_calls.specs.Plans.{plan_of}

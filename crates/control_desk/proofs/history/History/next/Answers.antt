@@ -1,6 +1,6 @@
 use Rattle.std.proofs.Common.{◌≡◌, subst, ◌∙◌, slice_get}
 use Rattle.std.specs.Option.{option_map}
-use Rattle.cycle_plan.specs.Graphs.{state_of}
+use Rattle.call_laws.specs.cycle_plan.specs.Graphs.{state_of}
 use Rattle.session_model.specs.Scripts.{planned_of}
 use Rattle.lane_calls.specs.Plans.{plan_of}
 use Rattle.control_desk.specs.Desks.{made}

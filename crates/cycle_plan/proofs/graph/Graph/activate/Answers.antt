@@ -1,5 +1,5 @@
 use Rattle.std.proofs.Common.{refl, true}
-use Rattle.jack_types.specs.declared.commands.Command.TheVariants.{Activate}
+use Rattle.graph_word.specs.jack_types.specs.declared.commands.Command.TheVariants.{Activate}
 use Rattle.cycle_plan.proofs.EffectLemmas.{registry-applied, registry_only-network}
 use Rattle.cycle_plan.proofs.MovedLemmas.{Stays-active, Stays-either, on_ok}
 use Rattle.cycle_plan.proofs.graph.Graph.activate.Goals as goal

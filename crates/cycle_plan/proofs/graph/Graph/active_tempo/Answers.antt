@@ -1,6 +1,6 @@
 use Rattle.std.proofs.Common.{◌≡◌, Some, None, cond, false, sym, ◌∙◌, ap}
 use Rattle.std.specs.Option.{option_map, option_map_or}
-use Rattle.jack_types.specs.declared.ports.Client.{Client}
+use Rattle.graph_word.specs.jack_types.specs.declared.ports.Client.{Client}
 use Rattle.port_registry.specs.Registered.{IsRegistered, client_by}
 use Rattle.cycle_plan.specs.Masters.{master_of}
 use Rattle.cycle_plan.proofs.NetworkLemmas.{active-numbers}

@@ -1,6 +1,6 @@
 use Rattle.std.proofs.Common.{◌≡◌, true, false, cond, is_none, Some, None, sym, ◌∙◌, ap, ap₂}
-use Rattle.jack_types.specs.declared.replies.Refusal.TheVariants.{IsSystem, NoClient}
-use Rattle.session_model.specs.State.{is_system}
+use Rattle.graph_word.specs.jack_types.specs.declared.replies.Refusal.TheVariants.{IsSystem, NoClient}
+use Rattle.graph_word.specs.session_model.specs.State.{is_system}
 use Rattle.port_registry.specs.Registered.{client_by}
 use Rattle.cycle_plan.proofs.NetworkLemmas.{refusal-change}
 use Rattle.cycle_plan.proofs.graph.Graph.changeable.Goals as goal

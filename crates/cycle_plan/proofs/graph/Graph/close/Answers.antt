@@ -1,6 +1,6 @@
 use Rattle.std.proofs.Common.{◌≡◌, fold, length, Some, sym, ◌∙◌, ap, subst}
-use Rattle.jack_types.specs.declared.commands.Command.TheVariants.{Close}
-use Rattle.jack_types.specs.declared.ports.Node.TheVariants.{Client as ClientNode}
+use Rattle.graph_word.specs.jack_types.specs.declared.commands.Command.TheVariants.{Close}
+use Rattle.graph_word.specs.jack_types.specs.declared.ports.Node.TheVariants.{Client as ClientNode}
 use Rattle.feedback_edges.specs.Marking.{AreAmong}
 use Rattle.port_registry.specs.Registered.{client_by}
 use Rattle.cycle_plan.specs.Rewiring.{Leaves, without_edges_at}

@@ -1,6 +1,6 @@
 use Rattle.std.proofs.Common.{Some, None, sym, ◌∙◌, ap₂, subst}
-use Rattle.jack_types.specs.declared.commands.Command.TheVariants.{Connect}
-use Rattle.connection_set.specs.Connections.{connect_refusal}
+use Rattle.graph_word.specs.jack_types.specs.declared.commands.Command.TheVariants.{Connect}
+use Rattle.feedback_edges.specs.connection_set.specs.Connections.{connect_refusal}
 use Rattle.feedback_edges.specs.Marking.{AreAmong}
 use Rattle.cycle_plan.specs.Rewiring.{Joins}
 use Rattle.cycle_plan.proofs.EffectLemmas.{applied, connect-refusal, connected-network, connected-state, port-listed, refused}

@@ -1,7 +1,7 @@
 use Rattle.std.proofs.Common.{◌≡◌, fold, length, None, sym, ◌∙◌, ap, subst}
-use Rattle.jack_types.specs.declared.commands.Command.TheVariants.{Deactivate}
-use Rattle.jack_types.specs.declared.replies.Refusal.TheVariants.{NoClient}
-use Rattle.jack_types.specs.declared.ports.Node.TheVariants.{Client as ClientNode}
+use Rattle.graph_word.specs.jack_types.specs.declared.commands.Command.TheVariants.{Deactivate}
+use Rattle.graph_word.specs.jack_types.specs.declared.replies.Refusal.TheVariants.{NoClient}
+use Rattle.graph_word.specs.jack_types.specs.declared.ports.Node.TheVariants.{Client as ClientNode}
 use Rattle.feedback_edges.specs.Marking.{AreAmong}
 use Rattle.port_registry.specs.Registered.{client_by}
 use Rattle.cycle_plan.specs.Rewiring.{Leaves, without_edges_at}

@@ -1,7 +1,7 @@
 use Rattle.std.proofs.Common.{◌≡◌, length, Some, None, sym, ◌∙◌, ap, subst}
 use Rattle.std.specs.Option.{option_map}
-use Rattle.jack_types.specs.declared.commands.Command.TheVariants.{Disconnect}
-use Rattle.connection_set.specs.Connections.{ConnectionSet}
+use Rattle.graph_word.specs.jack_types.specs.declared.commands.Command.TheVariants.{Disconnect}
+use Rattle.feedback_edges.specs.connection_set.specs.Connections.{ConnectionSet}
 use Rattle.cycle_plan.specs.Masters.{master_of}
 use Rattle.feedback_edges.specs.Marking.{AreAmong}
 use Rattle.cycle_plan.specs.Rewiring.{Leaves}

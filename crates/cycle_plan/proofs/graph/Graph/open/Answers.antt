@@ -1,5 +1,5 @@
 use Rattle.std.proofs.Common.{refl}
-use Rattle.jack_types.specs.declared.commands.Command.TheVariants.{Open}
+use Rattle.graph_word.specs.jack_types.specs.declared.commands.Command.TheVariants.{Open}
 use Rattle.cycle_plan.proofs.EffectLemmas.{registry_only-network, roomy-applied}
 use Rattle.cycle_plan.proofs.RoomLemmas.{Stays-answered_open, open-room}
 use Rattle.cycle_plan.proofs.graph.Graph.open.Goals as goal

@@ -1,5 +1,5 @@
 use Rattle.std.proofs.Common.{refl}
-use Rattle.jack_types.specs.declared.commands.Command.TheVariants.{Register}
+use Rattle.graph_word.specs.jack_types.specs.declared.commands.Command.TheVariants.{Register}
 use Rattle.cycle_plan.proofs.EffectLemmas.{registry_only-network, roomy-applied}
 use Rattle.cycle_plan.proofs.RoomLemmas.{Stays-answered_register, register-room}
 use Rattle.cycle_plan.proofs.graph.Graph.register.Goals as goal

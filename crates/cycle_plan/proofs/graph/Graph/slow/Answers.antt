@@ -1,5 +1,5 @@
 use Rattle.std.proofs.Common.{refl}
-use Rattle.jack_types.specs.declared.commands.Command.TheVariants.{Slow}
+use Rattle.graph_word.specs.jack_types.specs.declared.commands.Command.TheVariants.{Slow}
 use Rattle.cycle_plan.proofs.EffectLemmas.{registry-applied, registry_only-network}
 use Rattle.cycle_plan.proofs.MovedLemmas.{Stays-either, Stays-slowed, on_ok}
 use Rattle.cycle_plan.proofs.graph.Graph.slow.Goals as goal

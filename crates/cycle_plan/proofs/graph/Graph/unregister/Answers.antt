@@ -1,6 +1,6 @@
 use Rattle.std.proofs.Common.{◌≡◌, length, None, sym, ◌∙◌, ap, subst}
-use Rattle.jack_types.specs.declared.commands.Command.TheVariants.{Unregister}
-use Rattle.jack_types.specs.declared.replies.Refusal.TheVariants.{NoPort}
+use Rattle.graph_word.specs.jack_types.specs.declared.commands.Command.TheVariants.{Unregister}
+use Rattle.graph_word.specs.jack_types.specs.declared.replies.Refusal.TheVariants.{NoPort}
 use Rattle.feedback_edges.specs.Marking.{AreAmong}
 use Rattle.port_registry.specs.Registered.{port_by}
 use Rattle.cycle_plan.specs.Rewiring.{Leaves}

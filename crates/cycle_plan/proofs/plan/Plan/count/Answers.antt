@@ -1,6 +1,6 @@
 use Rattle.std.proofs.Common.{◌≡◌, ◌+◌, ◌<◌, get_or, length, sym, ◌∙◌, ap, arith}
-use Rattle.session_model.specs.Activation.{incoming}
-use Rattle.session_laws.proofs.ActivationLemmas.{get_or-map_below, length-map_below}
+use Rattle.graph_word.specs.session_model.specs.Activation.{incoming}
+use Rattle.port_registry.specs.session_laws.proofs.ActivationLemmas.{get_or-map_below, length-map_below}
 use Rattle.cycle_plan.proofs.plan.Plan.count.Goals as goal
 
 pub index-requires : goal.index-requires

@@ -1,10 +1,10 @@
 use Rattle.std.proofs.Common.{◌≡◌, [], Option, sym, ◌∙◌, ap, subst}
 use Rattle.std.specs.Option.{option_map_or}
 use Rattle.session_model.specs.Kinds.{Memory}
-use Rattle.client_seats.specs.Seatings.{memory_of}
+use Rattle.client_stage.specs.client_seats.specs.Seatings.{memory_of}
 use Rattle.driver_words.specs.Hearings.{log_at}
-use Rattle.driver_laws.specs.Drivers.{log_in}
-use Rattle.driver_laws.specs.Keeping.{AreOfCalls}
+use Rattle.midi_stage.specs.driver_laws.specs.Drivers.{log_in}
+use Rattle.midi_stage.specs.driver_laws.specs.Keeping.{AreOfCalls}
 use Rattle.cycle_laws.specs.Gears.{Gear, driver_of}
 use Rattle.cycle_laws.proofs.SeenLemmas.{memory-logged}
 use Rattle.cycle_works.specs.Insides.{seen_of}

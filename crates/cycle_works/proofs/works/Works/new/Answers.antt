@@ -1,8 +1,8 @@
 use Rattle.std.proofs.Common.{◌≤◌, length, map, sym, subst}
 use Rattle.std.specs.Prelude.{IfOk}
 use Rattle.std.proofs.lemmas.List.{length-map}
-use Rattle.driver_laws.specs.Openings.{IsNew}
-use Rattle.task_laws.specs.Calls.{guests_needed}
+use Rattle.midi_stage.specs.driver_laws.specs.Openings.{IsNew}
+use Rattle.midi_stage.specs.task_laws.specs.Calls.{guests_needed}
 use Rattle.cycle_laws.specs.Gears.{Gear, driver_of}
 use Rattle.cycle_works.proofs.OpeningLemmas.{made-disks, made-own, made-rings, made-scores}
 use Rattle.cycle_works.proofs.works.Works.new.Goals as goal

@@ -3,9 +3,9 @@ use Rattle.std.specs.Prelude.{OnErr, OnOk}
 use Rattle.std.specs.Vec.{vec_capacity}
 use Rattle.jack_types.specs.declared.moments.Moment.{Moment}
 use Rattle.session_model.specs.Scripts.{Script, turns}
-use Rattle.cycle_plan.specs.Plans.{Planned}
+use Rattle.midi_stage.specs.cycle_plan.specs.Plans.{Planned}
 use Rattle.driver_words.specs.Tapes.{Tape}
-use Rattle.driver_laws.specs.Cycling.{MayCycle}
+use Rattle.midi_stage.specs.driver_laws.specs.Cycling.{MayCycle}
 use Rattle.cycle_laws.specs.Gears.{IsGear, driver_of}
 use Rattle.cycle_laws.specs.Turnings.{Turns}
 use Rattle.cycle_works.specs.Gears.{FailsToRead, with_playback}

@@ -1,5 +1,5 @@
 use Rattle.std.proofs.Common.{◌≡◌, None, Some, ap, arith, get_or, length, position, sym, take_at, ◌∙◌}
-use Rattle.port_registry.specs.Registered.{is_named}
+use Rattle.cycle_plan.specs.port_registry.specs.Registered.{is_named}
 use Rattle.graph_replies.proofs.GraphLemmas.{told-at, told-none}
 use Rattle.graph_replies.proofs.latencies.Latencies.of_port.Goals as goal
 

@@ -1,5 +1,5 @@
 use Rattle.std.proofs.Common.{◌≡◌, ℕ, Some, ◌⊎◌, inl, inr, ap, sym, ◌∙◌}
-use Rattle.cycle_plan.specs.Plans.{Planned}
+use Rattle.midi_wiring.specs.cycle_plan.specs.Plans.{Planned}
 use Rattle.driver_words.specs.Hearings.{log_at}
 use Rattle.midi_seats.specs.Seating.{owner_of}
 use Rattle.midi_stage.specs.Insides.{ArePartsOf, heard_of, plan_in, script_in, staged_by}

@@ -2,8 +2,8 @@ use Rattle.std.proofs.Common.{◌≡◌, ℕ, ◌<◌, Bool, true, false, List, 
 use Rattle.jack_types.specs.declared.ports.Client.{Client}
 use Rattle.session_model.specs.Scripts.{Script}
 use Rattle.port_registry.specs.Registered.{open_clients}
-use Rattle.cycle_plan.specs.Plans.{Planned}
-use Rattle.driver_laws.specs.Keeping.{AreOfCalls}
+use Rattle.midi_wiring.specs.cycle_plan.specs.Plans.{Planned}
+use Rattle.midi_seats.specs.driver_laws.specs.Keeping.{AreOfCalls}
 use Rattle.midi_wiring.specs.Hearings.{HearsPlan}
 use Rattle.driver_words.specs.Hearings.{Heard}
 use Rattle.midi_seats.specs.Owning.{IsShort}

@@ -1,5 +1,5 @@
 use Rattle.std.proofs.Common.{◌≡◌, Bool, cond, not, position, slice_get, Some, None, sym, ◌∙◌, ap, subst}
-use Rattle.jack_types.specs.declared.replies.Refusal.TheVariants.{AlreadyActive}
+use Rattle.session_laws.specs.jack_types.specs.declared.replies.Refusal.TheVariants.{AlreadyActive}
 use Rattle.port_registry.specs.Registered.{Registered, has_name}
 use Rattle.port_registry.proofs.PlaceLemmas.{position-at}
 use Rattle.port_registry.proofs.RefusalLemmas.{refusal_activate}

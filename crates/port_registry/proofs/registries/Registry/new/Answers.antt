@@ -1,6 +1,6 @@
 use Rattle.std.proofs.Common.{◌≡◌, ◌≤◌, ◌++◌, ◌∷◌, [], length, map, sym, ◌∙◌, ap, subst, arith}
-use Rattle.jack_types.specs.declared.ports.Way.TheVariants.{In, Out}
-use Rattle.session_model.specs.Samples.{below}
+use Rattle.session_laws.specs.jack_types.specs.declared.ports.Way.TheVariants.{In, Out}
+use Rattle.session_laws.specs.session_model.specs.Samples.{below}
 use Rattle.port_registry.specs.Kept.{AreFree, ids_in, items_of}
 use Rattle.port_registry.specs.Registered.{system_port, system_ports, unlisted}
 use Rattle.port_registry.proofs.OpeningLemmas.{opened-state, IsRegistered-opening, all-theirs}

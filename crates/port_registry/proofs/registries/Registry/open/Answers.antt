@@ -1,6 +1,6 @@
 use Rattle.std.proofs.Common.{◌≡◌, ◌<◌, ◌++◌, ◌∷◌, [], length, is_some, IsSome, None, sym, ◌∙◌, ap, arith, true≢false}
-use Rattle.jack_types.specs.declared.commands.Command.TheVariants.{Open}
-use Rattle.session_model.specs.Commands.{refusal}
+use Rattle.session_laws.specs.jack_types.specs.declared.commands.Command.TheVariants.{Open}
+use Rattle.session_laws.specs.session_model.specs.Commands.{refusal}
 use Rattle.port_registry.proofs.StepLemmas.{free-some, IsKept-opened}
 use Rattle.port_registry.proofs.registries.Registry.open.Goals as goal
 

@@ -1,5 +1,5 @@
 use Rattle.std.proofs.Common.{◌≡◌, List, ℕ, position, slice_get, get_or, Some, None, sym, ◌∙◌, ap, subst}
-use Rattle.jack_types.specs.Names.{client_part}
+use Rattle.session_laws.specs.jack_types.specs.Names.{client_part}
 use Rattle.port_registry.specs.Kept.{ids_in}
 use Rattle.port_registry.specs.Listings.{bears_name}
 use Rattle.port_registry.specs.Registered.{has_name}

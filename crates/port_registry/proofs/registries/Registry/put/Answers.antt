@@ -1,7 +1,7 @@
 use Rattle.std.proofs.Common.{◌≡◌, ◌++◌, ◌∷◌, [], position, find, slice_get, Some, refl, sym, ◌∙◌, ap, arith}
-use Rattle.jack_types.specs.Names.{client_part}
-use Rattle.jack_types.specs.declared.ports.Client.{Client}
-use Rattle.jack_types.specs.declared.ports.Port.{Port}
+use Rattle.session_laws.specs.jack_types.specs.Names.{client_part}
+use Rattle.session_laws.specs.jack_types.specs.declared.ports.Client.{Client}
+use Rattle.session_laws.specs.jack_types.specs.declared.ports.Port.{Port}
 use Rattle.port_registry.specs.Registered.{has_name, client_by, client_port}
 use Rattle.port_registry.proofs.AfterLemmas.{registered-port}
 use Rattle.port_registry.proofs.PlaceLemmas.{some_same, position-at, position-find}

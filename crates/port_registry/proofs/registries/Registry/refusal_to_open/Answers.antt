@@ -1,7 +1,7 @@
 use Rattle.std.proofs.Common.{◌≡◌, ◌<◌, ◌≤◌, length, position, is_some, true, false, sym, ◌∙◌, ap, subst, arith}
 use Rattle.std.proofs.lemmas.Grind.{common_steps}
-use Rattle.jack_types.specs.declared.ports.Client.{Client}
-use Rattle.session_model.specs.Commands.{shares}
+use Rattle.session_laws.specs.jack_types.specs.declared.ports.Client.{Client}
+use Rattle.session_laws.specs.session_model.specs.Commands.{shares}
 use Rattle.port_registry.specs.Registered.{Registered, has_name}
 use Rattle.port_registry.proofs.RefusalLemmas.{open-taken, open-full, open-used, open-granted}
 use Rattle.port_registry.proofs.registries.Registry.refusal_to_open.Goals as goal

@@ -1,4 +1,4 @@
-use Rattle.jack_types.specs.declared.commands.Command.TheVariants.{Register}
+use Rattle.session_laws.specs.jack_types.specs.declared.commands.Command.TheVariants.{Register}
 use Rattle.port_registry.proofs.AfterLemmas.{after-refused}
 use Rattle.port_registry.proofs.registries.Registry.register.Goals as goal
 

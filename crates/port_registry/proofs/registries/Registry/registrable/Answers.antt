@@ -1,10 +1,10 @@
 use Rattle.std.proofs.Common.{◌≡◌, ◌<◌, ◌≤◌, List, ℕ, Bool, true, false, cond, position, filter, count_by, is_some, slice_get, get_or, Some, None, refl, sym, ◌∙◌, ap, subst, arith}
 use Rattle.std.proofs.lemmas.Grind.{common_steps}
-use Rattle.jack_types.specs.Names.{client_part}
-use Rattle.jack_types.specs.declared.commands.Command.TheVariants.{Close}
-use Rattle.jack_types.specs.declared.replies.Refusal.TheVariants.{IsSystem}
-use Rattle.session_model.specs.Commands.{refusal}
-use Rattle.session_model.specs.State.{is_system}
+use Rattle.session_laws.specs.jack_types.specs.Names.{client_part}
+use Rattle.session_laws.specs.jack_types.specs.declared.commands.Command.TheVariants.{Close}
+use Rattle.session_laws.specs.jack_types.specs.declared.replies.Refusal.TheVariants.{IsSystem}
+use Rattle.session_laws.specs.session_model.specs.Commands.{refusal}
+use Rattle.session_laws.specs.session_model.specs.State.{is_system}
 use Rattle.port_registry.specs.Kept.{ids_in}
 use Rattle.port_registry.specs.Listings.{bears_name, has_way}
 use Rattle.port_registry.specs.Registered.{has_name, is_named, is_of, state_of}

@@ -1,5 +1,5 @@
 use Rattle.std.proofs.Common.{◌≡◌, position, filter, slice_get, get_or, Some, refl, sym, ◌∙◌, ap, arith}
-use Rattle.jack_types.specs.Names.{client_part}
+use Rattle.session_laws.specs.jack_types.specs.Names.{client_part}
 use Rattle.port_registry.specs.Listings.{without_id}
 use Rattle.port_registry.specs.Registered.{has_name, is_named, is_of}
 use Rattle.port_registry.proofs.KeptLemmas.{its_name_is}

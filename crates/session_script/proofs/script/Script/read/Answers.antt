@@ -1,4 +1,4 @@
-use Rattle.grammar_laws.proofs.GrammarLaws.{spelled}
+use Rattle.script_text.specs.grammar_laws.proofs.GrammarLaws.{spelled}
 use Rattle.session_script.proofs.WholeLemmas.{lawful, no-script, only-script}
 use Rattle.session_script.proofs.script.Script.read.Goals as goal
 

@@ -1,6 +1,6 @@
 use Rattle.std.proofs.Common.{rules, ◌≡◌, ◌+◌, ◌*◌, ◌≤◌, ◌∙◌, ℕ, arith, drop, length, subst, sym, take}
-use Rattle.jack_types.specs.declared.files.Format.{Format}
-use Rattle.session_model.specs.WaveFiles.{frame_bytes}
+use Rattle.samples.specs.jack_types.specs.declared.files.Format.{Format}
+use Rattle.samples.specs.session_model.specs.WaveFiles.{frame_bytes}
 use Rattle.wave_pcm.specs.Readings.{Gave, Gives}
 use Rattle.wave_pcm.proofs.FrameLemmas.{fewer_samples, gave_more, gives_short, rest_more, same_reading-trans, within_buffer, within_size}
 use Rattle.wave_pcm.proofs.wave.Wave.frames_into.Goals as goal

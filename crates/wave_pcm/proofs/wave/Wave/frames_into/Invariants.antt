@@ -1,5 +1,5 @@
 use Rattle.std.proofs.Common.{◌≡◌, ◌+◌, ◌-◌, ◌*◌, ◌≤◌, drop, false}
-use Rattle.session_model.specs.WaveFiles.{frame_bytes}
+use Rattle.samples.specs.session_model.specs.WaveFiles.{frame_bytes}
 use Rattle.wave_pcm.specs.Readings.{Gave, SameReading}
 use Rattle.wave_pcm.proofs.wave.Wave.frames_into.Given as goal
 

@@ -1,6 +1,6 @@
 use Rattle.std.proofs.Common.{◌≡◌, ◌-◌, ◌*◌, ◌/◌, ◌%◌, ◌<◌, ◌≤◌, ℕ, ap, length, subst, sym, ◌∙◌}
 use Rattle.std.specs.Prelude.{IfSome}
-use Rattle.session_model.specs.WaveFiles.{frame_bytes}
+use Rattle.samples.specs.session_model.specs.WaveFiles.{frame_bytes}
 use Rattle.wave_pcm.specs.Readings.{Reading}
 use Rattle.wave_pcm.proofs.FrameLemmas.{frames_all}
 use Rattle.wave_pcm.proofs.wave.Wave.frames_left.Goals as goal

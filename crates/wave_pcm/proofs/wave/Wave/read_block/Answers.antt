@@ -1,6 +1,6 @@
 use Rattle.std.proofs.Common.{rules, ◌≡◌, ◌+◌, ◌-◌, ◌*◌, ◌/◌, ◌≤◌, ℕ, ap, arith, length, subst, sym, take, ◌∙◌}
-use Rattle.session_model.specs.Samples.{samples_of}
-use Rattle.session_model.specs.WaveFiles.{frame_bytes}
+use Rattle.samples.specs.session_model.specs.Samples.{samples_of}
+use Rattle.samples.specs.session_model.specs.WaveFiles.{frame_bytes}
 use Rattle.wave_pcm.specs.Readings.{Gives, left_of, Reading}
 use Rattle.wave_pcm.proofs.FrameLemmas.{block_gives, got_few}
 use Rattle.wave_pcm.proofs.wave.Wave.read_block.Goals as goal

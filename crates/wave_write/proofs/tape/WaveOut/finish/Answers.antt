@@ -2,8 +2,8 @@ use Rattle.std.proofs.Common.{◌≡◌, ◌%◌, ap, subst, length, List, ℤ, 
 use Rattle.std.specs.Prelude.{All, IfSome, OnErr, OnOk, is_some}
 use Rattle.std.specs.Int.{w32}
 use Rattle.std.specs.Int.RustNames.{FitsSigned}
-use Rattle.session_model.specs.Samples.{down, up}
-use Rattle.session_model.specs.WaveFiles.{IsWave, opening_text, wave_text}
+use Rattle.driver_words.specs.session_model.specs.Samples.{down, up}
+use Rattle.driver_words.specs.session_model.specs.WaveFiles.{IsWave, opening_text, wave_text}
 use Rattle.driver_words.specs.Tapes.{AreInOrder, HasFront, HasSamples, Tape}
 use Rattle.wave_write.proofs.TapeLemmas.{finish_front, finish_order, finish_tells, finish_text, finish_wave}
 use Rattle.wave_write.proofs.tape.WaveOut.finish.Goals as goal

@@ -1,5 +1,5 @@
 use Rattle.std.proofs.Common.{ℕ, ◌*◌, ◌/◌, ◌<◌, ◌≤◌, subst, sym}
-use Rattle.session_model.specs.Samples.{width}
+use Rattle.driver_words.specs.session_model.specs.Samples.{width}
 use Rattle.driver_words.specs.Tapes.{Tape}
 use Rattle.wave_write.proofs.TapeLemmas.{most_by_width}
 use Rattle.wave_write.proofs.tape.WaveOut.most_samples.Goals as goal

@@ -2,7 +2,7 @@ use Rattle.std.proofs.Common.{rules, ◌≡◌, ◌+◌, ◌-◌, ◌*◌, ◌�
 use Rattle.std.specs.Prelude.{slice_range}
 use Rattle.std.proofs.lemmas.List.{length-take}
 use Rattle.jack_types.specs.declared.files.Format.{Format}
-use Rattle.session_model.specs.Samples.{bytes_of, width}
+use Rattle.driver_words.specs.session_model.specs.Samples.{bytes_of, width}
 use Rattle.driver_words.specs.Tapes.{Gained, GainedPart}
 use Rattle.wave_write.proofs.FinishingLemmas.{on_err}
 use Rattle.wave_write.proofs.TapeLemmas.{gained_more, gained_part, piece_room, same_file-trans}

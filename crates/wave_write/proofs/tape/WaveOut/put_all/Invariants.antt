@@ -1,5 +1,5 @@
 use Rattle.std.proofs.Common.{◌≡◌, ◌-◌, ◌≤◌, false, length, take}
-use Rattle.session_model.specs.Samples.{bytes_of}
+use Rattle.driver_words.specs.session_model.specs.Samples.{bytes_of}
 use Rattle.driver_words.specs.Tapes.{Gained, SameFile}
 use Rattle.wave_write.proofs.tape.WaveOut.put_all.Given as goal
 
