@@ -107,10 +107,21 @@ words_case('an option without a path', [*PLAY, '--record'], 'jackd: "--record" n
 words_case('one file twice', ['play', 's', 'c', 'c'], 'jackd: CAPTURE and PLAYBACK name one file: c')
 words_case('one record twice', [*PLAY, '--record', 'r', '--record', 'r'], 'jackd: PATH and PATH name one file: r')
 words_case('a misspelt record', [*PLAY, '--recrod', 'r'], 'jackd: no option "--recrod"; is "--record" meant?')
-words_case('a word too many', [*PLAY, 'q'], 'jackd: "q" is one word too many')
+words_case('a word too many', [*PLAY, 'q'], 'jackd: "q" is one word too many: behind the names come options, as --record PATH')
+words_case('standard input as the script', ['play', '-', 'c', 'p'], 'jackd: SCRIPT is "-"; standard input is named /dev/stdin')
+words_case('standard input as the capture', ['play', 's', '-', 'p'], 'jackd: CAPTURE is "-"; standard input is named /dev/stdin')
+words_case('standard input as the report', ['check', 's', 'c', '-', 'p'], 'jackd: REPORT is "-"; standard input is named /dev/stdin')
+words_case('standard output as the playback', ['play', 's', 'c', '-'], 'jackd: PLAYBACK begins with "-"; a file is named ./-')
+words_case('an option in one word', [*PLAY, '--record=r'], 'jackd: "--record=r" is two words: --record PATH')
+words_case('a disk in one word', [*PLAY, '--disk=d'], 'jackd: "--disk=d" is two words: --disk PATH')
+words_case('an option in one word as a name', ['play', '--record=r', 's', 'c', 'p'], 'jackd: "--record=r" is two words: --record PATH')
+words_case('an end of options', ['play', '--', 's', 'c', 'p'], 'jackd: "--" is not needed: names come first, and options behind them')
+words_case('an output option', ['play', 's', 'c', '-o', 'p'], 'jackd: no option "-o": PLAYBACK is the third name behind play')
+words_case('a driver', ['-d', 'alsa'], 'jackd: no option "-d": there is no sound card, and two WAVE files stand for it')
 words_case('five recorders', [*PLAY, *sum((['--record', f'r{k}'] for k in range(5)), [])], 'jackd: "--record" stands more than 4 times')
 words_case('a misspelt strict play', [*PLAY, '--strikt'], 'jackd: no option "--strikt"; is "--strict" meant?')
-words_case('a strict play of a word too many', ['play', '--strict', 's', 'c', 'p', 'q'], 'jackd: "q" is one word too many')
+words_case('a strict play of a word too many', ['play', '--strict', 's', 'c', 'p', 'q'],
+    'jackd: "q" is one word too many: behind the names come options, as --record PATH')
 words_case('a strict play of a name too few', ['play', '--strict', 's', 'c'],
     'jackd: play needs SCRIPT, CAPTURE and PLAYBACK; PLAYBACK is missing')
 words_case('a path like the strict option', [*PLAY, '--record', '--strict'], 'jackd: PATH begins with "-"; a file is named ./--strict')
@@ -129,7 +140,8 @@ words_case('check alone', ['check'], 'jackd: check needs SCRIPT, CAPTURE, REPORT
 words_case('a check of no playback', ['check', 's', 'c', 'r'], 'jackd: check needs SCRIPT, CAPTURE, REPORT and PLAYBACK; PLAYBACK is missing')
 words_case('a report that is the playback', ['check', 's', 'c', 'r', 'r'], 'jackd: REPORT and PLAYBACK name one file: r')
 words_case('a record that is the report', ['check', 's', 'c', 'r', 'p', '--record', 'r'], 'jackd: REPORT and PATH name one file: r')
-words_case('a check of a word too many', ['check', 's', 'c', 'r', 'p', 'q'], 'jackd: "q" is one word too many')
+words_case('a check of a word too many', ['check', 's', 'c', 'r', 'p', 'q'],
+    'jackd: "q" is one word too many: behind the names come options, as --record PATH')
 words_case('a check of an option first', ['check', '--record', 't', 's', 'c', 'r', 'p'],
     'jackd: "--record" comes behind SCRIPT, CAPTURE, REPORT and PLAYBACK')
 words_case('a check of an option without a path', ['check', 's', 'c', 'r', 'p', '--record'], 'jackd: "--record" needs a path')
@@ -168,8 +180,15 @@ GUID = bytes.fromhex('000000001000800000aa00389b71')
 CONVERT = 'sox c -e signed-integer -b 24 new.wav'
 wave_case('float samples', wave(form(tag=3, bits=32)), 'BadFormat Tag 3',
     'float samples (tag 3) are not read: sox float.wav -e signed-integer -b 24 new.wav', 'float.wav')
-wave_case('a FLAC file', b'fLaC' + bytes(60), 'NotRiff', 'no RIFF WAVE file (begins "fLaC")', 'c.flac')
-wave_case('an RF64 file', b'RF64' + wave()[4:], 'NotRiff', 'no RIFF WAVE file (begins "RF64")')
+SOX = 'are not read: sox c -e signed-integer -b 24 new.wav'
+FFMPEG = 'are not read: ffmpeg -i c -c:a pcm_s24le new.wav'
+wave_case('a FLAC file', b'fLaC' + bytes(60), 'NotRiff', 'FLAC files are not read: sox c.flac -e signed-integer -b 24 new.wav', 'c.flac')
+wave_case('an AIFF file', b'FORM' + bytes(60), 'NotRiff', f'AIFF files {SOX}')
+wave_case('an Ogg file', b'OggS' + bytes(60), 'NotRiff', f'Ogg files {SOX}')
+wave_case('a RIFX file', b'RIFX' + wave()[4:], 'NotRiff', f'RIFX files, with the high byte first, {SOX}')
+wave_case('a W64 file', b'riff' + bytes(60), 'NotRiff', f'W64 files {FFMPEG}')
+wave_case('an RF64 file', b'RF64' + wave()[4:], 'NotRiff', f'RF64 files {FFMPEG}')
+wave_case('an MP3 file', b'ID3\x03' + bytes(60), 'NotRiff', f'MP3 files {FFMPEG}')
 wave_case('a text', b'hello, this is no sound', 'NotRiff', 'no RIFF WAVE file (begins "hell")')
 wave_case('bytes', bytes(64), 'NotRiff', 'no RIFF WAVE file (begins "\\x00\\x00\\x00\\x00")')
 wave_case('an empty capture', b'', 'Ends 0', 'the file is empty')
@@ -212,7 +231,12 @@ def header_case(name, place, line, cause, told):
 
 script_case('an empty script', b'', 1, 'Header', '"jackd" is expected here')
 script_case('a script of comments', b'# nothing\n\n', 3, 'Header', '"jackd" is expected here')
-script_case('a byte order mark', b'\xef\xbb\xbf' + GOOD, 1, 'Header', 'begins with a byte order mark', '\ufeffjackd 1')
+script_case('a byte order mark', b'\xef\xbb\xbf' + GOOD, 1, 'Header', 'begins with a byte order mark', '\\xef\\xbb\\xbfjackd 1')
+for name, line, shown, cause, told in (
+        ('a line whose direction turns', 'jackd \u202e1', 'jackd \\xe2\\x80\\xae1', 'Number', '"\\xe2\\x80\\xae1" is no number of 1 to 10 digits'),
+        ('a space that does not break', 'jackd\u00a01', 'jackd\\xc2\\xa01', 'Header', '"jackd" is expected here'),
+        ('a space of no width', 'jackd 1\u200b', 'jackd 1\\xe2\\x80\\x8b', 'Number', '"1\\xe2\\x80\\x8b" is no number of 1 to 10 digits')):
+    script_case(name, text(JOINED, 'run 2', header=[line, *HEADER[1:]]), 1, cause, told, shown)
 script_case('a script in UTF-16', '\ufeffjackd 1\n'.encode('utf-16-le'), 1, 'Header', '"jackd" is expected here',
     '\\xff\\xfej\\x00a\\x00c\\x00k\\x00d\\x00 \\x001\\x00')
 header_case('a missing rate', 2, 'period 64', 'Header', '"rate" is expected here')
@@ -251,7 +275,9 @@ body_case('a header line behind the body', 'ring 2', 'Unknown', '"ring" is a lin
     before=[JOINED])
 body_case('a word missing', 'do open a', 'Words', 'a word is missing: open CLIENT KIND')
 body_case('a word left over', 'do start now', 'Words', '"now" is left over: start')
-body_case('a comment behind a line', 'run 2 # twice', 'Words', '"#" is left over: run CYCLES')
+body_case('a comment behind a line', 'run 2 # twice', 'Words', '"#" is left over: run CYCLES; a comment is a line of its own')
+body_case('a gain as a fraction', 'do open a gain 0.5', 'Number',
+    '"0.5" is no number of 1 to 10 digits: numbers are whole, and a gain of a half is "gain 1 1"')
 body_case('no cycles', 'run 0', 'Range', '"0" is outside 1 to 1000000')
 body_case('very many cycles', 'run 9999999999', 'Range', '"9999999999" is outside 1 to 1000000')
 body_case('more digits than a number has', 'run 99999999999', 'Number', '"99999999999" is no number of 1 to 10 digits')

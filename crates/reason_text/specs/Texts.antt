@@ -17,13 +17,21 @@ hex_digit n = slice_index_or (codes "0123456789abcdef") n 48
 abbrev pub escaped : ℕ → List ℕ
 escaped byte = codes "\\x" ++ hex_digit (byte / 16) ∷ hex_digit (byte % 16) ∷ []
 
--- whether, behind a byte, a character from U+0080 to U+009F ends, which steers a terminal: 0xc2, and a byte below 0xa0
-abbrev pub steers_behind : ℕ → List ℕ → Bool
-steers_behind lead [] = false
-steers_behind lead (byte ∷ bytes) = ((lead == 194) && nat_lt byte 160) || steers_behind byte bytes
+-- whether a character ends here that steers a terminal, that turns the direction of a line, or that can't be seen, behind the two bytes before:
+-- U+0080 to U+00A0, U+200B to U+200F, U+2028 to U+202E, U+2060 to U+206F, and U+FEFF
+abbrev pub misleads : ℕ → ℕ → ℕ → Bool
+misleads first second byte =
+    ((second == 194) && nat_le byte 160)
+    || ((first == 226) && (second == 128) && ((nat_le 139 byte && nat_le byte 143) || (nat_le 168 byte && nat_le byte 174)))
+    || ((first == 226) && (second == 129) && nat_le 160 byte)
+    || ((first == 239) && (second == 187) && (byte == 191))
+
+abbrev pub misleads_behind : ℕ → ℕ → List ℕ → Bool
+misleads_behind first second [] = false
+misleads_behind first second (byte ∷ bytes) = misleads first second byte || misleads_behind second byte bytes
 
 abbrev pub is_text : List ℕ → Bool
-is_text bytes = is_utf8 bytes && not (steers_behind 0 bytes)
+is_text bytes = is_utf8 bytes && not (misleads_behind 0 0 bytes)
 
 -- a byte stands for itself where it is printed ASCII or, in a text, of a character beyond ASCII
 abbrev pub shown_byte : Bool → ℕ → List ℕ

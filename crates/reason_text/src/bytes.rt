@@ -2,7 +2,7 @@
 
 ghost use Rattle.std.specs.Prelude.{◌≡◌, ◌<◌, ◌≤◌, length};
 ghost use Rattle.std.specs.List.{list_all};
-ghost use Rattle.reason_text.specs.Texts.{front_end, goes_on, hex_digit, is_plain, is_text, place_before, steers_behind};
+ghost use Rattle.reason_text.specs.Texts.{front_end, goes_on, hex_digit, is_plain, is_text, misleads, misleads_behind, place_before};
 
 /// A digit of sixteen.
 pub fn hex_digit(value: u8) -> u8
@@ -14,26 +14,42 @@ pub fn hex_digit(value: u8) -> u8
     b"0123456789abcdef"[usize::from(value)]
 }
 
-// Whether a character from U+0080 to U+009F stands in a text.
-fn steers(bytes: &[u8]) -> bool
-    ensures { result ≡ steers_behind 0 bytes.now }
+// Whether a character ends with this byte, behind two others, that steers a terminal, turns the direction of a line, or can't be
+// seen.
+fn misleads(first: u8, second: u8, byte: u8) -> bool
+    ensures { result ≡ misleads first second byte }
 {
-    let mut lead = 0;
+    (second == 0xc2 && byte <= 0xa0)
+        || (first == 0xe2
+            && second == 0x80
+            && ((0x8b <= byte && byte <= 0x8f) || (0xa8 <= byte && byte <= 0xae)))
+        || (first == 0xe2 && second == 0x81 && 0xa0 <= byte)
+        || (first == 0xef && second == 0xbb && byte == 0xbf)
+}
+
+// Whether such a character stands in a text.
+fn has_misleading(bytes: &[u8]) -> bool
+    ensures { result ≡ misleads_behind 0 0 bytes.now }
+{
+    let mut first = 0;
+    let mut second = 0;
     for byte in bytes {
-        if lead == 0xc2 && *byte < 0xa0 {
+        if misleads(first, second, *byte) {
             return true;
         }
-        lead = *byte;
+        first = second;
+        second = *byte;
     }
     false
 }
 
-/// Whether the bytes are a text without characters beyond ASCII that steer a terminal.
+/// Whether the bytes are a text without characters beyond ASCII that steer a terminal, turn the direction of a line, or can't be
+/// seen.
 pub fn is_text(bytes: &[u8]) -> bool
     ensures { result ≡ is_text bytes.now }
 {
     match str::from_utf8(bytes) {
-        Ok(_) => !steers(bytes),
+        Ok(_) => !has_misleading(bytes),
         Err(_) => false,
     }
 }

@@ -101,6 +101,9 @@ fn wrong_role<'a>(sentence: &'static str, word: &'a [u8], role: &'static str) ->
 
 // A word that stands where one of these may stand.
 fn unknown<'a>(word: &'a [u8], forms: &'static [&'static str], no: &'static str) -> Wrong<'a> {
+    if let Some(sentence) = wrong_form(word) {
+        return wrong_word(sentence, word);
+    }
     let mut found = match word {
         [b'-', ..] => wrong_word("no option {0}", word),
         _ => wrong_word(no, word),
@@ -109,7 +112,26 @@ fn unknown<'a>(word: &'a [u8], forms: &'static [&'static str], no: &'static str)
     found
 }
 
+// The way out of a word in a form that other programs take, if it is such a word.
+fn wrong_form(word: &[u8]) -> Option<&'static str> {
+    match word {
+        [b'-', b'd'] => Some(
+            "no option {0}: there is no sound card, and two WAVE files stand for it",
+        ),
+        [b'-', b'o'] => Some("no option {0}: PLAYBACK is the third name behind play"),
+        [b'-', b'-'] => Some("{0} is not needed: names come first, and options behind them"),
+        [b'-', b'-', b'r', b'e', b'c', b'o', b'r', b'd', b'=', ..] => {
+            Some("{0} is two words: --record PATH")
+        }
+        [b'-', b'-', b'd', b'i', b's', b'k', b'=', ..] => Some("{0} is two words: --disk PATH"),
+        _ => None,
+    }
+}
+
 const TOO_MANY: &str = "{0} is one word too many";
+
+const TOO_MANY_NAMES: &str =
+    "{0} is one word too many: behind the names come options, as --record PATH";
 
 fn wrong_words(words: &[String]) -> Wrong<'_> {
     let [command, rest @ ..] = words else {
@@ -265,7 +287,15 @@ fn wrong_names(words: &[String], naming: Naming) -> Wrong<'_> {
 fn wrong_name<'a>(word: &'a String, role: &'static str, early: &'static str) -> Option<Wrong<'a>> {
     match word.as_bytes() {
         [] => Some(wrong_role("{3} is empty, and names no file", word.as_bytes(), role)),
+        [b'-'] if is_input(role) => Some(wrong_role(
+            "{3} is \"-\"; standard input is named /dev/stdin",
+            word.as_bytes(),
+            role,
+        )),
         [b'-', ..] if is_option(word) => Some(wrong_word(early, word.as_bytes())),
+        [b'-', ..] if wrong_form(word.as_bytes()).is_some() => {
+            Some(unknown(word.as_bytes(), &PROGRAM[..0], TOO_MANY))
+        }
         [b'-', ..] => Some(wrong_role(
             "{3} begins with \"-\"; a file is named ./{1}",
             word.as_bytes(),
@@ -273,6 +303,11 @@ fn wrong_name<'a>(word: &'a String, role: &'static str, early: &'static str) -> 
         )),
         _ => None,
     }
+}
+
+// Whether the file of this role is read.
+fn is_input(role: &str) -> bool {
+    role == "SCRIPT" || role == "CAPTURE" || role == "REPORT"
 }
 
 fn is_option(word: &String) -> bool {
@@ -329,7 +364,7 @@ fn wrong_option<'a>(
     let word = option.as_bytes();
     let is_disk = option.as_str() == "--disk";
     if !is_option(option) {
-        return Some(unknown(word, naming.options, TOO_MANY));
+        return Some(unknown(word, naming.options, TOO_MANY_NAMES));
     }
     if is_last {
         return Some(wrong_word("{0} needs a path", word));

@@ -237,22 +237,33 @@ fn say_count(reason: &mut Reason, faulty: &Faulty<'_>) -> Result<(), AllocError>
     match departure_of(faulty.line, faulty.place) {
         Departure::Missing(form) => fill(reason, "a word is missing: {0}", &[Text(form)]),
         Departure::LeftOver(word, form) => {
-            fill(reason, "{0} is left over: {1}", &[Quoted(word), Text(form)])
+            fill(reason, left_over(word), &[Quoted(word), Text(form)])
         }
         _ => reason.say("a word is missing or left over"),
+    }
+}
+
+// What is said of a word that is left over, which may be meant as a comment.
+fn left_over(word: &[u8]) -> &'static str {
+    match word {
+        [b'#', ..] => "{0} is left over: {1}; a comment is a line of its own",
+        _ => "{0} is left over: {1}",
+    }
+}
+
+// What is said of a word that is no number, which may be meant as a fraction.
+fn no_number(word: &[u8]) -> &'static str {
+    if word.contains(&b'.') {
+        "{0} is no number of 1 to 10 digits: numbers are whole, and a gain of a half is \"gain 1 1\""
+    } else {
+        "{0} is no number of 1 to 10 digits"
     }
 }
 
 // A word is no number, or no bytes in hexadecimal.
 fn say_no_number(reason: &mut Reason, faulty: &Faulty<'_>) -> Result<(), AllocError> {
     match departure_of(faulty.line, faulty.place) {
-        Departure::NoNumber(word) => {
-            fill(
-                reason,
-                "{0} is no number of 1 to 10 digits",
-                &[Quoted(word)],
-            )
-        }
+        Departure::NoNumber(word) => { fill(reason, no_number(word), &[Quoted(word)]) }
         _ if word_at(faulty.line, 0) == b"event".as_slice() => {
             reason.say("an event is 1 to 16 bytes, each two lower-case hexadecimal digits")
         }

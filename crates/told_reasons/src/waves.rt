@@ -50,8 +50,7 @@ fn value_of(fault: WaveFault) -> u64 {
 // channels in `{4}`, `{5}` the format of that tag, and `{6}` the file's name in a command.
 fn sentence(fault: WaveFault, front: &[u8]) -> &'static str {
     match fault {
-        WaveFault::NotRiff if front.is_empty() => "{0}: no RIFF WAVE file",
-        WaveFault::NotRiff => "{0}: no RIFF WAVE file (begins {1})",
+        WaveFault::NotRiff => sentence_of_mark(front),
         WaveFault::NotWave => "{0}: a RIFF file, whose form is not WAVE",
         WaveFault::NoFormat => "{0}: no \"fmt \" chunk stands before the samples",
         WaveFault::BadFormat(field, _) => sentence_of_field(field),
@@ -60,6 +59,35 @@ fn sentence(fault: WaveFault, front: &[u8]) -> &'static str {
         WaveFault::Ends(_) => "{0}: the file ends after {3}, within its header",
         WaveFault::Read => "{0}: it could not be read",
         WaveFault::TooManyChunks => "{0}: 4096 chunks stand before its samples",
+    }
+}
+
+// What is said of a file of another format, by its first bytes.
+fn sentence_of_mark(front: &[u8]) -> &'static str {
+    match front {
+        [] => "{0}: no RIFF WAVE file",
+        [b'f', b'L', b'a', b'C', ..] => {
+            "{0}: FLAC files are not read: sox {6} -e signed-integer -b 24 new.wav"
+        }
+        [b'F', b'O', b'R', b'M', ..] => {
+            "{0}: AIFF files are not read: sox {6} -e signed-integer -b 24 new.wav"
+        }
+        [b'O', b'g', b'g', b'S', ..] => {
+            "{0}: Ogg files are not read: sox {6} -e signed-integer -b 24 new.wav"
+        }
+        [b'R', b'I', b'F', b'X', ..] => {
+            "{0}: RIFX files, with the high byte first, are not read: sox {6} -e signed-integer -b 24 new.wav"
+        }
+        [b'r', b'i', b'f', b'f', ..] => {
+            "{0}: W64 files are not read: ffmpeg -i {6} -c:a pcm_s24le new.wav"
+        }
+        [b'R', b'F', b'6', b'4', ..] => {
+            "{0}: RF64 files are not read: ffmpeg -i {6} -c:a pcm_s24le new.wav"
+        }
+        [b'I', b'D', b'3', ..] => {
+            "{0}: MP3 files are not read: ffmpeg -i {6} -c:a pcm_s24le new.wav"
+        }
+        _ => "{0}: no RIFF WAVE file (begins {1})",
     }
 }
 
