@@ -1,7 +1,8 @@
 #!/usr/bin/env bash
-# A lack of memory, at each allocation of a play in turn, in serial mode, with threads and with threads that steal, is answered by
-# exit code 1, which is told, with no report and no file made, or makes no difference, as where a vector's growth then asks for
-# less (two at most); and a longer session makes no more allocations. Where workers steal, a deque may grow in a cycle: so often
+# A lack of memory, at each allocation of a play in turn, in serial mode, with threads and with threads that steal, and with disk
+# files in serial mode and with threads, is answered by exit code 1, which is told, with no report and no file made, or makes no
+# difference, as where a vector's growth then asks for less (two at most); and a longer session makes no more allocations. Where
+# workers steal, a deque may grow in a cycle: so often
 # (seven times a worker, at most) an allocation more or less makes no difference, and none of a session's length. So is it at each allocation of a check, whose files stay; and a check of
 # a hundred times as many cycles makes at most 16 more, by which lists grow while the report is read: its cycles make none.
 # Each start of a thread takes memory of its own; where that is refused or the start is, each in turn and all of them, the play
@@ -101,9 +102,9 @@ os.chdir(folder)
 made = ['playback', 'record']
 
 
-def wave(data):
+def wave(data, channels=1):
     header = b'RIFF' + (36 + len(data)).to_bytes(4, 'little') + b'WAVEfmt ' + (16).to_bytes(4, 'little')
-    header += bytes([1, 0, 1, 0]) + (48000).to_bytes(4, 'little') + (96000).to_bytes(4, 'little') + bytes([2, 0, 16, 0])
+    header += bytes([1, 0, channels, 0]) + (48000).to_bytes(4, 'little') + (96000 * channels).to_bytes(4, 'little') + bytes([2 * channels, 0, 16, 0])
     return header + b'data' + len(data).to_bytes(4, 'little') + data
 
 
@@ -142,10 +143,25 @@ def steals(cycles):
     return threads(cycles, mode='steal 2', calls=calls, version=3, events=[f'event 0 {n} 90{n % 128:02x}40' for n in range(700)])
 
 
-def capture_of(text):
-    """A capture that is as long as the session, so that nothing is told of it."""
+def disks(cycles, mode='serial', changes=('lane 1 at 2 disconnect d0:1 system:playback_1', 'lane 1 at 3 deactivate d1')):
+    """Two disk files, which are played beside a recorder. The ring holds all blocks of eight cycles."""
+    calls = []
+    for disk, ports in ((0, '1'), (1, '12')):
+        calls += [f'do open d{disk} disk {disk}', *(f'do register d{disk}:{port} out audio' for port in ports), f'do activate d{disk}']
+        calls += [f'do connect d{disk}:{port} system:playback_{port}' for port in ports]
+    return script(mode, 64, calls, cycles, list(changes), 3, ['disk 1', 'disk 2'])
+
+
+def readers(cycles):
+    """The same with threads, of which each disk file has one."""
+    return disks(cycles, 'threads 2', [])
+
+
+def file_of(text, channels=1):
+    """A capture or a disk file that is as long as the session, so that nothing is told of it."""
     period, cycles = (int(re.search(rf'^{word} (\d+)$', text, re.M)[1]) for word in ('period', 'run'))
-    return wave((bytes(range(256)) * (period * cycles // 128 + 1))[:2 * period * cycles])
+    size = 2 * channels * period * cycles
+    return wave((bytes(range(256)) * (size // 256 + 1))[:size], channels)
 
 
 def play(text, refused=0, unstarted=0):
@@ -154,9 +170,14 @@ def play(text, refused=0, unstarted=0):
             os.remove(name)
     with open('script', 'w') as it:
         it.write(text)
-    with open('capture', 'wb') as it:
-        it.write(capture_of(text))
-    return run(['play', 'script', 'capture', 'playback', '--record', 'record'], refused, unstarted)
+    given, words = {'capture': file_of(text)}, ['play', 'script', 'capture', 'playback', '--record', 'record']
+    for disk, channels in enumerate(re.findall(r'^disk (\d)$', text, re.M)):
+        given[f'disk{disk}'] = file_of(text, int(channels))
+        words += ['--disk', f'disk{disk}']
+    for name, held in given.items():
+        with open(name, 'wb') as it:
+            it.write(held)
+    return run(words, refused, unstarted)
 
 
 def check(report, refused=0):
@@ -233,7 +254,7 @@ def check_faults(session):
     print(f'check-memory: check of {session.__name__}: {count} allocations refused, one a check: {count - harmless} answered by 1, {harmless} made no difference')
 
 
-sessions = ((serial, 0), (threads, 1), (light, 0), (steals, 1, 14))
+sessions = ((serial, 0), (threads, 1), (light, 0), (steals, 1, 14), (disks, 0), (readers, 0))
 wrong = [f'{session.__name__}: {fault}' for session, *numbers in sessions for fault in faults(session, *numbers)]
 wrong += [f'check of {session.__name__}: {fault}' for session in (serial, threads, steals) for fault in check_faults(session)]
 for fault in wrong[:10]:

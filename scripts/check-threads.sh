@@ -2,19 +2,21 @@
 # Sessions with threads over real files, in orders that nobody chose, and some in serial mode. Each report has to be one that can
 # be, and the files have to be what it says, by scripts/explained.py, which knows nothing of the program. Played are
 #
-#   $SESSIONS sessions (36) of scripts/sessions.py, from the seed $SEED (0) on: in turn one of few clients and many connections, one
+#   $SESSIONS sessions (45) of scripts/sessions.py, from the seed $SEED (0) on: in turn one of few clients and many connections, one
 #       of the kinds of clients before version 3 and all commands, of several segments and periods, one whose cycles have so much work
-#       that workers share them, and one as the second with MIDI clients, ports and lists of events; in serial mode, with 1, 2, 4 and
-#       16 workers, and with 1, 2, 4 and 8 that steal. $ONLY names one of the four: connections, commands, shared or eventful
+#       that workers share them, one as the second with MIDI clients, ports and lists of events, and one as the second with one to
+#       four disk files, of no frame up to more than are played; in serial mode, with 1, 2, 4 and 16 workers, and with 1, 2, 4 and 8
+#       that steal. $ONLY names one of the five: connections, commands, shared, eventful or tracks
 #   $RUNS runs (12) of one script with forty calls on four lanes, in turn with workers and with workers that steal
 #   $TURNS turns (2) of a session of heavy cycles, six chains of clients of which each is shorter than the one before, beside
 #       events: without calls beside its cycles, so that each mode gives the files and the report of serial mode
 #   $RECORDINGS runs (3) each of 3,000 cycles with one and with four recorders: the driver gives way to a full ring, so that few of
 #       them lose a block. How many did is told, and is no fault, since no clause says that none is lost
+#   as many runs each of 3,000 cycles with one and with four disk files. How many missed a block is told, and is no fault either
 #
 # A report or a file that is altered has to be found. A run that does not end in 100 seconds is a fault. That explained.py
 # computes what is right is shown in serial mode: check-rows.sh and check-examples.sh hold it against values from paper. Where the
-# program has `check`, it says of each of these plays that the report explains the files.
+# program has `check`, it says of each of these plays without disk files that the report explains the files.
 set -u
 # shellcheck source=scripts/program.sh
 . "$(dirname "$0")/program.sh" python3
@@ -27,12 +29,12 @@ import os, random, subprocess, sys, tempfile
 sys.dont_write_bytecode = True
 sys.path.insert(0, 'scripts')
 import explained
-from sessions import KINDS, KINDS_OF_SESSIONS, MIDI_KINDS, MODES, chains, command, eventful, head, wave
+from sessions import KINDS, KINDS_OF_SESSIONS, MIDI_KINDS, MODES, chains, command, disk_files, eventful, head, tracks, wave
 
 jackd, checks = sys.argv[1], sys.argv[2] == 'checks'
 sessions, first, runs, turns, recordings = (
-    int(os.environ.get(name, value)) for name, value in (('SESSIONS', 36), ('SEED', 0), ('RUNS', 12), ('TURNS', 2), ('RECORDINGS', 3)))
-faults, beside, heard, checked, reports = [], 0, 0, 0, set()
+    int(os.environ.get(name, value)) for name, value in (('SESSIONS', 45), ('SEED', 0), ('RUNS', 12), ('TURNS', 2), ('RECORDINGS', 3)))
+faults, beside, heard, missed, checked, reports = [], 0, 0, 0, 0, set()
 
 
 def answer(folder, words, what):
@@ -48,23 +50,24 @@ def answer(folder, words, what):
     return ran.stdout
 
 
-def made(lines, capture, what):
+def made(lines, capture, what, disks=()):
     """Plays a script and checks the play: its report and files, or none where that is a fault."""
     global checked
     records = [f'r{k}' for k in range(sum(line.startswith('recorder ') for line in lines))]
     outputs = ['p', *(word for name in records for word in ('--record', name))]
+    given = {'s': ''.join(f'{line}\n' for line in lines).encode(), 'c': capture, **{f'd{k}': held for k, held in enumerate(disks)}}
     with tempfile.TemporaryDirectory() as folder:
-        for name, held in (('s', ''.join(f'{line}\n' for line in lines).encode()), ('c', capture)):
+        for name, held in given.items():
             with open(f'{folder}/{name}', 'wb') as it:
                 it.write(held)
-        report = answer(folder, ['play', 's', 'c', *outputs], what)
+        report = answer(folder, ['play', 's', 'c', *outputs, *(word for k in range(len(disks)) for word in ('--disk', f'd{k}'))], what)
         if report is None:
             return None
         files = []
         for name in ['p', *records]:
             with open(f'{folder}/{name}', 'rb') as it:
                 files.append(it.read())
-        if checks:
+        if checks and not disks:
             with open(f'{folder}/o', 'wb') as it:
                 it.write(report)
             verdict = answer(folder, ['check', 's', 'c', 'o', *outputs], what)
@@ -74,27 +77,31 @@ def made(lines, capture, what):
     return report.decode(), files
 
 
-def played(lines, capture, what):
+def played(lines, capture, what, disks=()):
     """Plays a script; it, its report and files, or none where that is a fault. Each has to be explained."""
-    script, play = ''.join(f'{line}\n' for line in lines), made(lines, capture, what)
+    script, play = ''.join(f'{line}\n' for line in lines), made(lines, capture, what, disks)
     if play is None:
         return None
-    faults.extend(f'{what}: {fault}' for fault in explained.faults_of(script, capture, *play)[:5])
+    faults.extend(f'{what}: {fault}' for fault in explained.faults_of(script, capture, *play, disks)[:5])
     return script, *play
 
 
-kinds = [kind for kind in KINDS_OF_SESSIONS if os.environ.get('ONLY', kind[0].__name__) == kind[0].__name__]
+kinds = [kind for kind in (*KINDS_OF_SESSIONS, (tracks, 2)) if os.environ.get('ONLY', kind[0].__name__) == kind[0].__name__]
 for seed in range(first, first + sessions):
     chance, mode = random.Random(seed), MODES[seed // len(kinds) % len(MODES)]
     session, channels = kinds[seed % len(kinds)]
-    run = played(session(chance, mode), wave(chance, channels, chance.choice([0, 500, 1500])), f'seed {seed}')
+    lines, capture = session(chance, mode), wave(chance, channels, chance.choice([0, 500, 1500]))
+    run = played(lines, capture, f'seed {seed}', disk_files(chance, lines))
     numbers = {line.split()[2] for line in run[1].splitlines() if line.startswith('cycle')} if run else ()
     beside += len(numbers) > 1
     heard += run is not None and '\nmidi ' in run[1]
+    missed += run is not None and '\nunderrun ' in run[1]
 if sessions and not beside:
     faults.append('no session had a call between its cycles')
 if sessions > 3 and (eventful, 2) in kinds and not heard:
     faults.append('no session had an event in a log')
+if sessions > 44 and (tracks, 2) in kinds and not missed:
+    faults.append('no session had an underrun')
 
 # One script: ten calls on each lane, all asking for early cycles, so that the lanes meet.
 chance = random.Random(7)
@@ -115,7 +122,7 @@ if turns:
                 faults.append(f'chains, {mode}: another report or other files than in serial mode')
 
 
-lost = []
+lost, lacked = [], []
 
 
 def recorded(count, mode, what):
@@ -133,17 +140,43 @@ def recorded(count, mode, what):
         faults.append(f'{what}: a record is not what was captured')
 
 
+def tracked(count, mode, what):
+    """Disk files of 3,000 blocks that are played on two channels each are heard whole, or miss some where the machine is busy."""
+    lines = head(3, 64, 1, 16, mode, 'ring 16', *['disk 2'] * count)
+    lines[4] = f'playback {2 * count} 16'
+    for disk in range(count):
+        lines += [f'do open t{disk} disk {disk}', f'do activate t{disk}']
+        for channel in (1, 2):
+            lines += [f'do register t{disk}:{channel} out audio', f'do connect t{disk}:{channel} system:playback_{2 * disk + channel}']
+    tones = [[[chance.randrange(-2**15, 2**15) * 65536 for _ in range(64 * 30)] * 100 for _ in range(2)] for _ in range(count)]
+    files = [explained.wave_of(8000, 2, 16, [x for frame in zip(*channels) for x in frame]) for channels in tones]
+    heard = explained.wave_of(8000, 2 * count, 16, [x for frame in zip(*(channel for channels in tones for channel in channels)) for x in frame])
+    silence, lines = explained.wave_of(8000, 1, 16, []), [*lines, 'run 3000']
+    play = made(lines, silence, what, files)
+    if play and '\nunderrun ' in play[0]:
+        lacked.append(what)
+        faults.extend(f'{what}: {fault}' for fault in explained.faults_of(''.join(f'{line}\n' for line in lines), silence, *play, files)[:5])
+    elif play and play[1] != [heard]:
+        faults.append(f'{what}: the playback is not what the disk files hold')
+
+
 for k in range(recordings):
     recorded(1, MODES[3 + k % 2], f'recording {k}')
     recorded(4, MODES[4 - k % 2], f'recording {k} by four recorders')
+    tracked(1, MODES[4 - k % 2], f'track {k}')
+    tracked(4, MODES[3 + k % 2], f'track {k} of four files')
 
 # What is altered is found: a line that is missing, that stands twice, or that has another number; and one byte of each file. The
 # number of a cycle is raised by more than there are calls, since one that is raised by one may be another report that can be.
-run = played(eventful(random.Random(2), 'steal 2'), capture, 'altered')
-altered = []
-if run:
+found = 0
+for session, mode, seed in ((eventful, 'steal 2', 2), (tracks, 'serial', 6)):
+    lines = session(random.Random(seed), mode)
+    disks = disk_files(random.Random(seed), lines)
+    run = played(lines, capture, 'altered', disks)
+    if not run:
+        continue
     script, report, files = run
-    lines = report.splitlines(keepends=True)
+    lines, altered = report.splitlines(keepends=True), []
     for k, line in enumerate(lines):
         words = line.split()
         others = [[], [line, line]]
@@ -152,18 +185,21 @@ if run:
                 more = 1000 if words[0] == 'cycle' and j == 2 else 1
                 others.append([' '.join([*words[:j], str(int(word) + more), *words[j + 1:]]) + '\n'])
         altered += [(''.join(lines[:k] + other + lines[k + 1:]), files) for other in others]
-    altered = chance.sample(altered, min(150, len(altered)))
-    altered += [(report, [*files[:k], file[:-3] + bytes([file[-3] ^ 1]) + file[-2:], *files[k + 1:]]) for k, file in enumerate(files)]
+    ends = [it for it in altered if it[0].splitlines()[-6:] != report.splitlines()[-6:]]
+    altered = [*chance.sample(altered, min(120, len(altered))), *chance.sample(ends, min(30, len(ends)))]
+    altered += [(report, [*files[:k], file[:-3] + bytes([file[-3] ^ 1]) + file[-2:], *files[k + 1:]]) for k, file in enumerate(files) if len(file) > 46]
+    found += len(altered)
     for other, held in altered:
-        if not explained.faults_of(script, capture, other, held):
+        if not explained.faults_of(script, capture, other, held, disks):
             at = next((b for a, b in zip(lines, other.splitlines(keepends=True)) if a != b), 'a file')
             faults.append(f'an alteration is not found: {at}')
 
 for fault in faults[:40]:
     print('check-threads:', fault)
 if not faults:
-    print(f'check-threads: passed, {sessions} sessions, {beside} of them with calls between their cycles and {heard} with events; {runs} runs of one script with {len(reports)} reports; '
+    print(f'check-threads: passed, {sessions} sessions, {beside} of them with calls between their cycles, {heard} with events and {missed} with underruns; {runs} runs of one script with {len(reports)} reports; '
           f'{turns * len(MODES[1:])} plays of chains; '
-          f'{2 * recordings} recordings, of which {len(lost)} lost a block; {len(altered)} alterations found; {checked} plays checked by the program')
+          f'{2 * recordings} recordings, of which {len(lost)} lost a block, and {2 * recordings} plays of disk files, of which {len(lacked)} missed one; '
+          f'{found} alterations found; {checked} plays checked by the program')
 sys.exit(bool(faults))
 PY

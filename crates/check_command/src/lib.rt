@@ -3,7 +3,10 @@
 
 mod checking;
 mod files;
+mod opening;
 mod top;
 mod verdicts;
 
+pub use play_inputs;
+pub use session_check::run_laws;
 pub use top::check_named;

@@ -17,7 +17,7 @@ use Rattle.jack_host.specs.Causes.{Rose}
 use Rattle.jack_host.specs.Files.{Makes, SameFiles}
 use Rattle.session_run.specs.Seen.{Gear, playback_format, Parts, stores_in}
 use Rattle.recorder_files.specs.Recorders.{Recording, Stored, held_in, held_or, stored_of}
-use Rattle.run_laws.proofs.PlaceLemmas.{mapped_there}
+use Rattle.check_command.specs.run_laws.proofs.PlaceLemmas.{mapped_there}
 use Rattle.session_laws.proofs.ListLemmas.{slice_get-map}
 use Rattle.session_model.specs.Samples.{bytes_of as sample_bytes}
 use Rattle.session_model.specs.WaveFiles.{opening_text}
@@ -26,7 +26,7 @@ use Rattle.client_kinds.specs.Scores.{Score}
 use Rattle.session_run.specs.Standings.{IsAttaching, IsBegun, format_at, format_next}
 use Rattle.driver_words.specs.Tapes.{IsCut, Tape}
 use Rattle.jack_control.specs.Files.{AreFronts, AreOut, Empties, IsOut, KeepsRest, MakesOne, OneFailed}
-use Rattle.play_inputs.specs.Inputs.{Files}
+use Rattle.check_command.specs.play_inputs.specs.Inputs.{Files}
 use Rattle.jack_control.specs.Plays.{TouchesOnly}
 use Rattle.jack_control.proofs.FileLemmas.{empties-made, empties-none, empties_same, out-kept, out_same, touches-after, touches-made, touches-more, touches-wider, touches_none, touches_same}
 use Rattle.jack_control.proofs.NameLemmas.{Contains-front, last_or}
@@ -135,6 +135,7 @@ rest-then old parts after first second = record {
   desk = second.desk ∙ first.desk;
   gear = second.gear ∙ ap (λ (g : Gear). record g { playback = after.gear.playback }) first.gear;
   as_many = second.as_many ∙ first.as_many;
+  players = second.players ∙ first.players;
 }
 
 pub record HaveMade (sounding : Score → Sound) (files now : Option Files) (names : List (List ℕ)) (old parts : Parts) : Type 0 where
@@ -152,7 +153,7 @@ made-none sounding files old is first none = record {
   out = record { as_many = ap (λ stores. length stores) none; each = λ i name store n s. absurd (none-some name n) };
   others = touches_none files [];
   empties = empties-none files;
-  rest = record { desk = refl; gear = refl; as_many = refl };
+  rest = record { desk = refl; gear = refl; as_many = refl; players = refl };
 }
 
 pub made-more : (sounding : Score → Sound) (files a b : Option Files) (names : List (List ℕ)) (name : List ℕ) (old parts after : Parts) → HaveMade sounding files a names old parts

@@ -17,7 +17,7 @@ use Rattle.recorder_files.specs.Recorders.{Stored}
 use Rattle.session_run.specs.Seen.{Parts, stores_in}
 use Rattle.session_run.specs.Standings.{format_at}
 use Rattle.driver_words.specs.Tapes.{IsCut}
-use Rattle.play_inputs.specs.Inputs.{Files}
+use Rattle.check_command.specs.play_inputs.specs.Inputs.{Files}
 use Rattle.jack_control.specs.Plays.{TouchesOnly}
 
 -- the store tells its name, which is there, and its bytes
@@ -49,6 +49,7 @@ pub record KeepsRest (parts after : Parts) : Type 0 where
   pub desk : after.desk ≡ parts.desk
   pub gear : after.gear ≡ record parts.gear { playback = after.gear.playback }
   pub as_many : length after.recorders ≡ length parts.recorders
+  pub players : after.players ≡ parts.players
 
 -- the playback's is at place 0, and that of recorder i at place i + 1
 abbrev pub AreFronts : Parts → List Stored → Type 0

@@ -3,7 +3,7 @@
 ghost use Rattle.std.specs.Prelude.{◌≡◌, ◌+◌, ◌<◌, ◌≤◌, ◌⊎◌, [], ℕ, List, IfSome, IsTrue, OnErr, OnOk, Some, length, suc, take};
 ghost use Rattle.jack_host.specs.Causes.{Adds, Rose};
 ghost use Rattle.jack_host.specs.Files.{IsNamedThere, SameFiles, Stands, StandsInPart};
-ghost use Rattle.run_laws.specs.Told.{text_in};
+ghost use Rattle.check_command.specs.run_laws.specs.Told.{text_in};
 ghost use Rattle.session_run.specs.Seen.{session_of, stores_in};
 ghost use Rattle.session_run.specs.Standings.{HasEnded, IsAttaching, format_next};
 ghost use Rattle.driver_words.specs.Tapes.{IsCut};
@@ -107,6 +107,7 @@ pub(crate) fn hand_back<H: Host, G: Guest>(
     ensures report { text_in (session_of G.sound session.new) ≡ text_in (session_of G.sound session.old) }
     ensures ended { HasEnded G.sound session.old → HasEnded G.sound session.new }
     ensures capture { session.new.gear.capture ≡ session.old.gear.capture }
+    ensures players { session.new.players ≡ session.old.players }
     ensures reads { H.read_faults host.new ≡ H.read_faults host.old }
     ensures lent { H.lent host.new + length (stores_in session.old) ≡ H.lent host.old }
 {

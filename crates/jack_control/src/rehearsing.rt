@@ -11,14 +11,15 @@ ghost use Rattle.jack_control.specs.Plays.{IsExplained};
 ghost use Rattle.jack_control.specs.Rehearsals.{IsRehearsed};
 ghost use Rattle.jack_control.specs.Rehearsing.{HasFiles, IsDone, rehearsal_play};
 
+use crate::disks::back_disks;
 use crate::files::hand_back;
 use crate::opening::open_session;
 use crate::playing::perform;
+use check_command::play_inputs::Status;
 use client_kinds::Guest;
 use host_memory::MemoryHost;
 use jack_host::{Gate, Host, Sink};
 use jack_types::{Entry, Memory};
-use play_inputs::Status;
 use play_words::laws::words_name_one_play;
 use play_words::{Names, play_names};
 use rehearsal_laws::captures::rehearsal_is_a_wave;
@@ -91,6 +92,7 @@ fn play_silently<T: Threads + Sync, R: Wait + Sync, H: Host, G: Guest + Send, A:
     let (mut session, performed, wanted) = perform(threads, wait, gate, names, host, session);
     let history = Vec::from_slice(alloc, session.desk().history());
     let handed = hand_back(host, &mut session, wanted);
+    back_disks(host, &mut session);
     host.back(session.into_capture().into_source());
     if let Err(status) = performed {
         return Err(status);

@@ -26,9 +26,8 @@ const UNPRINTED: u8 = 6;
 // The exit code of a strict play that lost something.
 const LOSSY: u8 = 9;
 
-// The most files of a command: the script, the capture, the report of a check, the playback, and a file of each of four
-// recorders.
-const MOST_FILES: usize = 8;
+// The most files of a command: the script, the capture, the playback, and a file of each of four recorders and of four disks.
+const MOST_FILES: usize = 11;
 
 // The words of the command line, without the program's name.
 fn words(rt: &(impl Env + AllocGlobal)) -> io::Result<Vec<String>> {

@@ -9,3 +9,8 @@ pub mod numbers;
 pub mod openings;
 pub mod parts;
 pub mod rings;
+
+pub use disk_runs;
+pub use recorder_files;
+pub use run_laws;
+pub use run_laws::{control_desk, serial_lanes};

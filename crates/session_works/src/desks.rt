@@ -1,8 +1,8 @@
 //! What the type of a desk keeps.
 
-ghost use Rattle.control_desk.specs.Desks.{IsDesk};
+ghost use Rattle.serial_laws.specs.control_desk.specs.Desks.{IsDesk};
 
-use control_desk::Desk;
+use serial_laws::control_desk::Desk;
 
 /// What a desk's type keeps.
 pub fn kept_by_type(desk: &Desk)

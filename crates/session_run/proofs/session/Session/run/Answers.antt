@@ -6,14 +6,14 @@ use Rattle.session_run.proofs.ModeLemmas.{has-threads, is-serial}
 use Rattle.session_run.proofs.session.Session.run.Goals as goal
 
 pub run_serial-ran-requires-clause-serial : goal.run_serial-ran-requires-clause-serial
-run_serial-ran-requires-clause-serial g c κs within = is-serial _ c.self.inside.is_serial c.self.invariant.3 c.if-is_serial.true
+run_serial-ran-requires-clause-serial g c κs within = is-serial _ c.self.inside.is_serial c.self.invariant.4 c.if-is_serial.true
 
 pub returns-then-is_serial-clause-write : goal.returns-then-is_serial-clause-write
 returns-then-is_serial-clause-write g c =
     subst (λ (p : Parts). IsErrOf c.run_serial-ran.result Write → OneRose (stores_in p) (stores_in c.run_serial-ran.new.parts)) c.self.view_is c.run_serial-ran.ensures.write
 
 pub run_threads-parts-requires-clause-threads : goal.run_threads-parts-requires-clause-threads
-run_threads-parts-requires-clause-threads g c κs within = has-threads _ c.self.inside.is_serial c.self.invariant.3 c.if-is_serial.false
+run_threads-parts-requires-clause-threads g c κs within = has-threads _ c.self.inside.is_serial c.self.invariant.4 c.if-is_serial.false
 
 pub returns-clause-so_far : goal.returns-clause-so_far
 returns-clause-so_far g c threads =
