@@ -10,7 +10,7 @@ python3 - "$jackd" README.md examples/README.md docs/*.md <<'PY'
 import os, re, shutil, subprocess, sys, tempfile
 
 program, documents = os.path.abspath(sys.argv[1]), sys.argv[2:]
-missing = [it for it in ('sox', 'ffprobe', 'man') if not shutil.which(it)]
+missing = [it for it in ('dot', 'sox', 'ffprobe', 'man') if not shutil.which(it)]
 block = re.compile(r'^```(\S+)(?: (\S+))?\n(.*?)^```$', re.M | re.S)
 faults = commands = 0
 
