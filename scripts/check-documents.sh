@@ -2,12 +2,12 @@
 # Each result that README.md and docs/*.md print is what the program gives. In these documents a fenced block whose first
 # line has two words, as in ```text first.session, is a file of that name; a ```console block is commands behind `$ `, each
 # with what it prints. A document's blocks are run in their order, in a folder of their own, with `jackd` on the path.
-# A command that needs a tool that is missing is passed over.
+# A command that needs a tool that is missing is passed over. The files of docs/TUTORIAL.md are those of examples/tutorial/.
 set -u
 # shellcheck source=scripts/program.sh
 . "$(dirname "$0")/program.sh" python3
 python3 - "$jackd" README.md examples/README.md docs/*.md <<'PY'
-import os, re, shutil, subprocess, sys, tempfile
+import glob, os, re, shutil, subprocess, sys, tempfile
 
 program, documents = os.path.abspath(sys.argv[1]), sys.argv[2:]
 missing = [it for it in ('dot', 'sox', 'ffprobe', 'man') if not shutil.which(it)]
@@ -58,6 +58,12 @@ for document in documents:
                     if got != result:
                         faults += 1
                         print(f'check-documents: {document}: {command}\n-- printed\n{got}-- and not\n{result}', end='')
+named = {name: text for _, name, text in block.findall(open('docs/TUTORIAL.md').read()) if name}
+kept = {os.path.basename(it): open(it).read() for it in glob.glob('examples/tutorial/*')}
+for name in sorted({*named, *kept}):
+    if named.get(name) != kept.get(name):
+        faults += 1
+        print(f'check-documents: {name} differs in docs/TUTORIAL.md and in examples/tutorial/')
 if not faults:
     print(f'check-documents: passed, {commands} commands')
 sys.exit(faults != 0)
