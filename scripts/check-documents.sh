@@ -1,7 +1,8 @@
 #!/usr/bin/env bash
 # Each result that README.md and docs/*.md print is what the program gives. In these documents a fenced block whose first
 # line has two words, as in ```text first.session, is a file of that name; a ```console block is commands behind `$ `, each
-# with what it prints. A document's blocks are run in their order, in a folder of their own, with `jackd` on the path.
+# with what it prints. A document's blocks are run in their order, in a folder of their own, with `jackd` on the path; that of
+# examples/README.md has the files of examples/.
 # A command that needs a tool that is missing is passed over. The files of docs/TUTORIAL.md are those of examples/tutorial/.
 set -u
 # shellcheck source=scripts/program.sh
@@ -27,7 +28,7 @@ def run(words, place, path):
     """What these commands print, one after the other in one shell, with standard error behind."""
     mark = 'the end of one command'
     script = ''.join(f'{it}\n{{ mark=$?; echo; echo "{mark}"; (exit $mark); }} 2>/dev/null\n' for it in words)
-    done = subprocess.run(['bash', '-c', script], cwd=place, env={**os.environ, 'PATH': path}, stdout=subprocess.PIPE, stderr=subprocess.DEVNULL, text=True)
+    done = subprocess.run(['bash', '-c', script], cwd=place, env={**os.environ, 'PATH': path, 'TMPDIR': place}, stdout=subprocess.PIPE, stderr=subprocess.DEVNULL, text=True)
     return done.stdout.split(f'\n{mark}\n')
 
 
@@ -35,8 +36,11 @@ for document in documents:
     blocks = block.findall(open(document).read())
     with tempfile.TemporaryDirectory() as folder:
         place, tool = f'{folder}/work', f'{folder}/tool'
-        os.mkdir(place)
         os.mkdir(tool)
+        if os.path.dirname(document) == 'examples':
+            shutil.copytree('examples', place)
+        else:
+            os.mkdir(place)
         os.symlink(program, f'{tool}/jackd')
         path = f'{tool}:{os.environ["PATH"]}'
         for language, name, text in blocks:
