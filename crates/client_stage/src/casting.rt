@@ -4,11 +4,11 @@ ghost use Rattle.std.specs.Prelude.{◌≡◌, ◌<◌, ◌≤◌, ◌+◌, ◌^
 ghost use Rattle.std.specs.List.Sorted.{IsPermutation};
 ghost use Rattle.session_model.specs.Kinds.{Memory as MemoryValue};
 ghost use Rattle.port_registry.specs.Registered.{open_clients};
-ghost use Rattle.stage_laws.specs.client_benches.specs.Seen.{cleared};
-ghost use Rattle.stage_laws.specs.client_wiring.specs.Wirings.{wired_of};
-ghost use Rattle.stage_laws.specs.bench_rack.specs.Racks.{bench_at};
-ghost use Rattle.stage_laws.specs.client_seats.specs.Moves.{kinds_of};
-ghost use Rattle.stage_laws.specs.client_seats.specs.Seatings.{HasNoPast, HavePeriod, IsIdle, IsRefused, IsSeating, memory_of, standing_at};
+ghost use Rattle.client_benches.specs.Seen.{cleared};
+ghost use Rattle.client_wiring.specs.Wirings.{wired_of};
+ghost use Rattle.bench_rack.specs.Racks.{bench_at};
+ghost use Rattle.client_seats.specs.Moves.{kinds_of};
+ghost use Rattle.client_seats.specs.Seatings.{HasNoPast, HavePeriod, IsIdle, IsRefused, IsSeating, memory_of, standing_at};
 ghost use Rattle.stage_laws.specs.Known.{SeatsPlan};
 ghost use Rattle.client_stage.specs.Casting.{HasCast};
 ghost use Rattle.client_stage.specs.Resting.{Recalls};

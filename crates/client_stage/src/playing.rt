@@ -17,7 +17,7 @@ impl<G: Guest + Send> Stage<G> {
     ghost use Rattle.std.specs.Prelude.{◌≡◌, ◌<◌, ◌≤◌, ◌+◌, ◌^◌, false, length, true};
     ghost use Rattle.std.specs.List.Sorted.{IsPermutation};
     ghost use Rattle.graph_word.specs.Publications.{IsFront};
-    ghost use Rattle.stage_laws.specs.client_seats.specs.Moves.{kinds_of};
+    ghost use Rattle.client_seats.specs.Moves.{kinds_of};
     ghost use Rattle.stage_laws.specs.Performances.{PerformsPlan};
     ghost use Rattle.stage_laws.specs.Standing.{StandsOn};
     ghost use Rattle.client_stage.specs.Resting.{Rests};

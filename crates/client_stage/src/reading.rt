@@ -9,7 +9,7 @@ use stage_laws::client_wiring::Heard;
 impl<G: Guest> Stage<G> {
     ghost use Rattle.std.specs.Prelude.{◌≡◌, ◌≤◌, length};
     ghost use Rattle.std.specs.Option.{option_map_or};
-    ghost use Rattle.stage_laws.specs.client_seats.specs.Seatings.{memory_of};
+    ghost use Rattle.client_seats.specs.Seatings.{memory_of};
     ghost use Rattle.stage_laws.specs.Standing.{StandsOn};
 
     /// Whether each client of the plan that was played last has a bench.

@@ -3,9 +3,9 @@
 ghost use Rattle.std.specs.Prelude.{◌≡◌, ◌*◌, ◌+◌, ◌-◌, ◌/◌, ◌≤◌, ◌<◌, All, IfOk, None, Some, [], ◌∷◌, length, map, min, replicate, true};
 ghost use Rattle.std.specs.Vec.{vec_capacity};
 ghost use Rattle.session_model.specs.Samples.{silence};
-ghost use Rattle.stage_laws.specs.client_benches.specs.Seen.{new_bench};
+ghost use Rattle.client_benches.specs.Seen.{new_bench};
 ghost use Rattle.client_kinds.specs.Standings.{IsPlayable};
-ghost use Rattle.stage_laws.specs.client_wiring.specs.Wirings.{wired_of};
+ghost use Rattle.client_wiring.specs.Wirings.{wired_of};
 ghost use Rattle.stage_laws.specs.Standing.{EnoughLinks, StandsOn};
 
 use crate::parts::Parts;
