@@ -1,10 +1,10 @@
 //! What is read of a stage between two cycles.
 
 use crate::stage::Stage;
+use bench_rack::Rack;
 use client_kinds::Guest;
-use stage_laws::bench_rack::Rack;
-use stage_laws::client_seats::peak;
-use stage_laws::client_wiring::Heard;
+use client_seats::peak;
+use client_wiring::Heard;
 
 impl<G: Guest> Stage<G> {
     ghost use Rattle.std.specs.Prelude.{◌≡◌, ◌≤◌, length};

@@ -24,13 +24,13 @@ use crate::casting::cast;
 use crate::laws::a_cast_is_the_stages;
 use crate::parts::Parts;
 use client_kinds::Guest;
+use client_tasks::{move_all, place_last, rest_all};
+use cycle_plan::Plan;
 use jack_types::Moment;
-use stage_laws::client_tasks::{move_all, place_last, rest_all};
-use stage_laws::cycle_plan::Plan;
 use stage_laws::owning::{a_seating_keeps_owners_known, kinds_alone_count, owners_stay_known};
 use stage_laws::stages::a_stage_goes_on_with_its_plan;
-use stage_laws::task_laws::plans::links_are_few;
 use std::mem;
+use task_laws::plans::links_are_few;
 
 /// Casts the clients of another plan than the last one.
 fn cast_anew<G: Guest>(parts: &mut Parts<G>, crew: usize, plan: &Plan, moment: &Moment, period: u32)
