@@ -6,7 +6,7 @@ ghost use Rattle.wave_pcm.specs.Readings.{SameReading};
 ghost use Rattle.driver_words.specs.Tapes.{Tape};
 ghost use Rattle.cycle_driver.specs.declared.faults.CycleFault.{CycleFault as Fault};
 ghost use Rattle.cycle_driver.specs.Gears.{driver_of};
-ghost use Rattle.cycle_works.specs.driver_laws.specs.Cycling.{CyclesMany, FailsAtRead};
+ghost use Rattle.driver_laws.specs.Cycling.{CyclesMany, FailsAtRead};
 ghost use Rattle.cycle_driver.specs.Runs.{AreNext, BreaksAtWrite, IsGoing, RunsInto, StaysInRun};
 
 use crate::giving::give_way;

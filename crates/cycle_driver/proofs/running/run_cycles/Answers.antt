@@ -4,8 +4,8 @@ use Rattle.session_model.specs.Scripts.{Script}
 use Rattle.driver_words.specs.Tapes.{SameFile, Tape}
 use Rattle.wave_pcm.specs.Readings.{SameReading}
 use Rattle.cycle_driver.specs.Gears.{Gear, driver_of}
-use Rattle.cycle_works.specs.driver_laws.specs.Cycling.{CyclesMany, MayCycle}
-use Rattle.cycle_works.specs.driver_laws.specs.Drivers.{Driver, run}
+use Rattle.driver_laws.specs.Cycling.{CyclesMany, MayCycle}
+use Rattle.driver_laws.specs.Drivers.{Driver, run}
 use Rattle.cycle_driver.specs.Runs.{IsGoing, StaysInRun}
 use Rattle.cycle_driver.proofs.RunLemmas.{by-fault, going-next, may-next, reading-then, run-next, stays-ran, stays-then, stays-unread, stays-unwritten}
 use Rattle.cycle_driver.proofs.running.run_cycles.Goals as goal
