@@ -77,8 +77,8 @@ fn a_held_disk_file_is_late_by_the_cycles_in_which_it_was_held(
     let gate = HoldingGate::new(Held::Disk);
     let script = text(rt.alloc(), &[DEVICE, ONE_WORKER, TRACK])?;
     let mut samples = [0; 80];
-    for place in 0..80_usize {
-        samples[place] = place as i32 + 1;
+    for (place, sample) in samples.iter_mut().enumerate() {
+        *sample = (place as i32).saturating_add(1);
     }
     let silence = wave(rt.alloc(), FORMAT, &[])?;
     let mut host = host_with(rt.alloc(), script.as_bytes(), &silence)?;
