@@ -12,6 +12,7 @@ use std::alloc::{AllocError, Global};
 
 // The boxes of `system`. No client has a colon in its name.
 const CAPTURE: &str = "system:capture";
+
 const PLAYBACK: &str = "system:playback";
 
 // The client's name in a port's.
