@@ -13,6 +13,8 @@
 #   $RECORDINGS runs (3) each of 3,000 cycles with one and with four recorders: the driver gives way to a full ring, so that few of
 #       them lose a block. How many did is told, and is no fault, since no clause says that none is lost
 #   as many runs each of 3,000 cycles with one and with four disk files. How many missed a block is told, and is no fault either
+#   a disk file from a pipe, in serial mode and in each mode of threads: it gives no more than the ring holds until the cycles of a
+#       segment are over. Then just the other cycles are underruns, and in the next segment the file goes on; in serial mode there is none
 #
 # A report or a file that is altered has to be found. A run that does not end in 100 seconds is a fault. That explained.py
 # computes what is right is shown in serial mode: check-rows.sh and check-examples.sh hold it against values from paper. Where the
@@ -24,7 +26,7 @@ set -u
 checks=no
 "$jackd" --help | grep -q 'jackd check ' && checks=checks
 python3 - "$jackd" "$checks" <<'PY'
-import os, random, subprocess, sys, tempfile
+import os, random, subprocess, sys, tempfile, time
 
 sys.dont_write_bytecode = True
 sys.path.insert(0, 'scripts')
@@ -96,7 +98,7 @@ for seed in range(first, first + sessions):
     beside += len(numbers) > 1
     heard += run is not None and '\nmidi ' in run[1]
     missed += run is not None and '\nunderrun ' in run[1]
-if sessions and not beside:
+if sessions > 8 and not beside:
     faults.append('no session had a call between its cycles')
 if sessions > 3 and (eventful, 2) in kinds and not heard:
     faults.append('no session had an event in a log')
@@ -160,6 +162,60 @@ def tracked(count, mode, what):
         faults.append(f'{what}: the playback is not what the disk files hold')
 
 
+def sleeps(process):
+    """Waits until no thread of a process has run for a tenth of a second, or it is over."""
+    quiet = 0
+    while quiet < 5 and process.poll() is None:
+        states = set()
+        for thread in os.listdir(f'/proc/{process.pid}/task'):
+            try:
+                with open(f'/proc/{process.pid}/task/{thread}/stat') as it:
+                    states.add(it.read().rpartition(')')[2].split()[0])
+            except OSError:
+                states.add('gone')
+        quiet = quiet + 1 if states == {'S'} else 0
+        time.sleep(0.02)
+
+
+def held_back(mode):
+    """A disk file of eight blocks whose second four come when the first 40 cycles are over: its ring holds four."""
+    tone = [chance.randrange(1, 2**15) * 65536 for _ in range(64)]
+    track, silence = explained.wave_of(8000, 1, 16, tone), explained.wave_of(8000, 1, 16, [])
+    calls = ['do open t disk 0', 'do register t:o out audio', 'do activate t', 'do connect t:o system:playback_1']
+    script = ''.join(f'{line}\n' for line in [*head(3, 8, 1, 16, mode, 'ring 4', 'disk 1'), *calls, 'run 40', 'run 4', 'run 2'])
+    with tempfile.TemporaryDirectory() as folder:
+        for name, there in (('s', script.encode()), ('c', silence)):
+            with open(f'{folder}/{name}', 'wb') as it:
+                it.write(there)
+        os.mkfifo(f'{folder}/d')
+        pipe = os.open(f'{folder}/d', os.O_RDWR)
+        os.write(pipe, track[:44 + 4 * 16])
+        ran = subprocess.Popen([jackd, 'play', 's', 'c', 'p', '--disk', 'd'], cwd=folder, stdout=subprocess.PIPE, stderr=subprocess.PIPE)
+        sleeps(ran)
+        os.write(pipe, track[44 + 4 * 16:])
+        os.close(pipe)
+        try:
+            report, told = ran.communicate(timeout=100)
+        except subprocess.TimeoutExpired:
+            ran.kill()
+            return f'no end in 100 seconds, {ran.communicate()}'
+        if ran.returncode:
+            return f'exit code {ran.returncode}: {told}'
+        with open(f'{folder}/p', 'rb') as it:
+            played = it.read()
+    missed = range(5, 41) if mode != 'serial' else ()
+    heard = tone[:32] + [0] * 8 * len(missed) + tone[32:] + [0] * 8 * (38 - len(missed))
+    lines = [f'disk 0 8 {len(missed)}', *(f'underrun 0 {k} 4 4' for k in missed), 'end']
+    if report.decode().splitlines()[-len(lines):] != lines:
+        return f'the report ends with {report[-300:]}'
+    if played != explained.wave_of(8000, 1, 16, heard):
+        return 'the playback is not the disk file with silence in its underruns'
+    return ''.join(explained.faults_of(script, silence, report.decode(), [played], [track]))
+
+
+if recordings:
+    faults.extend(f'a disk file that is held back, {mode}: {fault}' for mode in MODES for fault in [held_back(mode)] if fault)
+
 for k in range(recordings):
     recorded(1, MODES[3 + k % 2], f'recording {k}')
     recorded(4, MODES[4 - k % 2], f'recording {k} by four recorders')
@@ -199,7 +255,7 @@ for fault in faults[:40]:
 if not faults:
     print(f'check-threads: passed, {sessions} sessions, {beside} of them with calls between their cycles, {heard} with events and {missed} with underruns; {runs} runs of one script with {len(reports)} reports; '
           f'{turns * len(MODES[1:])} plays of chains; '
-          f'{2 * recordings} recordings, of which {len(lost)} lost a block, and {2 * recordings} plays of disk files, of which {len(lacked)} missed one; '
+          f'{2 * recordings} recordings, of which {len(lost)} lost a block, and {2 * recordings} plays of disk files, of which {len(lacked)} missed one; {len(MODES) if recordings else 0} disk files held back; '
           f'{found} alterations found; {checked} plays checked by the program')
 sys.exit(bool(faults))
 PY
