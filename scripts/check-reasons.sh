@@ -469,10 +469,25 @@ case('a strict play of lost blocks', ['play', '--strict', *PLAY[1:], '--record',
 case('a strict play of a refused call', [*PLAY, '--strict'], 9, REFUSED,
     'jackd: s:7: close a: refused 1 NoClient (no client a is open)\njackd: 1 of 1 call was refused\n',
     files={'s': text('do close a', 'run 2')}, made=['p'])
-# An underrun is told by the report alone: nothing is lost by it.
-UNDERRUN = {'s': text('do open d disk 0', 'do activate d', 'run 2', header=['jackd 3', *HEADER[1:], 'fill 0', 'disk 1']), 'd': wave()}
-for words in ['play', *PLAY[1:], '--disk', 'd'], ['play', '--strict', *PLAY[1:], '--disk', 'd']:
-    case('underruns', words, 0, report(TAPED[:2], stopped(2, 2), ['disk 0 0 2', 'underrun 0 1 0 0', 'underrun 0 2 0 0']), '', files=UNDERRUN, made=['p'])
+# Underruns: blocks are put into the ring in the freewheel cycle alone, two of them, of which that cycle plays one.
+LATE = ['jackd 3', *HEADER[1:], 'ring 2', 'fill 0']
+FILL = 'jackd: "fill 1" has no underrun, nor has a "freewheel" segment\n'
+PLAYER = ['do open d disk 0', 'do activate d']
+UNDERRUN = {'s': text(*PLAYER, 'run 2', header=[*LATE, 'disk 1']), 'd': wave()}
+MISSED = report(TAPED[:2], stopped(2, 2), ['disk 0 0 2', 'underrun 0 1 0 0', 'underrun 0 2 0 0'])
+TOLD_LATE = 'jackd: d: 2 underruns beside 0 blocks played, the first in cycle 1 (second 0.000); each is silent, and the track is late from there on\n' + FILL
+case('underruns', [*PLAY, '--disk', 'd'], 0, MISSED, TOLD_LATE, files=UNDERRUN, made=['p'])
+case('a strict play of underruns', ['play', '--strict', *PLAY[1:], '--disk', 'd'], 9, MISSED, TOLD_LATE, files=UNDERRUN, made=['p'])
+case('underruns of a script from a pipe', ['play', '/dev/stdin', 'c', 'p', '--disk', 'd'], 0, MISSED, TOLD_LATE, files={'d': wave()}, made=['p'], stdin=UNDERRUN['s'])
+case('one underrun', [*PLAY, '--disk', 'd'], 0, report(TAPED[:2], stopped(3, 2), ['disk 0 2 1', 'underrun 0 3 2 2']),
+    'jackd: d: 1 underrun beside 2 blocks played, in cycle 3 (second 0.002); it is silent, and the track is late from there on\n' + FILL,
+    files={'s': text(*PLAYER, 'freewheel 1', 'run 2', header=[*LATE, 'disk 1']), 'd': wave(data=bytes(512))}, made=['p'])
+case('underruns of the second disk, and a lost block', [*PLAY, '--record', 't', '--disk', 'd', '--disk', './d'], 0,
+    report(TAPED, stopped(4, 4), ['recorder 0 3 1', 'overrun 0 4 3 1', 'disk 0 0 0', 'disk 1 2 2', 'underrun 1 3 2 2', 'underrun 1 4 2 2']),
+    'jackd: t: 1 of 4 blocks was lost, in cycle 4 (second 0.004); the file is shifted from there on\n' + DRAIN
+    + 'jackd: ./d: 2 underruns beside 2 blocks played, the first in cycle 3 (second 0.002); each is silent, and the track is late from there on\n' + FILL,
+    files={'s': text('do open t record 0', 'do activate t', 'do open d disk 1', 'do activate d', 'freewheel 1', 'run 3',
+        header=['jackd 3', *HEADER[1:], 'ring 2', 'drain 0', 'fill 0', 'recorder 1 16', 'disk 1', 'disk 1']), 'd': wave(data=bytes(512))}, made=['p', 't'])
 case('a strict play of nothing wrong', ['play', 's', '--strict', 'c', 'p', '--strict'], 0, PLAYED, '', made=['p'])
 case('a strict play of a faulty script', [*PLAY, '--strict'], 5, b'fault 5 script 7 Unknown\n',
     'jackd: s:7: no command "strat"; is "start" meant?\n    do strat\n', files={'s': text('do strat', 'run 2')})

@@ -4,7 +4,3 @@ pub mod Lines
 pub mod Answers
 pub mod Files
 pub mod Verdicts
-pub use Rattle.session_check.specs.control_desk
-pub use Rattle.play_inputs
-pub use Rattle.session_check.specs.run_laws
-pub use Rattle.session_check.specs.serial_laws

@@ -7,6 +7,4 @@ mod opening;
 mod top;
 mod verdicts;
 
-pub use play_inputs;
-pub use session_check::run_laws;
 pub use top::check_named;

@@ -3,7 +3,7 @@
 use crate::checks::{hint_of_wrong, reason_of_wrong};
 use host_files::{FailureKind, FileHost, WriterSink};
 use host_listener::ListeningHost;
-use lost_blocks::Losses;
+use lost_blocks::{Losses, Owner};
 use play_inputs::{Difference, Status, What};
 use play_words::{CheckNames, Names, check_names, play_names, rehearsal_number};
 use refused_calls::Notes;
@@ -14,10 +14,10 @@ use std::fs::{File, Files};
 use std::os::unix::fs::MetadataExt;
 use std::{fs, io};
 use told_reasons::{
-    Capture, Reason, of_capture, of_channels, of_closing, of_disk_channels, of_disks,
+    Capture, Reason, of_capture, of_channels, of_closing, of_disk_channels, of_disks, of_fills,
     of_foreign_word, of_graph, of_guests, of_input, of_lost_blocks, of_making, of_open_output,
-    of_rate, of_records, of_refusals, of_report, of_rings, of_script, of_summary, of_verdict,
-    of_wave, of_words, of_writing, of_wrong, read_again, standing_in,
+    of_rate, of_records, of_refusals, of_report, of_rings, of_script, of_summary, of_underruns,
+    of_verdict, of_wave, of_words, of_writing, of_wrong, read_again, standing_in,
 };
 
 /// The reason of exit code 1.
@@ -53,7 +53,7 @@ const MOST_OF_WORD: usize = 4096;
 pub type Told = Result<Option<Reason>, AllocError>;
 
 /// Tells on standard error why a call ended as it did, and of a play that ended well which calls were refused, which blocks
-/// were lost, and whether its capture fits. The host has heard the script and the capture.
+/// were lost, which disks had underruns, and whether its capture fits. The host has heard the script and the capture.
 pub fn tell<R: Files<File = File> + Env + AllocGlobal + Eprint, W>(
     rt: &R,
     words: &[String],
@@ -65,6 +65,7 @@ pub fn tell<R: Files<File = File> + Env + AllocGlobal + Eprint, W>(
     print_told(rt, &hint_of(rt, words, front_of(host, OF_SCRIPT), status));
     if let (Status::Ok, Some(names)) = (status, play_names(words)) {
         tell_losses(rt, &names, front_of(host, OF_SCRIPT), out.losses());
+        tell_underruns(rt, &names, front_of(host, OF_SCRIPT), out.losses());
         print_told(rt, &reason_of_capture(rt, &names, host));
     }
 }
@@ -79,27 +80,44 @@ fn front_of<H>(host: &ListeningHost<H>, place: usize) -> &[u8] {
 
 // Tells of each recorder that lost blocks, and how none is lost.
 fn tell_losses<R: AllocGlobal + Eprint>(rt: &R, names: &Names<'_>, script: &[u8], losses: &Losses) {
-    if !losses.has_any() {
-        return;
-    }
+    let mut are_lost = false;
     for place in 0..names.records() {
-        print_told(
-            rt,
-            &reason_of_tape(rt.alloc(), names.record(place), script, losses, place),
-        );
+        let stream = losses.of(Owner::Recorder(place));
+        if stream.missed > 0 {
+            are_lost = true;
+            let reason = of_lost_blocks(rt.alloc(), names.record(place), script, stream);
+            print_told(rt, &told(reason));
+        }
     }
-    print_told(rt, &reason_of_rings(rt.alloc(), script));
-}
-
-fn reason_of_tape(alloc: Global, file: &str, script: &[u8], losses: &Losses, place: usize) -> Told {
-    match losses.tapes().get(place) {
-        Some(tape) if tape.lost > 0 => Ok(Some(of_lost_blocks(alloc, file, script, *tape)?)),
-        _ => Ok(None),
+    if are_lost {
+        print_told(rt, &told(of_rings(rt.alloc(), script)));
     }
 }
 
-fn reason_of_rings(alloc: Global, script: &[u8]) -> Told {
-    Ok(Some(of_rings(alloc, script)?))
+// Tells of each disk that had underruns, and how there is none.
+fn tell_underruns<R: AllocGlobal + Eprint>(
+    rt: &R,
+    names: &Names<'_>,
+    script: &[u8],
+    losses: &Losses,
+) {
+    let mut are_late = false;
+    for place in 0..names.disks() {
+        let stream = losses.of(Owner::Disk(place));
+        if stream.missed > 0 {
+            are_late = true;
+            let reason = of_underruns(rt.alloc(), names.disk(place), script, stream);
+            print_told(rt, &told(reason));
+        }
+    }
+    if are_late {
+        print_told(rt, &told(of_fills(rt.alloc(), script)));
+    }
+}
+
+// A reason that there is in any case, unless no memory is left for it.
+fn told(reason: Result<Reason, AllocError>) -> Told {
+    Ok(Some(reason?))
 }
 
 fn reason_of_capture<R: Files<File = File> + AllocGlobal>(

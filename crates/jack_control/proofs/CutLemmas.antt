@@ -24,13 +24,13 @@ use Rattle.session_laws.proofs.LoopFreeLemmas.{Contains-append_left}
 use Rattle.port_registry.proofs.PlaceLemmas.{Apart-place}
 use Rattle.driver_laws.specs.Keeping.{kept_blocks, played_so_far}
 use Rattle.recorder_files.specs.Recorders.{Stored}
-use Rattle.check_command.specs.run_laws.proofs.PlaceLemmas.{front_there, some_at}
-use Rattle.check_command.specs.run_laws.specs.Sessions.{IsGiven}
-use Rattle.check_command.specs.serial_laws.specs.Faults.{serial_course_of}
+use Rattle.run_laws.proofs.PlaceLemmas.{front_there, some_at}
+use Rattle.run_laws.specs.Sessions.{IsGiven}
+use Rattle.serial_laws.specs.Faults.{serial_course_of}
 use Rattle.play_words.specs.Words.{Play}
 use Rattle.session_run.specs.Seen.{Parts, session_of}
 use Rattle.jack_control.specs.Files.{AllStand, AreApart, AreOut, IsHeld, IsPart, IsWhole, Stand, Standing}
-use Rattle.check_command.specs.play_inputs.specs.Inputs.{Files}
+use Rattle.play_inputs.specs.Inputs.{Files}
 use Rattle.jack_control.specs.Openings.{IsSessionOf}
 use Rattle.jack_control.specs.Performances.{Explain, HaveCut, HaveCutSoFar, HaveFronts, MadeSome, front_at, front_so_far}
 use Rattle.jack_control.specs.Plays.{AreMadeInOrder, Cuts, IsExplained, IsMadeOrKept, IsPlayCut, Plays, TouchesOnly, made_by}

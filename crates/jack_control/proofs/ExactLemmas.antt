@@ -3,11 +3,11 @@ use Rattle.std.proofs.Common.{ℕ, List, Some, None}
 use Rattle.std.specs.Prelude.{Option}
 use Rattle.session_model.specs.Kinds.{Sound}
 use Rattle.play_words.specs.Words.{Play}
-use Rattle.check_command.specs.play_inputs.specs.declared.status.Status.{Status}
-use Rattle.check_command.specs.play_inputs.specs.Answers.{HasRefusal}
-use Rattle.check_command.specs.play_inputs.specs.Inputs.{Files}
+use Rattle.play_inputs.specs.declared.status.Status.{Status}
+use Rattle.play_inputs.specs.Answers.{HasRefusal}
+use Rattle.play_inputs.specs.Inputs.{Files}
 use Rattle.jack_control.specs.Plays.{IsExplained}
-use Rattle.check_command.specs.play_inputs.proofs.ExactLemmas.{input-fits, refused-fits}
+use Rattle.play_inputs.proofs.ExactLemmas.{input-fits, refused-fits}
 
 pub exact-ok : (files new : Option Files) (out out_after : Option (List ℕ)) (scores : List Sound) (play : Play) (fault : Status) → HasRefusal files scores play fault
     → IsExplained files new out out_after scores play → ⊥

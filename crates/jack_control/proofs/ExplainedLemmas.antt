@@ -31,11 +31,11 @@ use Rattle.front_laws.proofs.FrontLemmas.{any-front}
 use Rattle.driver_laws.specs.Drivers.{overruns_on, run, underruns_on}
 use Rattle.driver_laws.specs.Keeping.{kept_blocks, played_so_far}
 use Rattle.recorder_files.specs.Recorders.{Recording, Stored, held_in, held_or}
-use Rattle.check_command.specs.run_laws.proofs.PlaceLemmas.{mapped_there}
-use Rattle.check_command.specs.run_laws.specs.Sessions.{IsGiven, Session, course_in, printed_of}
-use Rattle.check_command.specs.run_laws.specs.Told.{Ends, Runs, StandsSoFar, text_in}
-use Rattle.check_command.specs.serial_laws.specs.Faults.{StandsInSerial, playback_front, record_front, serial_course_of}
-use Rattle.check_command.specs.serial_laws.proofs.FrontLemmas.{HasFront-told, KeptAreAll, PlayedIsAll}
+use Rattle.run_laws.proofs.PlaceLemmas.{mapped_there}
+use Rattle.run_laws.specs.Sessions.{IsGiven, Session, course_in, printed_of}
+use Rattle.run_laws.specs.Told.{Ends, Runs, StandsSoFar, text_in}
+use Rattle.serial_laws.specs.Faults.{StandsInSerial, playback_front, record_front, serial_course_of}
+use Rattle.serial_laws.proofs.FrontLemmas.{HasFront-told, KeptAreAll, PlayedIsAll}
 use Rattle.session_run.specs.Seen.{Parts, bytes_of, session_of, stores_in, told_of}
 use Rattle.session_run.specs.Standings.{format_at}
 use Rattle.jack_control.specs.Files.{AreFronts}

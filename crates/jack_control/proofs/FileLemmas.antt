@@ -19,7 +19,7 @@ use Rattle.recorder_files.specs.Recorders.{Stored}
 use Rattle.session_laws.proofs.LoopFreeLemmas.{Contains-append_left}
 use Rattle.session_laws.proofs.LoopLemmas.{Contains-first, Contains-later}
 use Rattle.jack_control.specs.Files.{Empties, HandsOne, HasBytes, IsOut, IsPart, IsWhole, Standing}
-use Rattle.check_command.specs.play_inputs.specs.Inputs.{Files}
+use Rattle.play_inputs.specs.Inputs.{Files}
 use Rattle.jack_control.specs.Plays.{TouchesOnly}
 use Rattle.jack_control.proofs.NameLemmas.{Contains-last, Contains-one, differ}
 

@@ -12,7 +12,7 @@ use Rattle.jack_host.specs.Files.{IsNamedThere}
 use Rattle.port_registry.proofs.PlaceLemmas.{slice_get-contains}
 use Rattle.recorder_files.specs.Recorders.{Stored}
 use Rattle.jack_control.specs.Files.{AreApart, AreOut, AreRaised, HandsOne, HasBytes, IsOut, Stand, Standing}
-use Rattle.check_command.specs.play_inputs.specs.Inputs.{Files}
+use Rattle.play_inputs.specs.Inputs.{Files}
 use Rattle.jack_control.proofs.FileLemmas.{had-before, has-kept, out-else, out-named, touches-first, touches_none}
 use Rattle.jack_control.proofs.NameLemmas.{Contains-one}
 

@@ -17,7 +17,7 @@ use Rattle.jack_host.specs.Causes.{Rose}
 use Rattle.jack_host.specs.Files.{Makes, SameFiles}
 use Rattle.session_run.specs.Seen.{Gear, playback_format, Parts, stores_in}
 use Rattle.recorder_files.specs.Recorders.{Recording, Stored, held_in, held_or, stored_of}
-use Rattle.check_command.specs.run_laws.proofs.PlaceLemmas.{mapped_there}
+use Rattle.run_laws.proofs.PlaceLemmas.{mapped_there}
 use Rattle.session_laws.proofs.ListLemmas.{slice_get-map}
 use Rattle.session_model.specs.Samples.{bytes_of as sample_bytes}
 use Rattle.session_model.specs.WaveFiles.{opening_text}
@@ -26,7 +26,7 @@ use Rattle.client_kinds.specs.Scores.{Score}
 use Rattle.session_run.specs.Standings.{IsAttaching, IsBegun, format_at, format_next}
 use Rattle.driver_words.specs.Tapes.{IsCut, Tape}
 use Rattle.jack_control.specs.Files.{AreFronts, AreOut, Empties, IsOut, KeepsRest, MakesOne, OneFailed}
-use Rattle.check_command.specs.play_inputs.specs.Inputs.{Files}
+use Rattle.play_inputs.specs.Inputs.{Files}
 use Rattle.jack_control.specs.Plays.{TouchesOnly}
 use Rattle.jack_control.proofs.FileLemmas.{empties-made, empties-none, empties_same, out-kept, out_same, touches-after, touches-made, touches-more, touches-wider, touches_none, touches_same}
 use Rattle.jack_control.proofs.NameLemmas.{Contains-front, last_or}

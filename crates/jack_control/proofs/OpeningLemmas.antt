@@ -13,14 +13,14 @@ use Rattle.session_model.specs.Scripts.{Script}
 use Rattle.client_kinds.specs.Scores.{Score}
 use Rattle.wave_pcm.specs.Readings.{Reading}
 use Rattle.play_words.specs.Words.{Play}
-use Rattle.check_command.specs.run_laws.specs.Sessions.{IsGiven as TellsGiven}
+use Rattle.run_laws.specs.Sessions.{IsGiven as TellsGiven}
 use Rattle.session_run.specs.Seen.{AreDisks, Parts, Playing, session_of}
-use Rattle.check_command.specs.play_inputs.specs.disk_inputs.specs.DiskFiles.{AreDiskFiles}
-use Rattle.check_command.specs.play_inputs.specs.disk_inputs.specs.Openings.{AreFresh, IsFresh}
-use Rattle.check_command.specs.play_inputs.specs.Inputs.{Files, IfBytes, IfBytesAll, IsInput}
-use Rattle.check_command.specs.play_inputs.specs.Openings.{GivesInput}
-use Rattle.check_command.specs.play_inputs.proofs.DiskLemmas.{all-map}
-use Rattle.check_command.specs.play_inputs.proofs.InputLemmas.{if_bytes_map}
+use Rattle.play_inputs.specs.disk_inputs.specs.DiskFiles.{AreDiskFiles}
+use Rattle.play_inputs.specs.disk_inputs.specs.Openings.{AreFresh, IsFresh}
+use Rattle.play_inputs.specs.Inputs.{Files, IfBytes, IfBytesAll, IsInput}
+use Rattle.play_inputs.specs.Openings.{GivesInput}
+use Rattle.play_inputs.proofs.DiskLemmas.{all-map}
+use Rattle.play_inputs.proofs.InputLemmas.{if_bytes_map}
 use Rattle.jack_control.specs.Openings.{AreFaultless}
 
 -- disk files have the channels of their lines

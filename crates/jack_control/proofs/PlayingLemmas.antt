@@ -20,25 +20,25 @@ use Rattle.session_model.specs.Serial.{serial_printed}
 use Rattle.session_model.specs.Kinds.{Sound}
 use Rattle.client_kinds.specs.Scores.{Score}
 use Rattle.session_laws.proofs.HistoryLemmas.{LegalSoFar-none}
-use Rattle.check_command.specs.control_desk.specs.Desks.{Desk}
+use Rattle.control_desk.specs.Desks.{Desk}
 use Rattle.driver_laws.specs.Drivers.{run}
 use Rattle.session_run.specs.Seen.{Gear}
 use Rattle.recorder_files.specs.Recorders.{Recording, Stored, held_in}
-use Rattle.check_command.specs.run_laws.proofs.PlaceLemmas.{some_at}
-use Rattle.check_command.specs.run_laws.specs.Runs.{AtPhase}
-use Rattle.check_command.specs.run_laws.specs.Sessions.{IsGiven, Session, printed_of}
-use Rattle.check_command.specs.run_laws.specs.Told.{Ends, HasLists, Runs, StandsSoFar, text_in}
-use Rattle.check_command.specs.serial_laws.specs.Faults.{StandsInSerial}
-use Rattle.check_command.specs.serial_laws.proofs.FrontLemmas.{KeptAreAll, PlayedIsAll}
+use Rattle.run_laws.proofs.PlaceLemmas.{some_at}
+use Rattle.run_laws.specs.Runs.{AtPhase}
+use Rattle.run_laws.specs.Sessions.{IsGiven, Session, printed_of}
+use Rattle.run_laws.specs.Told.{Ends, HasLists, Runs, StandsSoFar, text_in}
+use Rattle.serial_laws.specs.Faults.{StandsInSerial}
+use Rattle.serial_laws.proofs.FrontLemmas.{KeptAreAll, PlayedIsAll}
 use Rattle.session_run.specs.Seen.{HasCome}
 use Rattle.session_run.specs.Seen.{AreLater, AreReadLater, IsLater, OfCapture, OfDisk, OneRose, Parts, Playing, SourceRose, bytes_of, session_of, stores_in, told_of}
 use Rattle.session_run.specs.Faults.{SessionFault}
 use Rattle.session_run.specs.Faults.{Read, Write}
 use Rattle.session_run.specs.Standings.{IsAttaching}
-use Rattle.check_command.specs.play_inputs.specs.declared.status.Status.{Status}
-use Rattle.check_command.specs.play_inputs.specs.declared.status.Status.TheVariants.{ReadFault, WriteFault}
+use Rattle.play_inputs.specs.declared.status.Status.{Status}
+use Rattle.play_inputs.specs.declared.status.Status.TheVariants.{ReadFault, WriteFault}
 use Rattle.jack_control.specs.Files.{AreFronts, AreOut, Empties, IsOut, OneFailed}
-use Rattle.check_command.specs.play_inputs.specs.Inputs.{Files}
+use Rattle.play_inputs.specs.Inputs.{Files}
 use Rattle.jack_control.specs.Openings.{AreFaultless}
 use Rattle.jack_control.specs.Performances.{Explain, HaveCut, MadeSome, status_of_session}
 use Rattle.jack_control.specs.Plays.{TouchesOnly}

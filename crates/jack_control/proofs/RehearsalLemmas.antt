@@ -21,17 +21,17 @@ use Rattle.wave_laws.proofs.WaveFaults.{wave-same}
 use Rattle.play_words.specs.Words.{Play}
 use Rattle.rehearsals.specs.Made.{Made}
 use Rattle.session_run.specs.Seen.{Parts}
-use Rattle.check_command.specs.play_inputs.specs.declared.status.Status.{Status}
-use Rattle.check_command.specs.play_inputs.specs.declared.status.Status.TheVariants as done
-use Rattle.check_command.specs.play_inputs.specs.Inputs.{Files, IsInput}
+use Rattle.play_inputs.specs.declared.status.Status.{Status}
+use Rattle.play_inputs.specs.declared.status.Status.TheVariants as done
+use Rattle.play_inputs.specs.Inputs.{Files, IsInput}
 use Rattle.jack_control.specs.Openings.{IsSessionOf}
 use Rattle.jack_control.specs.Performances.{HasHistory}
 use Rattle.jack_control.specs.Plays.{IsExplained}
 use Rattle.jack_control.specs.Rehearsals.{IsRehearsed}
 use Rattle.jack_control.specs.Rehearsing.{HasFiles, rehearsal_play}
-use Rattle.check_command.specs.play_inputs.specs.disk_inputs.specs.DiskFiles.{AreDiskFiles}
-use Rattle.check_command.specs.play_inputs.proofs.ExactLemmas.{one_script}
-use Rattle.check_command.specs.play_inputs.proofs.InputLemmas.{spelled_whole}
+use Rattle.play_inputs.specs.disk_inputs.specs.DiskFiles.{AreDiskFiles}
+use Rattle.play_inputs.proofs.ExactLemmas.{one_script}
+use Rattle.play_inputs.proofs.InputLemmas.{spelled_whole}
 use Rattle.jack_control.proofs.OpeningLemmas.{no-channels}
 
 -- bytes are read as their wave

@@ -7,16 +7,16 @@ use Rattle.session_model.specs.Explanations.{Given}
 use Rattle.session_model.specs.Kinds.{Sound}
 use Rattle.client_kinds.specs.Scores.{Score}
 use Rattle.play_words.specs.Words.{Play}
-use Rattle.check_command.specs.run_laws.specs.Sessions.{IsGiven as TellsGiven}
+use Rattle.run_laws.specs.Sessions.{IsGiven as TellsGiven}
 use Rattle.session_run.specs.Seen.{Parts, session_of}
-use Rattle.check_command.specs.play_inputs.specs.Inputs.{Files, IfBytes, IfBytesAll, IsInput}
-use Rattle.check_command.specs.play_inputs.specs.declared.status.Status.{Status}
-use Rattle.check_command.specs.play_inputs.specs.declared.status.Status.TheVariants.{Words, Wrong}
-use Rattle.check_command.specs.play_inputs.specs.Answers.{IfInput, PlayStatus}
+use Rattle.play_inputs.specs.Inputs.{Files, IfBytes, IfBytesAll, IsInput}
+use Rattle.play_inputs.specs.declared.status.Status.{Status}
+use Rattle.play_inputs.specs.declared.status.Status.TheVariants.{Words, Wrong}
+use Rattle.play_inputs.specs.Answers.{IfInput, PlayStatus}
 use Rattle.jack_control.specs.Rehearsals.{IsRehearsed}
 use Rattle.jack_control.specs.Openings.{IsSessionOf}
-use Rattle.check_command.specs.play_inputs.proofs.DiskLemmas.{all-map}
-use Rattle.check_command.specs.play_inputs.proofs.InputLemmas.{if_bytes_map}
+use Rattle.play_inputs.proofs.DiskLemmas.{all-map}
+use Rattle.play_inputs.proofs.InputLemmas.{if_bytes_map}
 
 -- what a session was opened with
 pub input-of : (sounding : Score → Sound) (files : Option Files) (scores : List Sound) (play : Play) (parts : Parts) → IsSessionOf sounding files scores play parts → IfInput files scores play

@@ -17,7 +17,7 @@ use Rattle.recorder_files.specs.Recorders.{Stored}
 use Rattle.session_run.specs.Seen.{Parts, stores_in}
 use Rattle.session_run.specs.Standings.{format_at}
 use Rattle.driver_words.specs.Tapes.{IsCut}
-use Rattle.check_command.specs.play_inputs.specs.Inputs.{Files}
+use Rattle.play_inputs.specs.Inputs.{Files}
 use Rattle.jack_control.specs.Plays.{TouchesOnly}
 
 -- the store tells its name, which is there, and its bytes

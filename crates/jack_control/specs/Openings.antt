@@ -8,10 +8,10 @@ use Rattle.session_model.specs.Explanations.{Given}
 use Rattle.session_model.specs.Kinds.{Sound}
 use Rattle.client_kinds.specs.Scores.{Score}
 use Rattle.play_words.specs.Words.{Play}
-use Rattle.check_command.specs.run_laws.specs.Sessions.{IsGiven as TellsGiven}
+use Rattle.run_laws.specs.Sessions.{IsGiven as TellsGiven}
 use Rattle.session_run.specs.Seen.{Parts, Playing, session_of, stores_in}
 use Rattle.session_run.specs.Standings.{IsAttaching}
-use Rattle.check_command.specs.play_inputs.specs.Inputs.{Files, IfBytes, IfBytesAll, IsInput}
+use Rattle.play_inputs.specs.Inputs.{Files, IfBytes, IfBytesAll, IsInput}
 
 -- no store is attached, and there are as many recorders as files that are named for them
 pub record IsSessionOf (sounding : Score → Sound) (files : Option Files) (scores : List Sound) (play : Play) (parts : Parts) : Type 0 where

@@ -17,11 +17,11 @@ use Rattle.session_model.specs.Serial.{serial}
 use Rattle.recorder_files.specs.Recorders.{Stored}
 use Rattle.session_run.specs.Faults.{SessionFault}
 use Rattle.session_run.specs.Faults.{Read, Write}
-use Rattle.check_command.specs.play_inputs.specs.declared.status.Status.{Status}
-use Rattle.check_command.specs.play_inputs.specs.declared.status.Status.TheVariants.{ReadFault, WriteFault}
-use Rattle.check_command.specs.play_inputs.specs.Answers.{IfScript}
+use Rattle.play_inputs.specs.declared.status.Status.{Status}
+use Rattle.play_inputs.specs.declared.status.Status.TheVariants.{ReadFault, WriteFault}
+use Rattle.play_inputs.specs.Answers.{IfScript}
 use Rattle.jack_control.specs.Files.{AreOut, Empties}
-use Rattle.check_command.specs.play_inputs.specs.Inputs.{Files}
+use Rattle.play_inputs.specs.Inputs.{Files}
 use Rattle.jack_control.specs.Plays.{CameTo, PlaybackInSerial, PlaybackSoFar, RecordInSerial, RecordSoFar, TouchesOnly}
 
 abbrev pub status_of_session : SessionFault → Status

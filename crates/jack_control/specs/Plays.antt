@@ -17,10 +17,10 @@ use Rattle.session_model.specs.Serial.{serial_overruns, serial_printed}
 use Rattle.driver_words.specs.Tapes.{HasAnyFront}
 use Rattle.session_model.specs.Rings.{samples_of_blocks}
 use Rattle.driver_laws.specs.Keeping.{kept_blocks, played_so_far}
-use Rattle.check_command.specs.serial_laws.specs.Faults.{serial_course_of}
+use Rattle.serial_laws.specs.Faults.{serial_course_of}
 use Rattle.session_run.specs.Seen.{HasCome}
 use Rattle.play_words.specs.Words.{Play}
-use Rattle.check_command.specs.play_inputs.specs.Inputs.{Files, IsInput}
+use Rattle.play_inputs.specs.Inputs.{Files, IsInput}
 
 -- the files that a play makes: the playback and then the recorders'
 abbrev pub made_by : Play → List (List ℕ)

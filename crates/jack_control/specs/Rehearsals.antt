@@ -4,8 +4,8 @@ use Rattle.std.specs.Prelude.{ℕ, ◌≤◌, List, [], length, take, Option}
 use Rattle.jack_host.specs.Bytes.{Gains}
 use Rattle.jack_host.specs.Causes.{Rose}
 use Rattle.rehearsal_model.specs.Rehearsals.{summary_text}
-use Rattle.check_command.specs.play_inputs.specs.declared.status.Status.{Status}
-use Rattle.check_command.specs.play_inputs.specs.declared.status.Status.TheVariants.{Ok, NoMemory, Words, ReadFault, BadWave, BadScript, WriteFault, Differs, Wrong}
+use Rattle.play_inputs.specs.declared.status.Status.{Status}
+use Rattle.play_inputs.specs.declared.status.Status.TheVariants.{Ok, NoMemory, Words, ReadFault, BadWave, BadScript, WriteFault, Differs, Wrong}
 
 -- the number's six lines; none for want of memory; or a front of them where the sink's count of faults rose
 abbrev pub IsRehearsed : ℕ → Option (List ℕ) → Option (List ℕ) → ℕ → ℕ → Status → Type 0

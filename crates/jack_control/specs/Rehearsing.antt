@@ -6,9 +6,9 @@ use Rattle.std.specs.Prelude.{◌≡◌, [], ◌∷◌, codes, ⊤, Some}
 use Rattle.jack_host.specs.Files.{bytes_under}
 use Rattle.play_words.specs.Words.{Play}
 use Rattle.rehearsals.specs.Made.{Made}
-use Rattle.check_command.specs.play_inputs.specs.declared.status.Status.{Status}
-use Rattle.check_command.specs.play_inputs.specs.declared.status.Status.TheVariants.{Ok, NoMemory, Words, ReadFault, BadWave, BadScript, WriteFault, Differs, Wrong}
-use Rattle.check_command.specs.play_inputs.specs.Inputs.{Files}
+use Rattle.play_inputs.specs.declared.status.Status.{Status}
+use Rattle.play_inputs.specs.declared.status.Status.TheVariants.{Ok, NoMemory, Words, ReadFault, BadWave, BadScript, WriteFault, Differs, Wrong}
+use Rattle.play_inputs.specs.Inputs.{Files}
 
 pub record HasFiles (files : Files) (made : Made) : Type 0 where
   pub script : bytes_under files (codes "script") ≡ Some made.script

@@ -3,7 +3,7 @@
 ghost use Rattle.std.specs.Prelude.{◌≡◌, ◌+◌, ◌<◌, ◌≤◌, ◌⊎◌, [], ℕ, List, IfSome, IsTrue, OnErr, OnOk, Some, length, suc, take};
 ghost use Rattle.jack_host.specs.Causes.{Adds, Rose};
 ghost use Rattle.jack_host.specs.Files.{IsNamedThere, SameFiles, Stands, StandsInPart};
-ghost use Rattle.check_command.specs.run_laws.specs.Told.{text_in};
+ghost use Rattle.run_laws.specs.Told.{text_in};
 ghost use Rattle.session_run.specs.Seen.{session_of, stores_in};
 ghost use Rattle.session_run.specs.Standings.{HasEnded, IsAttaching, format_next};
 ghost use Rattle.driver_words.specs.Tapes.{IsCut};

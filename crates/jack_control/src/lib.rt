@@ -8,5 +8,5 @@ mod playing;
 mod rehearsing;
 mod top;
 
-pub use check_command::play_inputs::{Difference, Status, What};
+pub use play_inputs::{Difference, Status, What};
 pub use top::jackd;

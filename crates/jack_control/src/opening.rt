@@ -3,14 +3,14 @@
 ghost use Rattle.std.specs.Prelude.{◌≡◌, ◌+◌, ◌<◌, ◌≤◌, ◌⊎◌, IfErr, IfOk, IsErrOf, OnErr, OnOk, length, map};
 ghost use Rattle.jack_host.specs.Causes.{Rose};
 ghost use Rattle.jack_host.specs.Files.{SameFiles};
-ghost use Rattle.check_command.specs.play_inputs.specs.Answers.{HasOwnFault, LacksInput};
-ghost use Rattle.check_command.specs.play_inputs.specs.Openings.{OpeningStatus};
+ghost use Rattle.play_inputs.specs.Answers.{HasOwnFault, LacksInput};
+ghost use Rattle.play_inputs.specs.Openings.{OpeningStatus};
 ghost use Rattle.jack_control.specs.Openings.{IsSessionOf, NoFaults};
 
 use crate::disks::back_waves;
-use check_command::play_inputs::{Inputs, Status, open_inputs};
 use client_kinds::Guest;
 use jack_host::Host;
+use play_inputs::{Inputs, Status, open_inputs};
 use play_words::Names;
 use session_run::Session;
 use std::alloc::Global;

@@ -19,9 +19,10 @@ const NAMES: &str =
 PLAYBACK the WAVE file that is made, which stands for its output. Each recorder of the script
 makes the PATH of one --record, and each of its disks plays the WAVE file at the PATH of one --disk,
 in their order. The report goes to standard output. What is wrong, which calls of the script were
-refused, and which blocks of a recorder were lost, goes to standard error. With --strict the exit
-code is 9 where a call was refused or a block was lost. Files are synced before the play ends, so
-that a disk that fails late is told; with --no-sync they are not.
+refused, which recorders lost blocks, and which disks had underruns, goes to standard error. With
+--strict the exit code is 9 where a call was refused, a block was lost, or there was an underrun.
+Files are synced before the play ends, so that a disk that fails late is told; with --no-sync they
+are not.
 
 NUMBER, from 0 to 4294967295, makes a session of 10,000 cycles, which is played in memory. Six lines
 on it go to standard output.
@@ -36,7 +37,7 @@ Exit codes: 0 played, or explained, 1 no memory, 2 other words or no such cycle,
 be read, 4 the capture or a disk file is no WAVE file that is read, 5 the script can't be played, or
 is not checked, 6 a file could not be written, 7 the script and what it is played with differ, 8 the
 report is none of the script's, or does not explain its files, 9 played with --strict, and a call
-was refused or a block lost.
+was refused, a block lost, or there was an underrun.
 
 The sources have the formats of scripts and reports in docs/FORMATS.md, and sessions in examples/.";
 

@@ -2,9 +2,3 @@ pub mod Steps
 pub mod Faults
 pub mod Endings
 pub mod Openings
-pub use Rattle.run_laws.specs.control_desk
-pub use Rattle.run_laws.specs.driver_laws
-pub use Rattle.recorder_files
-pub use Rattle.run_laws
-pub use Rattle.run_laws.specs.serial_lanes
-pub use Rattle.disk_runs

@@ -10,7 +10,4 @@ pub mod openings;
 pub mod parts;
 pub mod rings;
 
-pub use disk_runs;
-pub use recorder_files;
-pub use run_laws;
 pub use run_laws::{control_desk, serial_lanes};

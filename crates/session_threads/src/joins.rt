@@ -66,6 +66,7 @@ pub(crate) fn run_beside<
     requires reading { All IsReading readers.items }
     requires few_disks { length readers.items < 256 }
     requires many { length driver.rings.rings ≡ length recorders.items }
+    requires many_disks { length driver.disks.disks ≡ length readers.items }
     requires next { AreNext cycles false (driver_of G.sound driver) }
     requires going { IsGoing (driver_of G.sound driver) }
     requires caller { IsOfTurn turn.now caller }
@@ -78,6 +79,7 @@ pub(crate) fn run_beside<
     ensures caller { HasKept caller result.1.2 result.1.1 }
 {
     let many = recorders.len() as u8;
+    let many_disks = readers.len() as u8;
     thread::join(
         threads,
         move || -> (Vec<Pass<TurnDesk>>, (Vec<Recorder<W>>, Vec<DiskReader<S>>))
@@ -89,9 +91,9 @@ pub(crate) fn run_beside<
             )
         },
         move || -> (Driver<S, W, G>, Result<(), CycleFault>, Caller<TurnDesk>)
-            requires { AreNext cycles false (driver_of G.sound driver) × IsGoing (driver_of G.sound driver) × (length driver.rings.rings ≡ many) × IsOfTurn turn.now caller }
+            requires { AreNext cycles false (driver_of G.sound driver) × IsGoing (driver_of G.sound driver) × (length driver.rings.rings ≡ many) × (length driver.disks.disks ≡ many_disks) × IsOfTurn turn.now caller }
             ensures { ((driven : Gear) × HasDriven G.sound cycles driver driven result.1 × (result.0 ≡ with_ends driven)) × HasKept caller result.2 result.1 }
-        { drive(threads, gate, driver, cycles, many, turn, over, caller) },
+        { drive(threads, gate, driver, cycles, many, many_disks, turn, over, caller) },
     )
 }
 
@@ -204,18 +206,20 @@ fn drive<S: Source, W: Store, G: Guest + Send, T: Threads + Sync, K: Gate>(
     mut driver: Driver<S, W, G>,
     cycles: u32,
     recorders: u8,
+    disks: u8,
     turn: &Turn<TurnDesk>,
     over: &AtomicBool,
     mut caller: Caller<TurnDesk>,
 ) -> (Driver<S, W, G>, Result<(), CycleFault>, Caller<TurnDesk>)
     requires many { length driver.rings.rings ≡ recorders }
+    requires many_disks { length driver.disks.disks ≡ disks }
     requires next { AreNext cycles false (driver_of G.sound driver) }
     requires going { IsGoing (driver_of G.sound driver) }
     requires caller { IsOfTurn turn.now caller }
     ensures driven { (driven : Gear) × HasDriven G.sound cycles driver driven result.1 × (result.0 ≡ with_ends driven) }
     ensures caller { HasKept caller result.2 result.1 }
 {
-    let ran = run_cycles(&mut driver, threads, gate, recorders, cycles, false);
+    let ran = run_cycles(&mut driver, threads, gate, recorders, disks, cycles, false);
     end_rings(&mut driver, recorders);
     over.store(true, Ordering::SeqCst);
     tell_lanes(turn, &mut caller, ran.is_err());

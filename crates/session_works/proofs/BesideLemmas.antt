@@ -4,10 +4,10 @@
 use Rattle.std.proofs.Common.{◌≡◌, List, sym, subst}
 use Rattle.session_model.specs.Kinds.{Sound}
 use Rattle.client_kinds.specs.Scores.{Score}
-use Rattle.serial_laws.specs.control_desk.specs.Desks.{Desk}
+use Rattle.control_desk.specs.Desks.{Desk}
 use Rattle.cycle_driver.specs.Gears.{Gear}
-use Rattle.serial_laws.specs.recorder_files.specs.Recorders.{Recording}
-use Rattle.serial_laws.specs.run_laws.specs.Sessions.{Playing}
+use Rattle.recorder_files.specs.Recorders.{Recording}
+use Rattle.run_laws.specs.Sessions.{Playing}
 use Rattle.session_works.specs.Insides.{Aside, Stays, beside, parts_with}
 use Rattle.session_works.specs.Parts.{HasOpenFiles, Parts}
 use Rattle.session_works.proofs.StayLemmas.{read_same}

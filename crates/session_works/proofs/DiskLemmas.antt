@@ -17,12 +17,12 @@ use Rattle.client_kinds.specs.Scores.{Score}
 use Rattle.driver_words.specs.Feeding.{no_ring}
 use Rattle.driver_words.specs.Rings.{Getting, IsPair}
 use Rattle.cycle_driver.specs.Gears.{Gear}
-use Rattle.serial_laws.specs.run_laws.specs.Sessions.{Playing}
-use Rattle.serial_laws.specs.run_laws.proofs.PlaceLemmas.{some_at}
-use Rattle.serial_laws.specs.disk_runs.specs.Readings.{BrokeOff, EachDisk, LeftAlone, ReadOn, TriedDisk}
-use Rattle.serial_laws.specs.disk_runs.specs.disk_files.specs.Readers.{BreaksAhead, ReadsAhead, TellsAhead}
-use Rattle.serial_laws.specs.disk_runs.specs.disk_files.specs.Serving.{IsGoing}
-use Rattle.serial_laws.specs.disk_runs.specs.disk_files.proofs.ReaderLemmas.{ahead-format, breaks-format, tells-format}
+use Rattle.run_laws.specs.Sessions.{Playing}
+use Rattle.run_laws.proofs.PlaceLemmas.{some_at}
+use Rattle.disk_runs.specs.Readings.{BrokeOff, EachDisk, LeftAlone, ReadOn, TriedDisk}
+use Rattle.disk_runs.specs.disk_files.specs.Readers.{BreaksAhead, ReadsAhead, TellsAhead}
+use Rattle.disk_runs.specs.disk_files.specs.Serving.{IsGoing}
+use Rattle.disk_runs.specs.disk_files.proofs.ReaderLemmas.{ahead-format, breaks-format, tells-format}
 use Rattle.session_works.specs.DiskSteps.{AreReadOn, AreTold, AreTried, DisksMoved, SeenBesideAny, SomeRose, TriedOne}
 use Rattle.session_works.specs.Insides.{DisksPaired, beside, seen_with}
 use Rattle.session_works.specs.Parts.{AreReadLater, IsReadLater, OfDisk}

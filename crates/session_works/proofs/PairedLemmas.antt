@@ -12,12 +12,12 @@ use Rattle.client_kinds.specs.Scores.{Score}
 use Rattle.driver_words.specs.Rings.{Getting, IsPair, Renews, Sending}
 use Rattle.cycle_driver.specs.Gears.{Gear, driver_of}
 use Rattle.cycle_driver.specs.Runs.{KeepsRings}
-use Rattle.serial_laws.specs.driver_laws.specs.Cycling.{StepsOnce}
-use Rattle.serial_laws.specs.recorder_files.specs.Recorders.{Recording}
-use Rattle.serial_laws.specs.run_laws.specs.Sessions.{Playing}
-use Rattle.serial_laws.specs.run_laws.proofs.PlaceLemmas.{mapped_there, some_at}
-use Rattle.serial_laws.specs.disk_runs.proofs.MissLemmas.{same-end}
-use Rattle.serial_laws.specs.disk_runs.proofs.PlaceLemmas.{long}
+use Rattle.driver_laws.specs.Cycling.{StepsOnce}
+use Rattle.recorder_files.specs.Recorders.{Recording}
+use Rattle.run_laws.specs.Sessions.{Playing}
+use Rattle.run_laws.proofs.PlaceLemmas.{mapped_there, some_at}
+use Rattle.disk_runs.proofs.MissLemmas.{same-end}
+use Rattle.disk_runs.proofs.PlaceLemmas.{long}
 use Rattle.serial_laws.specs.Steps.{IsSound}
 use Rattle.session_works.specs.Giving.{BrokeOff, GaveUp}
 use Rattle.session_works.specs.Insides.{ArePaired, DisksPaired}

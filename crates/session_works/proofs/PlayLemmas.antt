@@ -10,15 +10,15 @@ use Rattle.std.proofs.lemmas.Option.{same_Some}
 use Rattle.jack_host.specs.Causes.{Rose}
 use Rattle.session_model.specs.Kinds.{Sound}
 use Rattle.client_kinds.specs.Scores.{Score}
-use Rattle.serial_laws.specs.control_desk.specs.Desks.{Desk}
+use Rattle.control_desk.specs.Desks.{Desk}
 use Rattle.driver_words.specs.Rings.{Sending}
 use Rattle.driver_words.specs.Tapes.{SameFile, Tape}
 use Rattle.cycle_driver.specs.Gears.{Gear, driver_of}
 use Rattle.cycle_driver.specs.Runs.{KeepsRings}
-use Rattle.serial_laws.specs.driver_laws.specs.Cycling.{CyclesOnce, FailsAtRead, FailsAtWrite, MayCycle}
-use Rattle.serial_laws.specs.recorder_files.specs.Recorders.{Recording}
-use Rattle.serial_laws.specs.run_laws.specs.Sessions.{Playing}
-use Rattle.serial_laws.specs.disk_runs.specs.disk_files.specs.Serving.{IsGoing}
+use Rattle.driver_laws.specs.Cycling.{CyclesOnce, FailsAtRead, FailsAtWrite, MayCycle}
+use Rattle.recorder_files.specs.Recorders.{Recording}
+use Rattle.run_laws.specs.Sessions.{Playing}
+use Rattle.disk_runs.specs.disk_files.specs.Serving.{IsGoing}
 use Rattle.serial_laws.specs.Faults.{StaysOne}
 use Rattle.serial_laws.specs.Steps.{IsSound}
 use Rattle.session_works.specs.DiskSteps.{AreReadOn, AreTold, BesideAny, DisksMoved, SeenBesideAny, SomeRose}

@@ -21,13 +21,13 @@ use Rattle.driver_words.specs.Rings.{Getting, Sending, items_of}
 use Rattle.driver_words.specs.Tapes.{HasSamples, Tape}
 use Rattle.wave_pcm.specs.Readings.{Reading, SameReading}
 use Rattle.disk_recorder.specs.Recordings.{MayWrite}
-use Rattle.serial_laws.specs.driver_laws.specs.Keeping.{HasTape}
-use Rattle.serial_laws.specs.recorder_files.specs.Recorders.{Recording, Stored}
-use Rattle.serial_laws.specs.recorder_files.proofs.Reels.{begun-may}
-use Rattle.serial_laws.specs.run_laws.specs.Runs.{HasFiles, RanPhases}
-use Rattle.serial_laws.specs.run_laws.specs.SerialRuns.{SerialBehind}
-use Rattle.serial_laws.specs.run_laws.specs.Sessions.{Playing, Session}
-use Rattle.serial_laws.specs.run_laws.proofs.PlaceLemmas.{mapped_there, some_at}
+use Rattle.driver_laws.specs.Keeping.{HasTape}
+use Rattle.recorder_files.specs.Recorders.{Recording, Stored}
+use Rattle.recorder_files.proofs.Reels.{begun-may}
+use Rattle.run_laws.specs.Runs.{HasFiles, RanPhases}
+use Rattle.run_laws.specs.SerialRuns.{SerialBehind}
+use Rattle.run_laws.specs.Sessions.{Playing, Session}
+use Rattle.run_laws.proofs.PlaceLemmas.{mapped_there, some_at}
 use Rattle.serial_laws.specs.Steps.{IsSettled}
 use Rattle.session_works.specs.Drivers.{driver_of, playback_format}
 use Rattle.session_works.specs.Insides.{Stays, held, parts_of, seen}

@@ -20,8 +20,8 @@ use Rattle.client_kinds.specs.Scores.{Score}
 use Rattle.driver_words.specs.Rings.{Getting, IsPair, Sending}
 use Rattle.driver_words.specs.Tapes.{SameFile, Tape}
 use Rattle.disk_recorder.specs.Recordings.{MayWrite, SameEnds}
-use Rattle.serial_laws.specs.recorder_files.specs.Recorders.{BreaksOff, GivesUp, Recording, Reel, held_in}
-use Rattle.serial_laws.specs.run_laws.proofs.PlaceLemmas.{mapped_there, some_at}
+use Rattle.recorder_files.specs.Recorders.{BreaksOff, GivesUp, Recording, Reel, held_in}
+use Rattle.run_laws.proofs.PlaceLemmas.{mapped_there, some_at}
 use Rattle.serial_laws.specs.Faults.{BreakUp, Broke, Gave, Left, Tried}
 use Rattle.serial_laws.specs.Steps.{GiveUp, IsReel, IsSound}
 use Rattle.session_works.specs.Giving.{BrokeOff, GaveUp, KeepsFile, reel_of}

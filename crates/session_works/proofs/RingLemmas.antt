@@ -10,7 +10,7 @@ use Rattle.std.proofs.lemmas.Bool.{cases_lt}
 use Rattle.std.proofs.lemmas.Option.{same_Some, slice_get_within}
 use Rattle.graph_word.proofs.Fronts.{got_else, got_here}
 use Rattle.driver_words.specs.Rings.{Sending}
-use Rattle.serial_laws.specs.recorder_files.specs.Recorders.{Recording}
+use Rattle.recorder_files.specs.Recorders.{Recording}
 use Rattle.session_works.specs.Giving.{BrokeOff, GaveUp}
 
 module _ {A B : Type 0} where

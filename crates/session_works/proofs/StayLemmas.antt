@@ -17,9 +17,9 @@ use Rattle.driver_words.specs.Rings.{Sending}
 use Rattle.wave_pcm.specs.Readings.{Reading, SameReading}
 use Rattle.driver_words.specs.Tapes.{Tape}
 use Rattle.cycle_driver.specs.Gears.{Gear, driver_of}
-use Rattle.serial_laws.specs.recorder_files.specs.Recorders.{Recording, Stored, held_in, held_or, stored_of}
-use Rattle.serial_laws.specs.run_laws.specs.Sessions.{Playing}
-use Rattle.serial_laws.specs.run_laws.proofs.PlaceLemmas.{some_at}
+use Rattle.recorder_files.specs.Recorders.{Recording, Stored, held_in, held_or, stored_of}
+use Rattle.run_laws.specs.Sessions.{Playing}
+use Rattle.run_laws.proofs.PlaceLemmas.{some_at}
 use Rattle.serial_laws.specs.Faults.{BreakUp}
 use Rattle.serial_laws.specs.Steps.{GiveUp, IsSound}
 use Rattle.session_works.specs.DiskSteps.{DisksMoved}

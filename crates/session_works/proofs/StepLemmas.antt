@@ -13,8 +13,8 @@ use Rattle.driver_words.specs.Tapes.{Tape}
 use Rattle.disk_recorder.specs.Recordings.{MayWrite}
 use Rattle.cycle_driver.specs.Gears.{Gear}
 use Rattle.cycle_driver.specs.recorder_rings.specs.Sending.{no_ring, ring_at}
-use Rattle.serial_laws.specs.recorder_files.specs.Recorders.{Recording}
-use Rattle.serial_laws.specs.run_laws.proofs.PlaceLemmas.{some_at}
+use Rattle.recorder_files.specs.Recorders.{Recording}
+use Rattle.run_laws.proofs.PlaceLemmas.{some_at}
 use Rattle.session_works.specs.Giving.{BrokeOff, GaveUp}
 use Rattle.session_works.specs.Insides.{AreAble, parts_with}
 use Rattle.session_works.proofs.ReelLemmas.{may-give}

@@ -12,9 +12,9 @@ use Rattle.std.proofs.lemmas.Option.{none-some, same_Some, slice_get_within}
 use Rattle.std.proofs.lemmas.List.{length-map}
 use Rattle.jack_host.specs.Causes.{Rose}
 use Rattle.driver_words.specs.Tapes.{SameFile, Tape}
-use Rattle.serial_laws.specs.recorder_files.specs.Recorders.{Recording, Stored, held_in, held_or}
+use Rattle.recorder_files.specs.Recorders.{Recording, Stored, held_in, held_or}
 use Rattle.session_laws.proofs.ListLemmas.{slice_get-map}
-use Rattle.serial_laws.specs.run_laws.proofs.PlaceLemmas.{mapped_there, some_at}
+use Rattle.run_laws.proofs.PlaceLemmas.{mapped_there, some_at}
 use Rattle.session_works.specs.Parts.{AreLater, IsLater, OneRose, Parts, stores_in}
 
 pub later_same : (store : Stored) → IsLater store store

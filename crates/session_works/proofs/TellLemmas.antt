@@ -5,7 +5,7 @@ use Rattle.std.specs.List.{cons_option}
 use Rattle.session_model.specs.Kinds.{Sound}
 use Rattle.client_kinds.specs.Scores.{Score}
 use Rattle.driver_words.specs.Tapes.{Tape}
-use Rattle.serial_laws.specs.recorder_files.specs.Recorders.{Recording, Stored, held_in, held_or}
+use Rattle.recorder_files.specs.Recorders.{Recording, Stored, held_in, held_or}
 use Rattle.serial_laws.specs.Faults.{bytes_in, told}
 use Rattle.session_works.specs.Parts.{HasOpenFiles, Parts, bytes_of, session_of, told_of}
 

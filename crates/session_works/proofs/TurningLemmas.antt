@@ -17,13 +17,13 @@ use Rattle.session_model.specs.Scripts.{Script, turns}
 use Rattle.client_kinds.specs.Scores.{Score}
 use Rattle.wave_pcm.specs.Readings.{SameReading}
 use Rattle.driver_words.specs.Tapes.{Tape}
-use Rattle.serial_laws.specs.driver_laws.specs.Cycling.{CyclesOnce, FailsAtRead, FailsAtWrite}
-use Rattle.serial_laws.specs.driver_laws.specs.Drivers.{Driver, HasPlayback, run, turn_of}
+use Rattle.driver_laws.specs.Cycling.{CyclesOnce, FailsAtRead, FailsAtWrite}
+use Rattle.driver_laws.specs.Drivers.{Driver, HasPlayback, run, turn_of}
 use Rattle.cycle_driver.specs.Gears.{Gear, driver_of}
-use Rattle.serial_laws.specs.recorder_files.specs.Recorders.{Recording, held_in, held_or, stored_of}
-use Rattle.serial_laws.specs.run_laws.specs.Sessions.{Session}
-use Rattle.serial_laws.specs.disk_runs.specs.Readings.{DisksBroke, DisksRead}
-use Rattle.serial_laws.specs.disk_runs.specs.Rests.{AreFilled}
+use Rattle.recorder_files.specs.Recorders.{Recording, held_in, held_or, stored_of}
+use Rattle.run_laws.specs.Sessions.{Session}
+use Rattle.disk_runs.specs.Readings.{DisksBroke, DisksRead}
+use Rattle.disk_runs.specs.Rests.{AreFilled}
 use Rattle.serial_laws.specs.Faults.{AtDisk as EndsAtDisk, AtDraining as EndsAtDraining, AtEmptying as EndsAtEmptying, AtRead as EndsAtRead, AtWrite as EndsAtWrite, BreakUp, TurnFails}
 use Rattle.serial_laws.specs.Steps.{AreEmpty, Emptied, GiveUp, IsSettled, IsSound, Met, most_blocks, most_filled}
 use Rattle.session_works.specs.Insides.{Aside, IsWritten, Stays, parts_with, seen_with}

@@ -9,12 +9,12 @@ use Rattle.jack_host.specs.Causes.{Rose}
 use Rattle.session_model.specs.Kinds.{Sound}
 use Rattle.client_kinds.specs.Scores.{Score}
 use Rattle.driver_words.specs.Rings.{Getting, IsPair}
-use Rattle.serial_laws.specs.control_desk.specs.Desks.{Desk}
+use Rattle.control_desk.specs.Desks.{Desk}
 use Rattle.cycle_driver.specs.Gears.{Gear}
-use Rattle.serial_laws.specs.recorder_files.specs.Recorders.{Recording}
-use Rattle.serial_laws.specs.run_laws.specs.Sessions.{Playing, Session}
-use Rattle.serial_laws.specs.disk_runs.specs.Readings.{DisksBroke, DisksRead, DisksTold, TriedDisk}
-use Rattle.serial_laws.specs.disk_runs.specs.disk_files.specs.Readers.{ReadsAhead, TellsAhead}
+use Rattle.recorder_files.specs.Recorders.{Recording}
+use Rattle.run_laws.specs.Sessions.{Playing, Session}
+use Rattle.disk_runs.specs.Readings.{DisksBroke, DisksRead, DisksTold, TriedDisk}
+use Rattle.disk_runs.specs.disk_files.specs.Readers.{ReadsAhead, TellsAhead}
 use Rattle.session_works.specs.Insides.{beside, parts_with}
 use Rattle.session_works.specs.Parts.{IsReadLater, Parts, SourceRose, session_of}
 

@@ -6,7 +6,7 @@ use Rattle.std.specs.Prelude.{◌≡◌, ℕ, Some}
 use Rattle.jack_host.specs.Causes.{Rose}
 use Rattle.driver_words.specs.Rings.{Sending}
 use Rattle.driver_words.specs.Tapes.{SameFile, Tape}
-use Rattle.serial_laws.specs.recorder_files.specs.Recorders.{BreaksOff, GivesUp, Recording, Reel}
+use Rattle.recorder_files.specs.Recorders.{BreaksOff, GivesUp, Recording, Reel}
 
 pub record KeepsFile (recording after : Recording) : Type 0 where
   pub tape : Tape

@@ -16,10 +16,10 @@ use Rattle.client_kinds.specs.Scores.{Score}
 use Rattle.driver_words.specs.Rings.{Getting, IsPair, Sending}
 use Rattle.driver_words.specs.Tapes.{SameFile, Tape}
 use Rattle.wave_pcm.specs.Readings.{SameReading}
-use Rattle.serial_laws.specs.control_desk.specs.Desks.{Desk}
+use Rattle.control_desk.specs.Desks.{Desk}
 use Rattle.cycle_driver.specs.Gears.{Gear, driver_of}
-use Rattle.serial_laws.specs.recorder_files.specs.Recorders.{Recording, Stored}
-use Rattle.serial_laws.specs.run_laws.specs.Sessions.{Playing, Session}
+use Rattle.recorder_files.specs.Recorders.{Recording, Stored}
+use Rattle.run_laws.specs.Sessions.{Playing, Session}
 use Rattle.serial_laws.specs.Steps.{IsSettled, IsSound}
 use Rattle.session_works.specs.Parts.{AreLater, AreReadLater, HasOpenFiles, Parts, session_of, stores_in}
 use Rattle.session_works.specs.declared.works.SessionWorks.{SessionWorks}

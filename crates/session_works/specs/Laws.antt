@@ -9,16 +9,16 @@
 --     SettledAtFirst      a session whose files are begun
 use Rattle.std.specs.Prelude.{◌≡◌, ℕ, ◌+◌, ◌<◌, Bool, true, length, slice_get, Some}
 use Rattle.session_model.specs.Scripts.{Phase, Script, phases, turns}
-use Rattle.serial_laws.specs.control_desk.specs.Desks.{cycles_before}
-use Rattle.serial_laws.specs.driver_laws.specs.Cycling.{MayCycle}
-use Rattle.serial_laws.specs.driver_laws.specs.Drivers.{run, turn_of}
+use Rattle.control_desk.specs.Desks.{cycles_before}
+use Rattle.driver_laws.specs.Cycling.{MayCycle}
+use Rattle.driver_laws.specs.Drivers.{run, turn_of}
 use Rattle.script_segments.specs.Segments.{segment_of, segments}
 use Rattle.script_segments.specs.declared.lines.Segment.{Segment}
-use Rattle.serial_laws.specs.run_laws.specs.Runs.{HasFiles}
-use Rattle.serial_laws.specs.run_laws.specs.Sessions.{Session}
-use Rattle.serial_laws.specs.disk_runs.specs.Readings.{DisksRead, DisksTold}
-use Rattle.serial_laws.specs.disk_runs.specs.Rests.{AreFilled, DisksTell}
-use Rattle.serial_laws.specs.run_laws.specs.Told.{IsNew}
+use Rattle.run_laws.specs.Runs.{HasFiles}
+use Rattle.run_laws.specs.Sessions.{Session}
+use Rattle.disk_runs.specs.Readings.{DisksRead, DisksTold}
+use Rattle.disk_runs.specs.Rests.{AreFilled, DisksTell}
+use Rattle.run_laws.specs.Told.{IsNew}
 use Rattle.serial_laws.specs.Openings.{AreFresh, bare}
 use Rattle.serial_laws.specs.Steps.{AreEmpty, Cycled, GiveUp, IsSettled, IsSound}
 

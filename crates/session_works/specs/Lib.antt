@@ -10,6 +10,6 @@ pub mod Cycles
 pub mod SerialWords
 pub mod RunWords
 pub mod DeskWords
-pub use Rattle.serial_laws.specs.serial_lanes
-pub use Rattle.serial_laws.specs.disk_runs
-pub use Rattle.serial_laws.specs.disk_runs.specs.disk_files
+pub use Rattle.serial_lanes
+pub use Rattle.disk_runs
+pub use Rattle.disk_runs.specs.disk_files

@@ -12,10 +12,10 @@ use Rattle.jack_host.specs.Causes.{Rose}
 use Rattle.session_model.specs.Kinds.{Sound}
 use Rattle.client_kinds.specs.Scores.{Score}
 use Rattle.driver_words.specs.Tapes.{Tape}
-use Rattle.serial_laws.specs.control_desk.specs.Desks.{Desk}
+use Rattle.control_desk.specs.Desks.{Desk}
 use Rattle.cycle_driver.specs.Gears.{Gear, driver_of}
-use Rattle.serial_laws.specs.recorder_files.specs.Recorders.{Recording, Stored, held_in, held_or}
-use Rattle.serial_laws.specs.run_laws.specs.Sessions.{Playing, Session}
+use Rattle.recorder_files.specs.Recorders.{Recording, Stored, held_in, held_or}
+use Rattle.run_laws.specs.Sessions.{Playing, Session}
 
 -- `playback` is the playback's store where it came back, and `attached` is how many stores were attached
 pub record Parts : Type 0 where

@@ -12,10 +12,10 @@ use Rattle.session_model.specs.Scripts.{phases}
 use Rattle.client_kinds.specs.Scores.{Score}
 use Rattle.driver_words.specs.Tapes.{HasSamples, Tape}
 use Rattle.session_works.specs.Drivers.{playback_format}
-use Rattle.serial_laws.specs.recorder_files.specs.Recorders.{Recording}
-use Rattle.serial_laws.specs.run_laws.specs.Runs.{RanPhases}
-use Rattle.serial_laws.specs.run_laws.specs.SerialRuns.{SerialBehind}
-use Rattle.serial_laws.specs.run_laws.specs.Told.{IsNew}
+use Rattle.recorder_files.specs.Recorders.{Recording}
+use Rattle.run_laws.specs.Runs.{RanPhases}
+use Rattle.run_laws.specs.SerialRuns.{SerialBehind}
+use Rattle.run_laws.specs.Told.{IsNew}
 use Rattle.serial_laws.specs.Openings.{AreFresh, bare}
 use Rattle.serial_laws.specs.Steps.{IsSettled}
 use Rattle.session_works.specs.Parts.{HasOpenFiles, Parts, session_of}

@@ -4,9 +4,9 @@
 --     Goes freewheel session after      the cycle, with what left the recorders' rings around it
 --     Fails freewheel session after      the same, where it failed
 use Rattle.std.specs.Prelude.{◌≡◌, ℕ, Bool, true}
-use Rattle.serial_laws.specs.driver_laws.specs.Cycling.{FailsAtRead, FailsAtWrite}
-use Rattle.serial_laws.specs.run_laws.specs.Sessions.{Session}
-use Rattle.serial_laws.specs.disk_runs.specs.Readings.{DisksBroke, DisksRead, DisksTold}
+use Rattle.driver_laws.specs.Cycling.{FailsAtRead, FailsAtWrite}
+use Rattle.run_laws.specs.Sessions.{Session}
+use Rattle.disk_runs.specs.Readings.{DisksBroke, DisksRead, DisksTold}
 use Rattle.serial_laws.specs.Faults.{BreakUp, StaysOne}
 use Rattle.serial_laws.specs.Steps.{Cycled, Emptied, GiveUp, most_blocks, most_filled}
 

@@ -3,11 +3,11 @@
 ghost use Rattle.std.specs.Prelude.{◌≡◌, ◌+◌, ◌<◌, IsErrOf, List, OnErr, OnOk, Some, length, true};
 ghost use Rattle.jack_host.specs.Causes.{Rose};
 ghost use Rattle.session_model.specs.Scripts.{turns};
-ghost use Rattle.serial_laws.specs.control_desk.specs.Desks.{Desk as DeskValue};
-ghost use Rattle.serial_laws.specs.driver_laws.specs.Cycling.{CyclesOnce, FailsAtRead, FailsAtWrite, MayCycle};
-ghost use Rattle.serial_laws.specs.driver_laws.specs.Drivers.{run, turn_of};
-ghost use Rattle.serial_laws.specs.recorder_files.specs.Recorders.{Recording};
-ghost use Rattle.serial_laws.specs.run_laws.specs.Sessions.{Playing};
+ghost use Rattle.control_desk.specs.Desks.{Desk as DeskValue};
+ghost use Rattle.driver_laws.specs.Cycling.{CyclesOnce, FailsAtRead, FailsAtWrite, MayCycle};
+ghost use Rattle.driver_laws.specs.Drivers.{run, turn_of};
+ghost use Rattle.recorder_files.specs.Recorders.{Recording};
+ghost use Rattle.run_laws.specs.Sessions.{Playing};
 ghost use Rattle.wave_pcm.specs.Readings.{SameReading};
 ghost use Rattle.driver_words.specs.Tapes.{SameFile, Tape};
 ghost use Rattle.cycle_driver.specs.Gears.{driver_of};
@@ -27,9 +27,9 @@ use crate::limits::RingLimits;
 use crate::reading::{read_ahead, tell_all};
 use client_kinds::Guest;
 use cycle_driver::{CycleFault, Driver};
+use disk_runs::disk_files::DiskReader;
 use jack_host::{Gate, Source, Store};
-use serial_laws::disk_runs::disk_files::DiskReader;
-use serial_laws::recorder_files::Recorder;
+use recorder_files::Recorder;
 use std::thread::Threads;
 
 /// Runs the next cycle, with what leaves the recorders' rings and what goes into those of the disks around it. Before a

@@ -1,6 +1,6 @@
 //! What the type of a desk keeps.
 
-ghost use Rattle.serial_laws.specs.control_desk.specs.Desks.{IsDesk};
+ghost use Rattle.control_desk.specs.Desks.{IsDesk};
 
 use serial_laws::control_desk::Desk;
 

@@ -14,7 +14,7 @@ ghost use Rattle.driver_words.specs.Tapes.{Tape};
 use client_kinds::Guest;
 use cycle_driver::Driver;
 use jack_host::{Source, Store, WriteFailed};
-use serial_laws::recorder_files::Recorder;
+use recorder_files::Recorder;
 
 /// Writes blocks of a recorder's ring into its file, at most so many.
 fn give_up_one<S: Source, W: Store, G: Guest>(

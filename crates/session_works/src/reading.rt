@@ -3,15 +3,15 @@
 ghost use Rattle.std.specs.Prelude.{◌≡◌, ◌<◌, ℕ, All, OnErr, OnOk, false, length, slice_set, true};
 ghost use Rattle.driver_words.specs.Feeding.{disk_at};
 ghost use Rattle.driver_words.specs.Rings.{IsPair};
-ghost use Rattle.serial_laws.specs.disk_runs.specs.disk_files.specs.Serving.{IsGoing};
+ghost use Rattle.disk_runs.specs.disk_files.specs.Serving.{IsGoing};
 ghost use Rattle.session_works.specs.DiskSteps.{AreReadOn, AreTold, AreTried, DisksMoved, SomeRose, TriedOne};
 ghost use Rattle.session_works.specs.Insides.{DisksPaired};
 ghost use Rattle.session_works.specs.Parts.{AreReadLater};
 
 use client_kinds::Guest;
 use cycle_driver::Driver;
+use disk_runs::disk_files::DiskReader;
 use jack_host::{ReadFailed, Source, Store};
-use serial_laws::disk_runs::disk_files::DiskReader;
 
 /// Lets a disk's reader put at most so many blocks, and the ends of its ring meet. It answers whether no read failed.
 fn read_one<S: Source, W: Store, G: Guest>(

@@ -2,10 +2,10 @@
 
 use client_kinds::Guest;
 use cycle_driver::Driver;
+use disk_runs::disk_files::DiskReader;
 use jack_host::{Source, Store};
+use recorder_files::Recorder;
 use serial_laws::control_desk::Desk;
-use serial_laws::disk_runs::disk_files::DiskReader;
-use serial_laws::recorder_files::Recorder;
 
 /// The desk that makes the calls, the driver that runs the cycles, the recorders in their order, and the readers of the disks
 /// in theirs.

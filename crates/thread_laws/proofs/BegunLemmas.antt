@@ -8,7 +8,7 @@ use Rattle.std.proofs.lemmas.List.Elements.{All-nil, All-push, All-weaker}
 use Rattle.graph_word.specs.Publications.{Begins, Reading, Takes}
 use Rattle.driver_laws.specs.Cycling.{CyclesMany}
 use Rattle.driver_laws.specs.Drivers.{Driver}
-use Rattle.serial_laws.specs.run_laws.specs.Sessions.{Session}
+use Rattle.run_laws.specs.Sessions.{Session}
 use Rattle.thread_laws.specs.Laws.{Took}
 use Rattle.thread_laws.specs.Segments.{WheeledMany}
 use Rattle.thread_laws.proofs.TakeLemmas.{numbers_many, numbers_wheeled, rising-one, rising_more, took-none, took-same}

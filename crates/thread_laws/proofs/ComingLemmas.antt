@@ -10,13 +10,13 @@ use Rattle.session_model.specs.Grammar.{IsScript}
 use Rattle.session_model.specs.Histories.{IsWithinPhase, LegalSoFar, accepted_below, stage_of}
 use Rattle.session_model.specs.Scripts.{Script, ScriptCycle, turns}
 use Rattle.graph_word.specs.Publications.{Reading}
-use Rattle.serial_laws.specs.control_desk.specs.Desks.{GoesOn, IsOfPhases}
-use Rattle.serial_laws.specs.control_desk.specs.Laws.{AcceptedLater, AcceptedUpTo}
+use Rattle.control_desk.specs.Desks.{GoesOn, IsOfPhases}
+use Rattle.control_desk.specs.Laws.{AcceptedLater, AcceptedUpTo}
 use Rattle.driver_laws.specs.Drivers.{run, turn_of}
 use Rattle.driver_laws.specs.Segments.{cycles_before}
-use Rattle.serial_laws.specs.run_laws.proofs.LossLemmas.{front-short}
-use Rattle.serial_laws.specs.run_laws.specs.Runs.{RanPhases}
-use Rattle.serial_laws.specs.run_laws.specs.Sessions.{Session}
+use Rattle.run_laws.proofs.LossLemmas.{front-short}
+use Rattle.run_laws.specs.Runs.{RanPhases}
+use Rattle.run_laws.specs.Sessions.{Session}
 use Rattle.serial_laws.proofs.RowLemmas.{accepted-front}
 use Rattle.thread_laws.specs.Laws.{GroupBelow, GroupStays, LaterPhases, Took}
 use Rattle.thread_laws.proofs.ChainLemmas.{goes-later, goes-met, goes-same, least-met}

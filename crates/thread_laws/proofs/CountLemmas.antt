@@ -5,7 +5,7 @@ use Rattle.std.proofs.Common.{◌≡◌, ℕ, zero, suc, ◌+◌, ◌≤◌, Boo
 use Rattle.driver_laws.specs.Cycling.{CyclesMany}
 use Rattle.driver_laws.specs.Drivers.{Driver, run}
 use Rattle.driver_laws.proofs.StepLemmas.{ran}
-use Rattle.serial_laws.specs.run_laws.specs.Sessions.{Session}
+use Rattle.run_laws.specs.Sessions.{Session}
 use Rattle.thread_laws.specs.Segments.{WheeledMany}
 use Rattle.thread_laws.specs.Faults.{AtCapture, AtDraining, AtEmptying, AtPlayback, AtWheelCapture, AtWheelDisk, AtWheelPlayback, Drove, DroveAll, InFilling, InRun, InWheel, JoinFailed, WheelFailed}
 use Rattle.thread_laws.specs.FaultLaws.{KeptWithin}

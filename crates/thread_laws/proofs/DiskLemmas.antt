@@ -15,16 +15,16 @@ use Rattle.driver_laws.specs.Drivers.{Driver}
 use Rattle.driver_laws.specs.Keeping.{Fits, FitsDisk}
 use Rattle.driver_laws.proofs.MeetingLemmas.{Fits-met}
 use Rattle.driver_laws.proofs.PlaceLemmas.{there_too}
-use Rattle.serial_laws.specs.run_laws.specs.Runs.{PlaysAll, PutsFile}
-use Rattle.serial_laws.specs.run_laws.specs.Sessions.{IsDisk, IsOver, Playing, Session}
-use Rattle.serial_laws.specs.disk_runs.specs.Readings.{DisksBroke, DisksRead, DisksServed, DisksTold, NoneFailed, TriedDisk}
-use Rattle.serial_laws.specs.disk_runs.specs.Rests.{DiskTells, DisksTell, PutsAll}
-use Rattle.serial_laws.specs.disk_runs.specs.disk_files.specs.Readers.{ReadsAhead, TellsAhead}
-use Rattle.serial_laws.specs.disk_runs.specs.disk_turns.proofs.TurnLemmas.{plays-told}
-use Rattle.serial_laws.specs.disk_runs.proofs.FileLemmas.{fits-put}
-use Rattle.serial_laws.specs.disk_runs.proofs.PartLemmas.{HasFiles-served, HasRoom-served, IsOne-served, MissesInRun-served}
-use Rattle.serial_laws.specs.disk_runs.proofs.PlaceLemmas.{Stepped, both-by, both-of, long-after, stepped}
-use Rattle.serial_laws.specs.disk_runs.proofs.StepLemmas.{DiskMet, met-tried}
+use Rattle.run_laws.specs.Runs.{PlaysAll, PutsFile}
+use Rattle.run_laws.specs.Sessions.{IsDisk, IsOver, Playing, Session}
+use Rattle.disk_runs.specs.Readings.{DisksBroke, DisksRead, DisksServed, DisksTold, NoneFailed, TriedDisk}
+use Rattle.disk_runs.specs.Rests.{DiskTells, DisksTell, PutsAll}
+use Rattle.disk_runs.specs.disk_files.specs.Readers.{ReadsAhead, TellsAhead}
+use Rattle.disk_runs.specs.disk_turns.proofs.TurnLemmas.{plays-told}
+use Rattle.disk_runs.proofs.FileLemmas.{fits-put}
+use Rattle.disk_runs.proofs.PartLemmas.{HasFiles-served, HasRoom-served, IsOne-served, MissesInRun-served}
+use Rattle.disk_runs.proofs.PlaceLemmas.{Stepped, both-by, both-of, long-after, stepped}
+use Rattle.disk_runs.proofs.StepLemmas.{DiskMet, met-tried}
 use Rattle.thread_laws.specs.Parts.{IsSoundBut}
 use Rattle.thread_laws.proofs.PassLemmas.{LeavesDisks, LeavesRings}
 

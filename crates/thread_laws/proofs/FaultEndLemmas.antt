@@ -22,10 +22,10 @@ use Rattle.wave_write.proofs.TapeLemmas.{unfinished-front}
 use Rattle.driver_laws.specs.Drivers.{overruns_on, run, underruns_on}
 use Rattle.driver_laws.specs.Keeping.{HasTape, Keeps, kept_blocks, played_so_far}
 use Rattle.recorder_files.specs.Recorders.{GivesUp, Reel}
-use Rattle.serial_laws.specs.run_laws.specs.Runs.{AtPhase, RingAtRest}
-use Rattle.serial_laws.specs.run_laws.specs.Sessions.{Session, course_in}
-use Rattle.serial_laws.specs.run_laws.specs.Told.{StandsSoFar}
-use Rattle.serial_laws.specs.run_laws.proofs.CourseLemmas.{IsOver-own}
+use Rattle.run_laws.specs.Runs.{AtPhase, RingAtRest}
+use Rattle.run_laws.specs.Sessions.{Session, course_in}
+use Rattle.run_laws.specs.Told.{StandsSoFar}
+use Rattle.run_laws.proofs.CourseLemmas.{IsOver-own}
 use Rattle.serial_laws.specs.Endings.{Broken, EndFails, EndTried, Finished, Left, Unfinished}
 use Rattle.serial_laws.proofs.FaultLemmas.{AreFilled, AreFilled-one, IsFilled, IsFilled-gave, IsTold, IsTold-broke, IsTold-filled, format_at, got-renewed, reel-of}
 use Rattle.serial_laws.proofs.FrontLemmas.{HasFront-told}

@@ -15,7 +15,7 @@ use Rattle.driver_laws.specs.Cycling.{CyclesMany, CyclesOnce, FailsAtRead, Keeps
 use Rattle.driver_laws.specs.Drivers.{Driver, overruns_on, run}
 use Rattle.driver_laws.specs.Keeping.{Fits, HasTape, HasTapeFront, Keeps, kept_blocks, played_so_far}
 use Rattle.driver_laws.proofs.FitLemmas.{Fits-earlier, Fits-failed, Keeps-many}
-use Rattle.serial_laws.specs.run_laws.specs.Sessions.{Session}
+use Rattle.run_laws.specs.Sessions.{Session}
 use Rattle.thread_laws.specs.Faults.{AtCapture, AtPlayback, Drove, DroveAll}
 use Rattle.thread_laws.proofs.OwnLemmas.{Fits-many, IsOf, IsOf-failed, IsOf-many, IsOf-stepped}
 

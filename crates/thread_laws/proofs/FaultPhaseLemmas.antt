@@ -17,20 +17,20 @@ use Rattle.graph_word.specs.declared.view.TakenRow.{TakenRow}
 use Rattle.graph_word.specs.Publications.{IsFront, Publishing, Reading}
 use Rattle.driver_words.specs.Rings.{Getting, Sending}
 use Rattle.driver_words.specs.Tapes.{HasUnfinished, Tape}
-use Rattle.serial_laws.specs.control_desk.specs.Desks.{Desk}
-use Rattle.serial_laws.specs.control_desk.specs.Laws.{OfCallsAccepted}
+use Rattle.control_desk.specs.Desks.{Desk}
+use Rattle.control_desk.specs.Laws.{OfCallsAccepted}
 use Rattle.driver_laws.specs.Drivers.{Driver, overruns_on, run}
 use Rattle.driver_laws.specs.Keeping.{Fits, FitsDisk, Keeps, kept_blocks, played_so_far}
 use Rattle.driver_laws.proofs.MeetingLemmas.{Fits-met}
-use Rattle.serial_laws.specs.run_laws.specs.Runs.{AtPhase, PlaysAll, RingAtRest}
-use Rattle.serial_laws.specs.run_laws.specs.Sessions.{IsFor, Session, course_in}
-use Rattle.serial_laws.specs.run_laws.proofs.CourseLemmas.{IsOver-own}
-use Rattle.serial_laws.specs.disk_runs.specs.Readings.{DisksBroke, DisksServed}
-use Rattle.serial_laws.specs.disk_runs.specs.Rests.{PutsAll}
-use Rattle.serial_laws.specs.disk_runs.proofs.AloneLemmas.{PlaysAll-alone}
-use Rattle.serial_laws.specs.disk_runs.proofs.FileLemmas.{DisksTell-tried, PutTheirFiles, PutsAll-served}
-use Rattle.serial_laws.specs.disk_runs.proofs.PlaceLemmas.{long}
-use Rattle.serial_laws.specs.disk_runs.proofs.StepLemmas.{tried-told}
+use Rattle.run_laws.specs.Runs.{AtPhase, PlaysAll, RingAtRest}
+use Rattle.run_laws.specs.Sessions.{IsFor, Session, course_in}
+use Rattle.run_laws.proofs.CourseLemmas.{IsOver-own}
+use Rattle.disk_runs.specs.Readings.{DisksBroke, DisksServed}
+use Rattle.disk_runs.specs.Rests.{PutsAll}
+use Rattle.disk_runs.proofs.AloneLemmas.{PlaysAll-alone}
+use Rattle.disk_runs.proofs.FileLemmas.{DisksTell-tried, PutTheirFiles, PutsAll-served}
+use Rattle.disk_runs.proofs.PlaceLemmas.{long}
+use Rattle.disk_runs.proofs.StepLemmas.{tried-told}
 use Rattle.serial_laws.specs.Faults.{bytes_in, told}
 use Rattle.serial_laws.proofs.FaultLemmas.{AreFilled, AreFilled-one, format_at}
 use Rattle.thread_laws.specs.Segments.{RingsEnded, with_end}

@@ -13,8 +13,8 @@ use Rattle.driver_words.specs.Tapes.{HasUnfinished, Tape}
 use Rattle.wave_write.proofs.TapeLemmas.{unfinished-front, unfinished-longer}
 use Rattle.driver_laws.specs.Drivers.{overruns_on}
 use Rattle.driver_laws.specs.Keeping.{HasTapeFront, kept_blocks, played_so_far}
-use Rattle.serial_laws.specs.run_laws.specs.Sessions.{Session, course_in}
-use Rattle.serial_laws.specs.run_laws.specs.Told.{StandsSoFar}
+use Rattle.run_laws.specs.Sessions.{Session, course_in}
+use Rattle.run_laws.specs.Told.{StandsSoFar}
 use Rattle.serial_laws.specs.Faults.{bytes_in}
 use Rattle.serial_laws.proofs.FrontLemmas.{behind_front, samples-more}
 use Rattle.thread_laws.specs.Faults.{StandsUnfinished}

@@ -12,14 +12,14 @@ use Rattle.driver_laws.specs.Cycling.{StepsOnce}
 use Rattle.driver_laws.proofs.FitLemmas.{Fits-earlier}
 use Rattle.driver_laws.proofs.MeetingLemmas.{Fits-met, Keeps-met}
 use Rattle.recorder_files.specs.Recorders.{GivesUp, Reel}
-use Rattle.serial_laws.specs.run_laws.specs.Runs.{PlaysAll}
-use Rattle.serial_laws.specs.run_laws.specs.Sessions.{Session}
-use Rattle.serial_laws.specs.disk_runs.specs.Readings.{DisksRead}
-use Rattle.serial_laws.specs.disk_runs.specs.Rests.{AreFilled, DisksTell}
-use Rattle.serial_laws.specs.disk_runs.proofs.AloneLemmas.{PlaysAll-alone}
-use Rattle.serial_laws.specs.disk_runs.proofs.FileLemmas.{PlaysAll-read, PlaysAll-told}
-use Rattle.serial_laws.specs.disk_runs.proofs.PlaceLemmas.{long}
-use Rattle.serial_laws.specs.disk_runs.proofs.StepLemmas.{tried-read, tried-told}
+use Rattle.run_laws.specs.Runs.{PlaysAll}
+use Rattle.run_laws.specs.Sessions.{Session}
+use Rattle.disk_runs.specs.Readings.{DisksRead}
+use Rattle.disk_runs.specs.Rests.{AreFilled, DisksTell}
+use Rattle.disk_runs.proofs.AloneLemmas.{PlaysAll-alone}
+use Rattle.disk_runs.proofs.FileLemmas.{PlaysAll-read, PlaysAll-told}
+use Rattle.disk_runs.proofs.PlaceLemmas.{long}
+use Rattle.disk_runs.proofs.StepLemmas.{tried-read, tried-told}
 use Rattle.serial_laws.specs.Steps.{AreEmpty, GiveUp, IsSettled, IsSound, KeepsOwn}
 use Rattle.serial_laws.proofs.CycledLemmas.{IsSound-cycled}
 use Rattle.serial_laws.proofs.EachLemmas.{at-place}

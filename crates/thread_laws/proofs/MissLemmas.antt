@@ -7,10 +7,10 @@ use Rattle.jack_types.specs.declared.replies.Underrun.{Underrun}
 use Rattle.driver_laws.specs.Cycling.{StepsOnce}
 use Rattle.driver_laws.specs.Drivers.{Driver, graph_now, has_disk, run, underruns_on}
 use Rattle.driver_laws.proofs.PlaceLemmas.{there_too}
-use Rattle.serial_laws.specs.run_laws.specs.Sessions.{IsOne, Session}
-use Rattle.serial_laws.specs.run_laws.proofs.PlaceLemmas.{some_at}
-use Rattle.serial_laws.specs.disk_runs.specs.Rests.{AreFilled}
-use Rattle.serial_laws.specs.disk_runs.specs.disk_turns.proofs.SegmentLemmas.{not-missed}
+use Rattle.run_laws.specs.Sessions.{IsOne, Session}
+use Rattle.run_laws.proofs.PlaceLemmas.{some_at}
+use Rattle.disk_runs.specs.Rests.{AreFilled}
+use Rattle.disk_runs.specs.disk_turns.proofs.SegmentLemmas.{not-missed}
 
 -- a list has its first underrun's disk's
 some-on : (underrun : Underrun) (more : List Underrun) → 1 ≤ length (underruns_on (underrun ∷ more) underrun.disk)

@@ -11,16 +11,16 @@ use Rattle.session_model.specs.Disks.{IsBehindRing, IsSerial, Played}
 use Rattle.session_model.specs.Explanations.{Given}
 use Rattle.session_model.specs.Recorders.{IsAfterSegment, Lost}
 use Rattle.session_model.specs.Scripts.{Script, phases}
-use Rattle.serial_laws.specs.control_desk.specs.Laws.{OfCallsAccepted}
+use Rattle.control_desk.specs.Laws.{OfCallsAccepted}
 use Rattle.driver_laws.specs.Drivers.{overruns_on, underruns_on}
 use Rattle.driver_laws.specs.Keeping.{HasTape}
 use Rattle.driver_laws.specs.Openings.{IsEmptyRing}
 use Rattle.driver_laws.proofs.PlaceLemmas.{none_below}
-use Rattle.serial_laws.specs.serial_lanes.specs.Laws.{BehindNone}
-use Rattle.serial_laws.specs.run_laws.specs.Runs.{AreWithin, AtPhase, HasFiles, RanPhases}
-use Rattle.serial_laws.specs.run_laws.specs.Sessions.{IsGiven, Session, course_in}
-use Rattle.serial_laws.specs.run_laws.specs.Told.{HasLists, IsNew, Runs}
-use Rattle.serial_laws.specs.disk_runs.proofs.NewLemmas.{NewPlayTheirFiles}
+use Rattle.serial_lanes.specs.Laws.{BehindNone}
+use Rattle.run_laws.specs.Runs.{AreWithin, AtPhase, HasFiles, RanPhases}
+use Rattle.run_laws.specs.Sessions.{IsGiven, Session, course_in}
+use Rattle.run_laws.specs.Told.{HasLists, IsNew, Runs}
+use Rattle.disk_runs.proofs.NewLemmas.{NewPlayTheirFiles}
 use Rattle.serial_laws.specs.Openings.{AreFresh, bare}
 use Rattle.serial_laws.specs.Steps.{KeepsOwn}
 use Rattle.serial_laws.proofs.EachLemmas.{at-place}

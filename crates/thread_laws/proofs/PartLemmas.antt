@@ -6,10 +6,10 @@
 use Rattle.std.proofs.Common.{◌≡◌, ℕ, suc, false, length, All, refl, sym, ◌∙◌, ap, subst}
 use Rattle.graph_word.specs.Publications.{Publishing, Reading, last_row}
 use Rattle.driver_words.specs.Rings.{Sending}
-use Rattle.serial_laws.specs.control_desk.specs.Desks.{Desk, IsDesk, base_of}
-use Rattle.serial_laws.specs.disk_runs.proofs.AloneLemmas.{DisksTell-alone}
-use Rattle.serial_laws.specs.run_laws.specs.Runs.{HasFiles}
-use Rattle.serial_laws.specs.run_laws.specs.Sessions.{IsOne, Session}
+use Rattle.control_desk.specs.Desks.{Desk, IsDesk, base_of}
+use Rattle.disk_runs.proofs.AloneLemmas.{DisksTell-alone}
+use Rattle.run_laws.specs.Runs.{HasFiles}
+use Rattle.run_laws.specs.Sessions.{IsOne, Session}
 use Rattle.serial_laws.specs.Steps.{IsSettled, IsSound, Met, Rounded}
 use Rattle.serial_laws.proofs.MeetLemmas.{DisksTell-met, IsDesk-seen, IsSound-met}
 use Rattle.thread_laws.specs.Parts.{IsSoundBut}

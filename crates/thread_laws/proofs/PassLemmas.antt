@@ -8,8 +8,8 @@
 use Rattle.std.proofs.Common.{◌≡◌, ◌⊎◌, ℕ, suc, true, length, slice_get, Some, sym, ◌∙◌, ap}
 use Rattle.graph_word.specs.Publications.{Reading}
 use Rattle.driver_words.specs.Rings.{Getting, Sending}
-use Rattle.serial_laws.specs.control_desk.specs.Desks.{Desk}
-use Rattle.serial_laws.specs.run_laws.specs.Sessions.{Session}
+use Rattle.control_desk.specs.Desks.{Desk}
+use Rattle.run_laws.specs.Sessions.{Session}
 use Rattle.serial_laws.specs.Steps.{IsSound, Met, Rounded}
 use Rattle.serial_laws.proofs.GiveLemmas.{many-counts, many-rings, many-tapes}
 use Rattle.thread_laws.specs.Segments.{Grouped, Paced, Renewed, WentOn}

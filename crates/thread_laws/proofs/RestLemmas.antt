@@ -16,8 +16,8 @@ use Rattle.driver_laws.specs.Keeping.{Fits, Keeps, KeepsRing, kept_blocks}
 use Rattle.driver_laws.specs.Segments.{cycles_before}
 use Rattle.driver_laws.proofs.PlaceLemmas.{there_too}
 use Rattle.driver_laws.proofs.SegmentLemmas.{IsAfterSegment-from}
-use Rattle.serial_laws.specs.run_laws.specs.Runs.{RingAtRest}
-use Rattle.serial_laws.specs.run_laws.specs.Sessions.{IsFor, KeepsAny, Session}
+use Rattle.run_laws.specs.Runs.{RingAtRest}
+use Rattle.run_laws.specs.Sessions.{IsFor, KeepsAny, Session}
 use Rattle.thread_laws.specs.Rests.{ComesBehind}
 use Rattle.thread_laws.specs.Segments.{CycledMany}
 use Rattle.thread_laws.proofs.RingLaterLemmas.{AfterSegment-more, kept_blocks-more}

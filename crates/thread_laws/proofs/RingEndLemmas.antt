@@ -13,9 +13,9 @@ use Rattle.session_model.specs.Rings.{samples_of_blocks}
 use Rattle.driver_laws.specs.Drivers.{HasOwnRings, IsOwnRing, channels_on, frames_run}
 use Rattle.driver_laws.proofs.PlaceLemmas.{there_too}
 use Rattle.recorder_files.specs.Recorders.{Reel}
-use Rattle.serial_laws.specs.run_laws.specs.Runs.{HasFiles}
-use Rattle.serial_laws.specs.run_laws.specs.Sessions.{IsOne, Session}
-use Rattle.serial_laws.specs.run_laws.proofs.PlaceLemmas.{mapped_there, some_at}
+use Rattle.run_laws.specs.Runs.{HasFiles}
+use Rattle.run_laws.specs.Sessions.{IsOne, Session}
+use Rattle.run_laws.proofs.PlaceLemmas.{mapped_there, some_at}
 use Rattle.serial_laws.specs.Steps.{IsReel, IsSound}
 use Rattle.serial_laws.proofs.EachLemmas.{All-places, at-place, map-places, map-places_is}
 use Rattle.serial_laws.proofs.GiveLemmas.{reel_at}

@@ -15,9 +15,9 @@ use Rattle.driver_laws.specs.Keeping.{Keeps}
 use Rattle.driver_laws.proofs.FitLemmas.{Keeps-many}
 use Rattle.driver_laws.proofs.MeetingLemmas.{Keeps-met}
 use Rattle.driver_laws.proofs.PlaceLemmas.{there_too}
-use Rattle.serial_laws.specs.run_laws.specs.Sessions.{KeepsAny, Session}
-use Rattle.serial_laws.specs.run_laws.proofs.PlaceLemmas.{some_at}
-use Rattle.serial_laws.specs.disk_runs.specs.Readings.{DisksServed}
+use Rattle.run_laws.specs.Sessions.{KeepsAny, Session}
+use Rattle.run_laws.proofs.PlaceLemmas.{some_at}
+use Rattle.disk_runs.specs.Readings.{DisksServed}
 use Rattle.serial_laws.specs.Steps.{KeepsOwn, Met, Rounded}
 use Rattle.thread_laws.specs.Parts.{IsSoundBut}
 use Rattle.thread_laws.specs.Segments.{CycledMany, Grouped, Paced, Renewed, RingsEnded, Served, WentOn, with_end}

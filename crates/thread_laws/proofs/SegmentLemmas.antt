@@ -12,12 +12,12 @@ use Rattle.session_model.specs.Scripts.{Script}
 use Rattle.driver_laws.specs.Drivers.{run}
 use Rattle.driver_laws.specs.Segments.{cycles_before}
 use Rattle.driver_laws.proofs.PlaceLemmas.{there_too}
-use Rattle.serial_laws.specs.run_laws.specs.Runs.{AtPhase}
-use Rattle.serial_laws.specs.run_laws.specs.Sessions.{IsFor, KeepsAny, Session}
-use Rattle.serial_laws.specs.run_laws.proofs.PlaceLemmas.{some_at}
-use Rattle.serial_laws.specs.disk_runs.specs.Readings.{DisksBroke, DisksServed}
-use Rattle.serial_laws.specs.disk_runs.proofs.PlaceLemmas.{long}
-use Rattle.serial_laws.specs.disk_runs.proofs.StepLemmas.{tried-read, tried-told}
+use Rattle.run_laws.specs.Runs.{AtPhase}
+use Rattle.run_laws.specs.Sessions.{IsFor, KeepsAny, Session}
+use Rattle.run_laws.proofs.PlaceLemmas.{some_at}
+use Rattle.disk_runs.specs.Readings.{DisksBroke, DisksServed}
+use Rattle.disk_runs.proofs.PlaceLemmas.{long}
+use Rattle.disk_runs.proofs.StepLemmas.{tried-read, tried-told}
 use Rattle.serial_laws.specs.Steps.{IsSettled}
 use Rattle.serial_laws.proofs.GiveLemmas.{many-rings}
 use Rattle.thread_laws.specs.Rests.{ComesBehind, RingsAtRest}

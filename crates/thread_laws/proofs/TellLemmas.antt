@@ -17,12 +17,12 @@ use Rattle.graph_word.specs.Publications.{Reading}
 use Rattle.driver_words.specs.Rings.{Getting, Sending}
 use Rattle.driver_words.specs.Tapes.{HasSamples, HasUnfinished, Tape}
 use Rattle.wave_write.proofs.TapeLemmas.{samples-unfinished}
-use Rattle.serial_laws.specs.control_desk.specs.Desks.{Desk}
+use Rattle.control_desk.specs.Desks.{Desk}
 use Rattle.driver_laws.specs.Drivers.{overruns_on}
 use Rattle.driver_laws.specs.Keeping.{kept_blocks, played_so_far}
 use Rattle.recorder_files.specs.Recorders.{Reel}
-use Rattle.serial_laws.specs.run_laws.specs.Sessions.{Session}
-use Rattle.serial_laws.specs.run_laws.proofs.PlaceLemmas.{some_at}
+use Rattle.run_laws.specs.Sessions.{Session}
+use Rattle.run_laws.proofs.PlaceLemmas.{some_at}
 use Rattle.serial_laws.specs.Faults.{bytes_in}
 use Rattle.serial_laws.specs.Steps.{IsReel}
 use Rattle.serial_laws.proofs.FaultLemmas.{AreFilled, IsFilled, format_at, reel-of}

@@ -20,13 +20,13 @@ use Rattle.driver_laws.specs.Keeping.{Fits, Keeps, kept_blocks, played_so_far}
 use Rattle.driver_laws.proofs.FitLemmas.{Fits-earlier, Fits-failed}
 use Rattle.driver_laws.proofs.MeetingLemmas.{Fits-met, Keeps-met}
 use Rattle.recorder_files.specs.Recorders.{Reel}
-use Rattle.serial_laws.specs.run_laws.specs.Runs.{PlaysAll}
-use Rattle.serial_laws.specs.run_laws.specs.Sessions.{Session}
-use Rattle.serial_laws.specs.disk_runs.specs.Readings.{DisksBroke, DisksRead, DisksTold}
-use Rattle.serial_laws.specs.disk_runs.specs.Rests.{PutsAll}
-use Rattle.serial_laws.specs.disk_runs.proofs.AloneLemmas.{PlaysAll-alone}
-use Rattle.serial_laws.specs.disk_runs.proofs.FileLemmas.{PutTheirFiles}
-use Rattle.serial_laws.specs.disk_runs.proofs.StepLemmas.{tried-read, tried-told}
+use Rattle.run_laws.specs.Runs.{PlaysAll}
+use Rattle.run_laws.specs.Sessions.{Session}
+use Rattle.disk_runs.specs.Readings.{DisksBroke, DisksRead, DisksTold}
+use Rattle.disk_runs.specs.Rests.{PutsAll}
+use Rattle.disk_runs.proofs.AloneLemmas.{PlaysAll-alone}
+use Rattle.disk_runs.proofs.FileLemmas.{PutTheirFiles}
+use Rattle.disk_runs.proofs.StepLemmas.{tried-read, tried-told}
 use Rattle.serial_laws.specs.Faults.{BreakUp, StaysOne, bytes_in}
 use Rattle.serial_laws.specs.Steps.{Cycled, GiveUp, IsReel}
 use Rattle.serial_laws.proofs.FaultCourses.{HasMetOthers-emptied}

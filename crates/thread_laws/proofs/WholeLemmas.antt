@@ -11,22 +11,22 @@ use Rattle.jack_types.specs.declared.replies.Underrun.{Underrun}
 use Rattle.session_model.specs.Disks.{IsBehindRing}
 use Rattle.session_model.specs.Explanations.{Given}
 use Rattle.session_model.specs.Scripts.{Phase, Script, ScriptCycle, phases}
-use Rattle.serial_laws.specs.control_desk.specs.Laws.{OfCallsAccepted}
+use Rattle.control_desk.specs.Laws.{OfCallsAccepted}
 use Rattle.driver_laws.specs.Cycling.{CyclesMany}
 use Rattle.driver_laws.specs.Drivers.{Driver, run, turn_of, underruns_on}
 use Rattle.driver_laws.specs.Segments.{cycles_before}
 use Rattle.driver_laws.proofs.MeetingLemmas.{Fits-met as Fits-others, Keeps-met as Keeps-others}
-use Rattle.serial_laws.specs.run_laws.specs.Runs.{AtPhase, DisksAtRest, MissesBehindRing, PlaysAll, RanPhases}
-use Rattle.serial_laws.specs.run_laws.specs.Sessions.{IsDisk, IsFor, IsOne, KeepsAny, Playing, Session}
-use Rattle.serial_laws.specs.run_laws.proofs.CourseLemmas.{Fits-met, FitsDisk-rest}
-use Rattle.serial_laws.specs.disk_runs.specs.Readings.{DisksBroke, DisksRead}
-use Rattle.serial_laws.specs.disk_runs.specs.Rests.{DisksFilled, DisksTell}
-use Rattle.serial_laws.specs.disk_runs.proofs.AloneLemmas.{PlaysAll-alone}
-use Rattle.serial_laws.specs.disk_runs.proofs.FileLemmas.{PlaysAll-read, PlaysAll-served, PlaysAll-told}
-use Rattle.serial_laws.specs.disk_runs.proofs.PartLemmas.{IsOne-tried}
-use Rattle.serial_laws.specs.disk_runs.proofs.PlaceLemmas.{both-by, long}
-use Rattle.serial_laws.specs.disk_runs.proofs.RoomLemmas.{DisksFilled-read}
-use Rattle.serial_laws.specs.disk_runs.proofs.StepLemmas.{tried-read, tried-told}
+use Rattle.run_laws.specs.Runs.{AtPhase, DisksAtRest, MissesBehindRing, PlaysAll, RanPhases}
+use Rattle.run_laws.specs.Sessions.{IsDisk, IsFor, IsOne, KeepsAny, Playing, Session}
+use Rattle.run_laws.proofs.CourseLemmas.{Fits-met, FitsDisk-rest}
+use Rattle.disk_runs.specs.Readings.{DisksBroke, DisksRead}
+use Rattle.disk_runs.specs.Rests.{DisksFilled, DisksTell}
+use Rattle.disk_runs.proofs.AloneLemmas.{PlaysAll-alone}
+use Rattle.disk_runs.proofs.FileLemmas.{PlaysAll-read, PlaysAll-served, PlaysAll-told}
+use Rattle.disk_runs.proofs.PartLemmas.{IsOne-tried}
+use Rattle.disk_runs.proofs.PlaceLemmas.{both-by, long}
+use Rattle.disk_runs.proofs.RoomLemmas.{DisksFilled-read}
+use Rattle.disk_runs.proofs.StepLemmas.{tried-read, tried-told}
 use Rattle.serial_laws.specs.Steps.{IsSettled, IsSound, KeepsOwn}
 use Rattle.serial_laws.proofs.CycledLemmas.{IsSound-cycled}
 use Rattle.serial_laws.proofs.KeepLemmas.{KeepsOwn-read, KeepsOwn-told}

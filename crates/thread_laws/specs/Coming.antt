@@ -6,8 +6,8 @@ use Rattle.std.specs.List.Sorted.{IsNonDecreasing}
 use Rattle.jack_types.specs.declared.replies.Entry.{Entry}
 use Rattle.session_model.specs.Histories.{LegalSoFar}
 use Rattle.session_model.specs.Scripts.{Phase, Script, phases}
-use Rattle.serial_laws.specs.run_laws.specs.Runs.{AreWithin, RanPhases}
-use Rattle.serial_laws.specs.run_laws.specs.Sessions.{Session}
+use Rattle.run_laws.specs.Runs.{AreWithin, RanPhases}
+use Rattle.run_laws.specs.Sessions.{Session}
 use Rattle.thread_laws.specs.Faults.{ThreadFault}
 
 pub record HasCome (script : Script) (history : List Entry) (numbers : List ℕ) : Type 0 where

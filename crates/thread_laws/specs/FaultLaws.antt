@@ -5,9 +5,9 @@ use Rattle.std.specs.Prelude.{ℕ, ◌+◌, ◌≤◌, Bool, length, IsSome}
 use Rattle.session_model.specs.Explanations.{Given}
 use Rattle.session_model.specs.Scripts.{phases}
 use Rattle.driver_laws.specs.Drivers.{run}
-use Rattle.serial_laws.specs.run_laws.specs.Runs.{AtPhase}
-use Rattle.serial_laws.specs.run_laws.specs.Sessions.{Session}
-use Rattle.serial_laws.specs.run_laws.specs.Told.{StandsSoFar}
+use Rattle.run_laws.specs.Runs.{AtPhase}
+use Rattle.run_laws.specs.Sessions.{Session}
+use Rattle.run_laws.specs.Told.{StandsSoFar}
 use Rattle.serial_laws.specs.Endings.{EndFails}
 use Rattle.thread_laws.specs.Faults.{ThreadFault}
 

@@ -15,10 +15,10 @@ use Rattle.driver_laws.specs.Cycling.{FailsAtRead, FailsAtWrite}
 use Rattle.driver_laws.specs.Drivers.{overruns_on, run}
 use Rattle.driver_laws.specs.Keeping.{kept_blocks, played_so_far}
 use Rattle.recorder_files.specs.Recorders.{Reel}
-use Rattle.serial_laws.specs.run_laws.specs.Sessions.{Session, course_in}
+use Rattle.run_laws.specs.Sessions.{Session, course_in}
 use Rattle.serial_laws.specs.Faults.{BreakUp, StaysOne}
 use Rattle.serial_laws.specs.Steps.{Cycled, GiveUp, IsReel, Met}
-use Rattle.serial_laws.specs.disk_runs.specs.Readings.{DisksBroke, DisksRead, DisksServed, DisksTold}
+use Rattle.disk_runs.specs.Readings.{DisksBroke, DisksRead, DisksServed, DisksTold}
 use Rattle.thread_laws.specs.Segments.{CycledMany, Grouped, Paced, Renewed, RingsEnded, ServesReel, WentOn, WheeledMany}
 
 -- what the driver's thread did of so many cycles: all; or fewer, and the next failed. `kept` cycles were really played: one that failed at the capture was not, and of one that failed at the playback a front was

@@ -2,18 +2,18 @@
 
 ghost use Rattle.std.specs.Prelude.{ℕ, Bool, IsSome};
 ghost use Rattle.session_model.specs.Explanations.{Given};
-ghost use Rattle.serial_laws.specs.run_laws.specs.Runs.{AtPhase};
-ghost use Rattle.serial_laws.specs.run_laws.specs.Sessions.{Session};
-ghost use Rattle.serial_laws.specs.run_laws.specs.Told.{StandsSoFar};
+ghost use Rattle.run_laws.specs.Runs.{AtPhase};
+ghost use Rattle.run_laws.specs.Sessions.{Session};
+ghost use Rattle.run_laws.specs.Told.{StandsSoFar};
 ghost use Rattle.serial_laws.specs.Faults.{told};
 ghost use Rattle.thread_laws.specs.Coming.{ComeBehindFault};
 ghost use Rattle.thread_laws.specs.Faults.{StandsUnfinished, ThreadFault};
 ghost use Rattle.thread_laws.specs.FaultLaws.{EndStands, KeptWithin};
 
 use crate::desks::{groups_are_of_their_phase, later_calls_are_of_later_stages};
+use run_laws::runs::{numbers_are_published, players_put_their_files};
 use serial_laws::control_desk::laws::{accepted_by_stages, accepted_of_legal};
 use serial_laws::numbers::cycles_of_a_phase;
-use serial_laws::run_laws::runs::{numbers_are_published, players_put_their_files};
 
 /// Behind a phase that failed, in whatever schedule, each file holds a front of what was really played, or kept.
 pub fn a_phase_that_fails_leaves_fronts()

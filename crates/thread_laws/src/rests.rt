@@ -4,20 +4,20 @@ ghost use Rattle.std.specs.Prelude.{◌≡◌, ℕ, IsSome, Some, [], length, sl
 ghost use Rattle.session_model.specs.Explanations.{Given};
 ghost use Rattle.session_model.specs.Scripts.{Phase, phases};
 ghost use Rattle.driver_laws.specs.Keeping.{HasTape};
-ghost use Rattle.serial_laws.specs.run_laws.specs.Runs.{AtPhase, HasFiles, RanPhases};
-ghost use Rattle.serial_laws.specs.run_laws.specs.Sessions.{IsGiven, Session};
-ghost use Rattle.serial_laws.specs.run_laws.specs.Told.{IsNew, Runs};
+ghost use Rattle.run_laws.specs.Runs.{AtPhase, HasFiles, RanPhases};
+ghost use Rattle.run_laws.specs.Sessions.{IsGiven, Session};
+ghost use Rattle.run_laws.specs.Told.{IsNew, Runs};
 ghost use Rattle.serial_laws.specs.Openings.{AreFresh, bare};
 ghost use Rattle.serial_laws.specs.Steps.{IsSettled};
 ghost use Rattle.thread_laws.specs.Segments.{ThreadSegment};
 
 use crate::phases::a_phase_was_run;
-use serial_laws::control_desk::laws::accepted_of_legal;
-use serial_laws::disk_runs::readings::ends_that_met_tell;
-use serial_laws::disk_runs::segments::a_segment_misses_behind_its_rings;
-use serial_laws::run_laws::runs::{
+use disk_runs::readings::ends_that_met_tell;
+use disk_runs::segments::a_segment_misses_behind_its_rings;
+use run_laws::runs::{
     a_new_session_keeps, lists_are_lawful, misses_can_be, new_players_play_their_files,
 };
+use serial_laws::control_desk::laws::accepted_of_legal;
 use serial_laws::serial_lanes::laws::desk_by_phases;
 
 /// A new session whose files are begun stands before its first phase.

@@ -34,7 +34,7 @@ pub use failures::{
 pub use feeds::{Channel, of_feeds};
 pub use formats::{Made, made_by};
 pub use graphs::of_wrong;
-pub use losses::{of_lost_blocks, of_rings};
+pub use losses::{of_fills, of_lost_blocks, of_rings, of_underruns};
 pub use reason_text::Reason;
 pub use refusals::of_refusals;
 pub use rereading::read_again;

@@ -1,7 +1,7 @@
 use Rattle.std.proofs.Common.{◌∙◌, ap, arith, length}
 use Rattle.session_run.specs.Seen.{Parts, Playing}
 use Rattle.jack_control.specs.Openings.{faults_in}
-use Rattle.check_command.specs.play_inputs.proofs.InputLemmas.{same_after}
+use Rattle.play_inputs.proofs.InputLemmas.{same_after}
 use Rattle.std.proofs.lemmas.List.Sums.{sum_by-cons}
 use Rattle.jack_control.proofs.disks.back_disks.Goals as goal
 

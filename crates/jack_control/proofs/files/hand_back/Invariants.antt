@@ -1,7 +1,7 @@
 use Rattle.std.proofs.Common.{◌≡◌, ◌+◌, ◌≤◌, length}
 use Rattle.std.specs.Prelude.{IsTrue, OnErr, OnOk}
 use Rattle.jack_host.specs.Causes.{Rose}
-use Rattle.check_command.specs.run_laws.specs.Told.{text_in}
+use Rattle.run_laws.specs.Told.{text_in}
 use Rattle.session_run.specs.Seen.{session_of, stores_in}
 use Rattle.session_run.specs.Standings.{HasEnded}
 use Rattle.jack_control.specs.Files.{IsPart, IsWhole}

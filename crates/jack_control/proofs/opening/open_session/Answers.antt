@@ -2,10 +2,10 @@ use Rattle.std.proofs.Common.{◌≡◌, ◌∙◌, Err, ap, arith, length, map,
 use Rattle.std.proofs.lemmas.List.{length-map}
 use Rattle.std.proofs.lemmas.Result.{err_from_is_err_and}
 use Rattle.wave_pcm.specs.Readings.{Reading}
-use Rattle.check_command.specs.play_inputs.specs.declared.status.Status.{Status}
-use Rattle.check_command.specs.play_inputs.specs.declared.status.Status.TheVariants.{ReadFault}
-use Rattle.check_command.specs.play_inputs.proofs.InputLemmas.{same_after}
-use Rattle.check_command.specs.play_inputs.proofs.OpeningLemmas.{one_err}
+use Rattle.play_inputs.specs.declared.status.Status.{Status}
+use Rattle.play_inputs.specs.declared.status.Status.TheVariants.{ReadFault}
+use Rattle.play_inputs.proofs.InputLemmas.{same_after}
+use Rattle.play_inputs.proofs.OpeningLemmas.{one_err}
 use Rattle.jack_control.proofs.OpeningLemmas.{AreDisks-fresh, players-fresh, players-many, session-told, waves-many}
 use Rattle.jack_control.proofs.opening.open_session.Goals as goal
 

@@ -3,10 +3,10 @@ use Rattle.jack_types.specs.declared.replies.Entry.{Entry}
 use Rattle.session_model.specs.Scripts.{Script, phases}
 use Rattle.session_model.specs.Serial.{serial}
 use Rattle.wave_pcm.specs.Readings.{Reading, SameReading}
-use Rattle.check_command.specs.control_desk.specs.Desks.{Desk}
+use Rattle.control_desk.specs.Desks.{Desk}
 use Rattle.session_run.specs.Seen.{Gear, driver_of}
 use Rattle.driver_laws.specs.Drivers.{run}
-use Rattle.check_command.specs.run_laws.specs.Runs.{AtPhase}
+use Rattle.run_laws.specs.Runs.{AtPhase}
 use Rattle.session_run.specs.Seen.{HasCome}
 use Rattle.session_run.specs.Seen.{Playing, session_of, stores_in}
 use Rattle.session_run.proofs.PassedLemmas.{at-err, at-ok}

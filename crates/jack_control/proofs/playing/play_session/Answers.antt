@@ -2,10 +2,10 @@ use Rattle.std.proofs.Common.{◌≡◌, inl, inr, List, [], ℕ, ◌∙◌, Som
 use Rattle.jack_host.specs.Bytes.{Gains}
 use Rattle.jack_host.specs.Causes.{Rose}
 use Rattle.wave_pcm.specs.Readings.{Reading}
-use Rattle.check_command.specs.run_laws.specs.Sessions.{printed_of}
-use Rattle.check_command.specs.run_laws.specs.Told.{text_in}
+use Rattle.run_laws.specs.Sessions.{printed_of}
+use Rattle.run_laws.specs.Told.{text_in}
 use Rattle.session_run.specs.Seen.{Gear, session_of, stores_in}
-use Rattle.check_command.specs.play_inputs.proofs.InputLemmas.{same_after}
+use Rattle.play_inputs.proofs.InputLemmas.{same_after}
 use Rattle.jack_control.specs.Openings.{AreFaultless}
 use Rattle.jack_control.specs.Plays.{made_by}
 use Rattle.jack_control.proofs.CauseLemmas.{err-any, err-behind, faults-none, ok-behind, ok-known, rose-source, rose-written}

@@ -1,10 +1,10 @@
 use Rattle.std.proofs.Common.{◌∙◌, None, ap, arith, length, map, sym, take}
-use Rattle.check_command.specs.control_desk.specs.Desks.{Desk}
-use Rattle.check_command.specs.run_laws.specs.Sessions.{printed_of}
-use Rattle.check_command.specs.run_laws.specs.Told.{text_in}
+use Rattle.control_desk.specs.Desks.{Desk}
+use Rattle.run_laws.specs.Sessions.{printed_of}
+use Rattle.run_laws.specs.Told.{text_in}
 use Rattle.session_run.specs.Seen.{session_of, stores_in}
 use Rattle.session_run.proofs.PassedLemmas.{at-ok}
-use Rattle.check_command.specs.play_inputs.proofs.InputLemmas.{same_after}
+use Rattle.play_inputs.proofs.InputLemmas.{same_after}
 use Rattle.jack_control.specs.Plays.{made_by}
 use Rattle.jack_control.proofs.CutLemmas.{apart-front, apart-take, explained}
 use Rattle.jack_control.proofs.HandedLemmas.{ok_of}

@@ -3,17 +3,17 @@ use Rattle.check_command.specs.Answers.{CheckStatus, HasCheckRefusal, IsDecided,
 use Rattle.check_command.specs.Cases.{HasCase, IfCase, LacksCase, OfCase}
 use Rattle.check_command.specs.Lines.{IsExplained as HasExplanation}
 use Rattle.jack_types.specs.declared.replies.Row.{Row}
-use Rattle.check_command.specs.play_inputs.specs.declared.status.Status.{Status}
-use Rattle.check_command.specs.play_inputs.specs.declared.status.Status.TheVariants.{NoMemory, Ok}
+use Rattle.play_inputs.specs.declared.status.Status.{Status}
+use Rattle.play_inputs.specs.declared.status.Status.TheVariants.{NoMemory, Ok}
 use Rattle.play_words.specs.Checks.{Check}
 use Rattle.check_model.specs.Checking.{IsFirstWrong}
 use Rattle.jack_host.specs.Causes.{Rose}
 use Rattle.play_words.specs.Words.{Play}
-use Rattle.check_command.specs.play_inputs.specs.Answers.{HasInput, HasRefusal, IfInput, IsDoneOrNoMemory, LacksInput, PlayStatus}
+use Rattle.play_inputs.specs.Answers.{HasInput, HasRefusal, IfInput, IsDoneOrNoMemory, LacksInput, PlayStatus}
 use Rattle.jack_control.specs.Plays.{IsExplained, IsOutCut, IsPlayCut, TouchesOnly, made_by}
-use Rattle.check_command.specs.play_inputs.proofs.ExactLemmas.{complete-err, exact-err}
+use Rattle.play_inputs.proofs.ExactLemmas.{complete-err, exact-err}
 use Rattle.jack_control.proofs.ExactLemmas.{exact-ok}
-use Rattle.check_command.specs.play_inputs.proofs.InputLemmas.{rose-later}
+use Rattle.play_inputs.proofs.InputLemmas.{rose-later}
 use Rattle.jack_control.proofs.RehearsalLemmas.{finished-of}
 use Rattle.jack_control.proofs.TopLemmas.{play-not-wrong, rehearsal-not-wrong, wrong-not-words}
 use Rattle.jack_control.proofs.top.jackd.Goals as goal

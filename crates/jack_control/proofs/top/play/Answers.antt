@@ -1,8 +1,8 @@
 use Rattle.std.proofs.Common.{◌∙◌, Err, ap, map, sym}
 use Rattle.std.proofs.lemmas.Result.{err_from_is_err_and}
-use Rattle.check_command.specs.play_inputs.specs.declared.status.Status.{Status}
-use Rattle.check_command.specs.play_inputs.specs.declared.status.Status.TheVariants.{ReadFault}
-use Rattle.check_command.specs.play_inputs.proofs.OpeningLemmas.{one_err}
+use Rattle.play_inputs.specs.declared.status.Status.{Status}
+use Rattle.play_inputs.specs.declared.status.Status.TheVariants.{ReadFault}
+use Rattle.play_inputs.proofs.OpeningLemmas.{one_err}
 use Rattle.jack_control.specs.Plays.{made_by}
 use Rattle.jack_control.proofs.FileLemmas.{touches-after, touches_same}
 use Rattle.jack_control.proofs.TopLemmas.{input-of}

@@ -1,6 +1,6 @@
 use Rattle.std.proofs.Common.{◌≡◌, ◌<◌, length, slice_get, Some, sym, ◌∙◌, ap, arith}
 use Rattle.check_laws.proofs.PlaceLists.{slice-at, slice-inside}
-use Rattle.serial_laws.specs.run_laws.proofs.PlaceLemmas.{some_at}
+use Rattle.run_laws.proofs.PlaceLemmas.{some_at}
 use Rattle.report_reader.specs.declared.rows.EventLine.{EventLine}
 use Rattle.session_check.proofs.EventLemmas.{behind-all, behind-none, behind-one, departs, departs-other}
 use Rattle.session_check.proofs.events.behind_log.Goals as goal

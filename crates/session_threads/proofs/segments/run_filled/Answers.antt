@@ -44,6 +44,9 @@ run_beside-passes-requires-clause-few_disks g c κs within = (disks-sound g.G.Gu
 pub run_beside-passes-requires-clause-many : goal.run_beside-passes-requires-clause-many
 run_beside-passes-requires-clause-many g c κs within = ends-many g.G.Guest.sound (parts_with (beside c.args.rig.works.desk c.args.rig.works.readers.items) c.args.rig.works.driver c.args.rig.works.recorders.items) c.requires.sound
 
+pub run_beside-passes-requires-clause-many_disks : goal.run_beside-passes-requires-clause-many_disks
+run_beside-passes-requires-clause-many_disks g c κs within = (disks-sound g.G.Guest.sound (parts_with (beside c.args.rig.works.desk c.args.rig.works.readers.items) c.args.rig.works.driver c.args.rig.works.recorders.items) c.requires.sound).as_many
+
 pub run_beside-passes-requires-clause-going : goal.run_beside-passes-requires-clause-going
 run_beside-passes-requires-clause-going g c κs within = going-of (seen_with g.G.Guest.sound (beside c.args.rig.works.desk c.args.rig.works.readers.items) c.args.rig.works.driver c.args.rig.works.recorders.items) c.requires.sound
 

@@ -1,5 +1,5 @@
 use Rattle.std.proofs.Common.{Err, ap}
-use Rattle.serial_laws.specs.driver_laws.specs.Drivers.{Driver}
+use Rattle.driver_laws.specs.Drivers.{Driver}
 use Rattle.cycle_driver.specs.Gears.{driver_of}
 use Rattle.cycle_driver.proofs.RunLemmas.{rings-none, rings-stepped}
 use Rattle.session_works.proofs.PairedLemmas.{disks-same, disks-stepped}

@@ -1,5 +1,5 @@
 use Rattle.std.proofs.Common.{◌≡◌}
-use Rattle.cycle_driver.proofs.giving.has_room_soon.Given as goal
+use Rattle.cycle_driver.proofs.giving.goes_on_soon.Given as goal
 
 abbrev pub invariant-loop : goal.invariant-loop
 invariant-loop g l = record {
