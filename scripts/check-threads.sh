@@ -12,7 +12,10 @@
 #       events: without calls beside its cycles, so that each mode gives the files and the report of serial mode
 #   $RECORDINGS runs (3) each of 3,000 cycles with one and with four recorders: the driver gives way to a full ring, so that few of
 #       them lose a block. How many did is told, and is no fault, since no clause says that none is lost
-#   as many runs each of 3,000 cycles with one and with four disk files. How many missed a block is told, and is no fault either
+#   as many runs each of 3,000 cycles with one and with four disk files: it gives way to an empty ring too. How many missed a block is
+#       told, and is no fault either
+#   $TRACKS seconds (0) of disk files in each of 18 kinds, of at most 1,000,000 cycles: one file and four, periods of 4, 64 and 1,024
+#       frames, rings of 1, 16 and 64 places. Of each is printed how long it took and how many blocks were missed
 #   a disk file from a pipe, in serial mode and in each mode of threads: it gives no more than the ring and the reader hold until the
 #       cycles of a segment are over. Then just the other cycles are underruns, and the file goes on; in serial mode there is none
 #
@@ -26,7 +29,7 @@ set -u
 checks=no
 "$jackd" --help | grep -q 'jackd check ' && checks=checks
 python3 - "$jackd" "$checks" <<'PY'
-import os, random, subprocess, sys, tempfile, time
+import array, os, random, subprocess, sys, tempfile, time
 
 sys.dont_write_bytecode = True
 sys.path.insert(0, 'scripts')
@@ -34,18 +37,21 @@ import explained
 from sessions import KINDS, KINDS_OF_SESSIONS, MIDI_KINDS, MODES, chains, command, disk_files, eventful, head, tracks, wave
 
 jackd, checks = sys.argv[1], sys.argv[2] == 'checks'
-sessions, first, runs, turns, recordings = (
-    int(os.environ.get(name, value)) for name, value in (('SESSIONS', 45), ('SEED', 0), ('RUNS', 12), ('TURNS', 2), ('RECORDINGS', 3)))
-faults, beside, heard, missed, checked, reports = [], 0, 0, 0, 0, set()
+sessions, first, runs, turns, recordings, length = (
+    int(os.environ.get(name, value)) for name, value in (('SESSIONS', 45), ('SEED', 0), ('RUNS', 12), ('TURNS', 2), ('RECORDINGS', 3), ('TRACKS', 0)))
+faults, beside, heard, missed, checked, reports, taken = [], 0, 0, 0, 0, set(), 0.0
 
 
 def answer(folder, words, what):
-    """Standard output of the program, or none where its exit code is another than 0."""
+    """Standard output of the program, or none where its exit code is another than 0; `taken` is how long it ran."""
+    global taken
+    most, begun = max(100, length), time.monotonic()
     try:
-        ran = subprocess.run([jackd, *words], cwd=folder, capture_output=True, timeout=100)
+        ran = subprocess.run([jackd, *words], cwd=folder, capture_output=True, timeout=most)
     except subprocess.TimeoutExpired:
-        faults.append(f'{what}: {words[0]}: no end in 100 seconds')
+        faults.append(f'{what}: {words[0]}: no end in {most} seconds')
         return None
+    taken = time.monotonic() - begun
     if ran.returncode:
         faults.append(f'{what}: {words[0]}: exit code {ran.returncode}: {ran.stdout.decode()[-200:]}')
         return None
@@ -142,14 +148,20 @@ def recorded(count, mode, what):
         faults.append(f'{what}: a record is not what was captured')
 
 
-def tracked(count, mode, what):
-    """Disk files of 3,000 blocks that are played on two channels each are heard whole, or miss some where the machine is busy."""
-    lines = head(3, 64, 1, 16, mode, 'ring 16', *['disk 2'] * count)
+def players(count, mode, period, ring):
+    """The lines before the segments of a session that plays so many disk files, on two channels each."""
+    lines = head(3, period, 1, 16, mode, f'ring {ring}', *['disk 2'] * count)
     lines[4] = f'playback {2 * count} 16'
     for disk in range(count):
         lines += [f'do open t{disk} disk {disk}', f'do activate t{disk}']
         for channel in (1, 2):
             lines += [f'do register t{disk}:{channel} out audio', f'do connect t{disk}:{channel} system:playback_{2 * disk + channel}']
+    return lines
+
+
+def tracked(count, mode, what):
+    """Disk files of 3,000 blocks are heard whole, or miss some where the machine is busy."""
+    lines = players(count, mode, 64, 16)
     tones = [[[chance.randrange(-2**15, 2**15) * 65536 for _ in range(64 * 30)] * 100 for _ in range(2)] for _ in range(count)]
     files = [explained.wave_of(8000, 2, 16, [x for frame in zip(*channels) for x in frame]) for channels in tones]
     heard = explained.wave_of(8000, 2 * count, 16, [x for frame in zip(*(channel for channels in tones for channel in channels)) for x in frame])
@@ -220,9 +232,51 @@ def held_back(mode):
     return ''.join(explained.faults_of(script, silence, report.decode(), [played], [track]))
 
 
+def late(channel, period, underruns):
+    """A channel of 16 bits of a disk file, with silence in the cycles that are underruns."""
+    samples, cycle = array.array('h'), 0
+    for k, underrun in enumerate(underruns):
+        samples += channel[(cycle - k) * period:(underrun - 1 - k) * period] + array.array('h', bytes(2 * period))
+        cycle = underrun
+    return samples + channel[(cycle - len(underruns)) * period:len(channel) - len(underruns) * period]
+
+
+def long_tracks(count, period, ring):
+    """Disk files of $TRACKS seconds: each is heard whole, but for silence in its underruns."""
+    what = f'{count} disk file{"s" if count > 1 else ""}, period {period}, ring {ring}'
+    cycles = min(1_000_000, length * 8000 // period)
+    tones = [array.array('h', chance.randbytes(2 * 997)) * (cycles * period // 997 + 1) for _ in range(2 * count)]
+    channels = [tone[:cycles * period] for tone in tones]
+
+    def mixed(channels):
+        frames = array.array('h', bytes(2 * len(channels) * cycles * period))
+        for k, channel in enumerate(channels):
+            frames[k::len(channels)] = channel
+        return frames.tobytes()
+
+    shapes = [explained.wave_of(8000, 2, 16, [])[:40], explained.wave_of(8000, 2 * count, 16, [])[:40]]
+    files = [mixed(channels[2 * disk:2 * disk + 2]) for disk in range(count)]
+    files = [(b'RIFF' + (36 + len(data)).to_bytes(4, 'little') + shapes[0][8:] + len(data).to_bytes(4, 'little') + data) for data in files]
+    play = made([*players(count, 'threads 2', period, ring), f'run {cycles}'], explained.wave_of(8000, 1, 16, []), what, files)
+    if not play:
+        return
+    rows = [line.split() for line in play[0].splitlines() if line[:4] in ('disk', 'unde')]
+    underruns = [[int(row[2]) for row in rows if row[:2] == ['underrun', str(disk)]] for disk in range(count)]
+    data = mixed([late(channel, period, underruns[k // 2]) for k, channel in enumerate(channels)])
+    if [row[1:] for row in rows if row[0] == 'disk'] != [[str(disk), str(cycles - len(those)), str(len(those))] for disk, those in enumerate(underruns)]:
+        faults.append(f'{what}: the report has other counts')
+    if play[1] != [b'RIFF' + (36 + len(data)).to_bytes(4, 'little') + shapes[1][8:] + len(data).to_bytes(4, 'little') + data]:
+        faults.append(f'{what}: the playback is not what the disk files hold')
+    print(f'check-threads: {what}: {cycles} cycles in {taken:.2f} s, {sum(map(len, underruns))} underruns', flush=True)
+
+
 if recordings:
     faults.extend(f'a disk file that is held back, {mode}: {fault}' for mode in MODES for fault in [held_back(mode)] if fault)
-
+if length:
+    for count in (1, 4):
+        for period in (4, 64, 1024):
+            for ring in (1, 16, 64):
+                long_tracks(count, period, ring)
 for k in range(recordings):
     recorded(1, MODES[3 + k % 2], f'recording {k}')
     recorded(4, MODES[4 - k % 2], f'recording {k} by four recorders')

@@ -93,7 +93,11 @@ pub(crate) fn run_beside<
         move || -> (Driver<S, W, G>, Result<(), CycleFault>, Caller<TurnDesk>)
             requires { AreNext cycles false (driver_of G.sound driver) × IsGoing (driver_of G.sound driver) × (length driver.rings.rings ≡ many) × (length driver.disks.disks ≡ many_disks) × IsOfTurn turn.now caller }
             ensures { ((driven : Gear) × HasDriven G.sound cycles driver driven result.1 × (result.0 ≡ with_ends driven)) × HasKept caller result.2 result.1 }
-        { drive(threads, gate, driver, cycles, many, many_disks, turn, over, caller) },
+        {
+            drive(
+                threads, gate, driver, cycles, many, many_disks, turn, over, caller,
+            )
+        },
     )
 }
 
