@@ -4,8 +4,9 @@
 # check, from the first to the last, each in a run of its own. Then the exit code is 3 or 6, standard output says so, standard
 # error names the file, what was given is as it was, and what was written is a front of what should have been, but for the
 # sizes in its header. So it is with a disk file in serial mode; with threads, where a thread may come to fewer reads than in
-# another run, the first is refused at least, and blocks that its reader did not bring may be silent in that front. A call that a signal interrupts is made again, a file system that can't sync is no failure, and with --no-sync
-# no file is synced.
+# another run, the first is refused at least, and blocks that its reader did not bring may be silent in that front. A call that a
+# signal interrupts is made again, a file system that can't sync is no failure, and with --no-sync no file is synced. How many calls
+# of which kind were refused is told.
 set -u
 # shellcheck source=scripts/program.sh
 . "$(dirname "$0")/program.sh" python3 strace
@@ -17,7 +18,7 @@ python3 - "$jackd" "$checks" "$syncs" <<'PY'
 import os, struct, subprocess, sys, tempfile
 
 jackd, checks, syncs = sys.argv[1], sys.argv[2] == 'checks', sys.argv[3] == 'syncs'
-faults, runs = [], 0
+faults, runs, refusals = [], 0, {}
 CYCLES, PERIOD = 4000, 16
 
 SCRIPT = '\n'.join([
@@ -87,13 +88,17 @@ def front_with_silence(name, wanted):
 
 
 def refused(what, words, call, name, code, line, given, made, front=front):
-    for number in range(1, calls(words, call, name) + 1):
+    count = calls(words, call, name)
+    if not count:
+        faults.append(f'{what}: there is no {call} of {name} to be refused')
+    for number in range(1, count + 1):
         case = f'{what}: {call} {number} of {name} refused'
         ended, out, told = run(words, call, name, number)
         if front is front_with_silence and number > 1 and not ended:
             continue
         if ended != code:
             faults.append(f'{case}: exit code {ended}, not {code}')
+        refusals[what, call] = refusals.get((what, call), 0) + 1
         if line is not None and out != line:
             faults.append(f'{case}: standard output is {out[-100:]!r}')
         first = told.splitlines()[0] if told else ''
@@ -150,7 +155,9 @@ with tempfile.TemporaryDirectory() as folder:
         for name in made_of_disk:
             refused('play of a disk file', of_disk, 'write', name, 6, None, given, made_of_disk)
         with_threads = ['play', 'with.threads', *play[2:4], '--disk', 'the.disk']
-        refused('play of a disk file with threads', with_threads, 'read', 'the.disk', 3, 'fault 3 read\n', given, {'the.playback': DISK}, front_with_silence)
+        for name in ('with.threads', 'the.capture', 'the.disk'):
+            refused('play of a disk file with threads', with_threads, 'read', name, 3, 'fault 3 read\n', given, {'the.playback': DISK}, front_with_silence)
+        refused('play of a disk file with threads', with_threads, 'write', 'the.playback', 6, None, given, {'the.playback': DISK}, front_with_silence)
         if checks:
             run(play)
             given.update(made)
@@ -166,6 +173,6 @@ with tempfile.TemporaryDirectory() as folder:
 for fault in faults[:40]:
     print('check-faults:', fault)
 if not faults:
-    print(f'check-faults: passed, {runs} runs')
+    print(f'check-faults: passed, {runs} runs; refused were', ', '.join(f'{count} of {call} in a {what}' for (what, call), count in refusals.items()))
 sys.exit(bool(faults))
 PY

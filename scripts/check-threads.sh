@@ -16,6 +16,8 @@
 #       told, and is no fault either
 #   $TRACKS seconds (0) of disk files in each of 18 kinds, of at most 1,000,000 cycles: one file and four, periods of 4, 64 and 1,024
 #       frames, rings of 1, 16 and 64 places. Of each is printed how long it took and how many blocks were missed
+#   a disk file from a pipe, in serial mode and in each mode of threads: it gives no more than the ring and the reader hold until the
+#       cycles of a segment are over. Then just the other cycles are underruns, and the file goes on; in serial mode there is none
 #
 # A report or a file that is altered has to be found. A run that does not end in 100 seconds is a fault. That explained.py
 # computes what is right is shown in serial mode: check-rows.sh and check-examples.sh hold it against values from paper. Where the
@@ -102,7 +104,7 @@ for seed in range(first, first + sessions):
     beside += len(numbers) > 1
     heard += run is not None and '\nmidi ' in run[1]
     missed += run is not None and '\nunderrun ' in run[1]
-if sessions and not beside:
+if sessions > 8 and not beside:
     faults.append('no session had a call between its cycles')
 if sessions > 3 and (eventful, 2) in kinds and not heard:
     faults.append('no session had an event in a log')
@@ -172,6 +174,64 @@ def tracked(count, mode, what):
         faults.append(f'{what}: the playback is not what the disk files hold')
 
 
+def sleeps(process, least):
+    """Waits until a process has so many threads, or more, and none of them has run for a tenth of a second, or it is over."""
+    quiet = 0
+    while quiet < 5 and process.poll() is None:
+        states = []
+        for thread in os.listdir(f'/proc/{process.pid}/task'):
+            try:
+                with open(f'/proc/{process.pid}/task/{thread}/stat') as it:
+                    states.append(it.read().rpartition(')')[2].split()[0])
+            except OSError:
+                states.append('gone')
+        quiet = quiet + 1 if len(states) >= least and set(states) == {'S'} else 0
+        time.sleep(0.02)
+
+
+def held_back(mode):
+    """A disk file of eight blocks whose last three come when the first 40 cycles are over: a ring holds four, and the reader one."""
+    tone = [chance.randrange(1, 2**15) * 65536 for _ in range(64)]
+    track, silence = explained.wave_of(8000, 1, 16, tone), explained.wave_of(8000, 1, 16, [])
+    calls = ['do open t disk 0', 'do register t:o out audio', 'do activate t', 'do connect t:o system:playback_1']
+    script = ''.join(f'{line}\n' for line in [*head(3, 8, 1, 16, mode, 'ring 4', 'disk 1'), *calls, 'run 40', 'run 4', 'run 2'])
+    with tempfile.TemporaryDirectory() as folder:
+        for name, there in (('s', script.encode()), ('c', silence)):
+            with open(f'{folder}/{name}', 'wb') as it:
+                it.write(there)
+        os.mkfifo(f'{folder}/d')
+        pipe, given = os.open(f'{folder}/d', os.O_RDWR), 44 + 5 * 16
+        os.write(pipe, track[:given])
+        ran = subprocess.Popen([jackd, 'play', 's', 'c', 'p', '--disk', 'd'], cwd=folder, stdout=subprocess.PIPE, stderr=subprocess.PIPE)
+        # With threads one waits for the file, and the first one for it.
+        sleeps(ran, 1 if mode == 'serial' else 2)
+        os.write(pipe, track[given:])
+        os.close(pipe)
+        try:
+            report, told = ran.communicate(timeout=100)
+        except subprocess.TimeoutExpired:
+            ran.kill()
+            return f'no end in 100 seconds, {ran.communicate()}'
+        if ran.returncode:
+            return f'exit code {ran.returncode}: {told}'
+        with open(f'{folder}/p', 'rb') as it:
+            played = it.read()
+    rows = [line.split() for line in report.decode().splitlines()]
+    underruns = [[int(it) for it in row[2:]] for row in rows if row[0] == 'underrun']
+    # Of the cycles behind the ring's blocks one may have the block that the reader held; else the next segment has it.
+    counts = (35, 36) if mode != 'serial' else (0,)
+    if len(underruns) not in counts or any(not 4 < k < 41 or sent != taken or sent not in (4, 5) for k, sent, taken in underruns):
+        return f'the underruns are {underruns}'
+    missed, blocks, heard = {k for k, *_ in underruns}, [tone[at:at + 8] for at in range(0, 64, 8)], []
+    for k in range(1, 47):
+        heard += blocks.pop(0) if k not in missed and blocks else [0] * 8
+    if blocks or ['disk', '0', '8', str(len(missed))] not in rows:
+        return f'not all blocks are told: {report[-300:]}'
+    if played != explained.wave_of(8000, 1, 16, heard):
+        return 'the playback is not the disk file with silence in its underruns'
+    return ''.join(explained.faults_of(script, silence, report.decode(), [played], [track]))
+
+
 def late(channel, period, underruns):
     """A channel of 16 bits of a disk file, with silence in the cycles that are underruns."""
     samples, cycle = array.array('h'), 0
@@ -210,6 +270,8 @@ def long_tracks(count, period, ring):
     print(f'check-threads: {what}: {cycles} cycles in {taken:.2f} s, {sum(map(len, underruns))} underruns', flush=True)
 
 
+if recordings:
+    faults.extend(f'a disk file that is held back, {mode}: {fault}' for mode in MODES for fault in [held_back(mode)] if fault)
 if length:
     for count in (1, 4):
         for period in (4, 64, 1024):
@@ -254,7 +316,7 @@ for fault in faults[:40]:
 if not faults:
     print(f'check-threads: passed, {sessions} sessions, {beside} of them with calls between their cycles, {heard} with events and {missed} with underruns; {runs} runs of one script with {len(reports)} reports; '
           f'{turns * len(MODES[1:])} plays of chains; '
-          f'{2 * recordings} recordings, of which {len(lost)} lost a block, and {2 * recordings} plays of disk files, of which {len(lacked)} missed one; '
+          f'{2 * recordings} recordings, of which {len(lost)} lost a block, and {2 * recordings} plays of disk files, of which {len(lacked)} missed one; {len(MODES) if recordings else 0} disk files held back; '
           f'{found} alterations found; {checked} plays checked by the program')
 sys.exit(bool(faults))
 PY
