@@ -53,7 +53,10 @@ def run(words, call='', name='', number=0, error='EIO'):
     runs += 1
     traced = ['strace', '-f', '-qq', '-o', 'trace', '-P', os.path.realpath(name), '-e', f'trace={call}'] if call else []
     refused = ['-e', f'inject={call}:error={error}:when={number}'] if number else []
-    ran = subprocess.run([*traced, *refused, jackd, *words], capture_output=True, timeout=100)
+    try:
+        ran = subprocess.run([*traced, *refused, jackd, *words], capture_output=True, timeout=100)
+    except subprocess.TimeoutExpired:
+        return None, '', 'no end in 100 seconds'
     return ran.returncode, ran.stdout.decode(), ran.stderr.decode()
 
 

@@ -19,7 +19,8 @@
 #   a disk file from a pipe, in serial mode and in each mode of threads: it gives no more than the ring and the reader hold until the
 #       cycles of a segment are over. Then just the other cycles are underruns, and the file goes on; in serial mode there is none
 #
-# A report or a file that is altered has to be found. A run that does not end in 100 seconds is a fault. That explained.py
+# Each fault is told as soon as it is found, with a folder that keeps its files. A report or a file that is altered has to be found.
+# A run that does not end in 100 seconds is a fault: what its threads did then is told. That explained.py
 # computes what is right is shown in serial mode: check-rows.sh and check-examples.sh hold it against values from paper. Where the
 # program has `check`, it says of each of these plays without disk files that the report explains the files.
 set -u
@@ -42,20 +43,54 @@ sessions, first, runs, turns, recordings, length = (
 faults, beside, heard, missed, checked, reports, taken = [], 0, 0, 0, 0, set(), 0.0
 
 
+def fault(text):
+    """Tells a fault as soon as it is found."""
+    faults.append(text)
+    if len(faults) <= 40:
+        print('check-threads:', text, flush=True)
+
+
+def keep(held):
+    """Keeps files, so that a fault can be looked at."""
+    folder = tempfile.mkdtemp(prefix='check-threads-')
+    for name, there in held.items():
+        with open(f'{folder}/{name}', 'wb') as it:
+            it.write(there)
+    return folder
+
+
+def rows_of(process):
+    """What the system tells of each thread of a process: its state, and its ticks of a processor."""
+    rows = []
+    for thread in os.listdir(f'/proc/{process.pid}/task'):
+        try:
+            with open(f'/proc/{process.pid}/task/{thread}/stat') as it:
+                row = it.read().rpartition(')')[2].split()
+            rows.append((row[0], int(row[11]) + int(row[12])))
+        except OSError:
+            rows.append(('gone', 0))
+    return rows
+
+
 def answer(folder, words, what):
     """Standard output of the program, or none where its exit code is another than 0; `taken` is how long it ran."""
     global taken
     most, begun = max(100, length), time.monotonic()
+    ran = subprocess.Popen([jackd, *words], cwd=folder, stdout=subprocess.PIPE, stderr=subprocess.PIPE)
     try:
-        ran = subprocess.run([jackd, *words], cwd=folder, capture_output=True, timeout=most)
+        out, told = ran.communicate(timeout=most)
     except subprocess.TimeoutExpired:
-        faults.append(f'{what}: {words[0]}: no end in {most} seconds')
+        rows = rows_of(ran)
+        had = sum(ticks for _, ticks in rows) / os.sysconf('SC_CLK_TCK')
+        ran.kill()
+        ran.communicate()
+        fault(f'{what}: {words[0]}: no end in {most} seconds; its threads, in the states {" ".join(state for state, _ in rows)}, have had {had:.1f} seconds of a processor')
         return None
     taken = time.monotonic() - begun
     if ran.returncode:
-        faults.append(f'{what}: {words[0]}: exit code {ran.returncode}: {ran.stdout.decode()[-200:]}')
+        fault(f'{what}: {words[0]}: exit code {ran.returncode}: {out.decode()[-200:]} {told.decode().strip()[-200:]}')
         return None
-    return ran.stdout
+    return out
 
 
 def made(lines, capture, what, disks=()):
@@ -70,6 +105,7 @@ def made(lines, capture, what, disks=()):
                 it.write(held)
         report = answer(folder, ['play', 's', 'c', *outputs, *(word for k in range(len(disks)) for word in ('--disk', f'd{k}'))], what)
         if report is None:
+            fault(f'{what}: its files are in {keep(given)}')
             return None
         files = []
         for name in ['p', *records]:
@@ -81,7 +117,7 @@ def made(lines, capture, what, disks=()):
             verdict = answer(folder, ['check', 's', 'c', 'o', *outputs], what)
             checked += verdict == b'check ok\n'
             if verdict not in (None, b'check ok\n'):
-                faults.append(f'{what}: check: {verdict}')
+                fault(f'{what}: check: {verdict}; files in {keep({**given, "o": report, **dict(zip(["p", *records], files))})}')
     return report.decode(), files
 
 
@@ -90,7 +126,10 @@ def played(lines, capture, what, disks=()):
     script, play = ''.join(f'{line}\n' for line in lines), made(lines, capture, what, disks)
     if play is None:
         return None
-    faults.extend(f'{what}: {fault}' for fault in explained.faults_of(script, capture, *play, disks)[:5])
+    found = explained.faults_of(script, capture, *play, disks)[:5]
+    if found:
+        files = {'s': script.encode(), 'c': capture, 'o': play[0].encode(), **{f'd{k}': held for k, held in enumerate(disks)}, **{f'made{k}': held for k, held in enumerate(play[1])}}
+        fault(f'{what}: {"; ".join(found)}; files in {keep(files)}')
     return script, *play
 
 
@@ -105,11 +144,11 @@ for seed in range(first, first + sessions):
     heard += run is not None and '\nmidi ' in run[1]
     missed += run is not None and '\nunderrun ' in run[1]
 if sessions > 8 and not beside:
-    faults.append('no session had a call between its cycles')
+    fault('no session had a call between its cycles')
 if sessions > 3 and (eventful, 2) in kinds and not heard:
-    faults.append('no session had an event in a log')
+    fault('no session had an event in a log')
 if sessions > 44 and (tracks, 2) in kinds and not missed:
-    faults.append('no session had an underrun')
+    fault('no session had an underrun')
 
 # One script: ten calls on each lane, all asking for early cycles, so that the lanes meet.
 chance = random.Random(7)
@@ -127,7 +166,7 @@ if turns:
     for turn in range(turns):
         for mode in MODES[1:]:
             if alone and made(chains(mode), long, f'chains, {mode}') != alone:
-                faults.append(f'chains, {mode}: another report or other files than in serial mode')
+                fault(f'chains, {mode}: another report or other files than in serial mode')
 
 
 lost, lacked = [], []
@@ -145,7 +184,7 @@ def recorded(count, mode, what):
     if play and 'overrun' in play[0]:
         lost.append(what)
     elif play and any(file != heard for file in play[1][1:]):
-        faults.append(f'{what}: a record is not what was captured')
+        fault(f'{what}: a record is not what was captured')
 
 
 def players(count, mode, period, ring):
@@ -169,22 +208,17 @@ def tracked(count, mode, what):
     play = made(lines, silence, what, files)
     if play and '\nunderrun ' in play[0]:
         lacked.append(what)
-        faults.extend(f'{what}: {fault}' for fault in explained.faults_of(''.join(f'{line}\n' for line in lines), silence, *play, files)[:5])
+        for it in explained.faults_of(''.join(f'{line}\n' for line in lines), silence, *play, files)[:5]:
+            fault(f'{what}: {it}')
     elif play and play[1] != [heard]:
-        faults.append(f'{what}: the playback is not what the disk files hold')
+        fault(f'{what}: the playback is not what the disk files hold')
 
 
 def sleeps(process, least):
     """Waits until a process has so many threads, or more, and none of them has run for a tenth of a second, or it is over."""
     quiet = 0
     while quiet < 5 and process.poll() is None:
-        states = []
-        for thread in os.listdir(f'/proc/{process.pid}/task'):
-            try:
-                with open(f'/proc/{process.pid}/task/{thread}/stat') as it:
-                    states.append(it.read().rpartition(')')[2].split()[0])
-            except OSError:
-                states.append('gone')
+        states = [state for state, _ in rows_of(process)]
         quiet = quiet + 1 if len(states) >= least and set(states) == {'S'} else 0
         time.sleep(0.02)
 
@@ -264,14 +298,17 @@ def long_tracks(count, period, ring):
     underruns = [[int(row[2]) for row in rows if row[:2] == ['underrun', str(disk)]] for disk in range(count)]
     data = mixed([late(channel, period, underruns[k // 2]) for k, channel in enumerate(channels)])
     if [row[1:] for row in rows if row[0] == 'disk'] != [[str(disk), str(cycles - len(those)), str(len(those))] for disk, those in enumerate(underruns)]:
-        faults.append(f'{what}: the report has other counts')
+        fault(f'{what}: the report has other counts')
     if play[1] != [b'RIFF' + (36 + len(data)).to_bytes(4, 'little') + shapes[1][8:] + len(data).to_bytes(4, 'little') + data]:
-        faults.append(f'{what}: the playback is not what the disk files hold')
+        fault(f'{what}: the playback is not what the disk files hold')
     print(f'check-threads: {what}: {cycles} cycles in {taken:.2f} s, {sum(map(len, underruns))} underruns', flush=True)
 
 
 if recordings:
-    faults.extend(f'a disk file that is held back, {mode}: {fault}' for mode in MODES for fault in [held_back(mode)] if fault)
+    for mode in MODES:
+        found = held_back(mode)
+        if found:
+            fault(f'a disk file that is held back, {mode}: {found}')
 if length:
     for count in (1, 4):
         for period in (4, 64, 1024):
@@ -309,10 +346,10 @@ for session, mode, seed in ((eventful, 'steal 2', 2), (tracks, 'serial', 6)):
     for other, held in altered:
         if not explained.faults_of(script, capture, other, held, disks):
             at = next((b for a, b in zip(lines, other.splitlines(keepends=True)) if a != b), 'a file')
-            faults.append(f'an alteration is not found: {at}')
+            fault(f'an alteration is not found: {at}')
 
-for fault in faults[:40]:
-    print('check-threads:', fault)
+if len(faults) > 40:
+    print(f'check-threads: {len(faults)} faults')
 if not faults:
     print(f'check-threads: passed, {sessions} sessions, {beside} of them with calls between their cycles, {heard} with events and {missed} with underruns; {runs} runs of one script with {len(reports)} reports; '
           f'{turns * len(MODES[1:])} plays of chains; '
