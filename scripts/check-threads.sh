@@ -20,9 +20,9 @@
 #       cycles of a segment are over. Then just the other cycles are underruns, and the file goes on; in serial mode there is none
 #
 # Each fault is told as soon as it is found, with a folder that keeps its files. A report or a file that is altered has to be found.
-# A run that does not end in 100 seconds is a fault: what its threads did then is told. That explained.py
-# computes what is right is shown in serial mode: check-rows.sh and check-examples.sh hold it against values from paper. Where the
-# program has `check`, it says of each of these plays without disk files that the report explains the files.
+# A run that does not end in 100 seconds is a fault: what its threads did then is told. That explained.py computes what is right is
+# shown in serial mode: check-rows.sh and check-examples.sh hold it against values from paper. So is here which underruns can be with
+# threads. Where the program has `check`, it says of each of these plays without disk files that the report explains the files.
 set -u
 # shellcheck source=scripts/program.sh
 . "$(dirname "$0")/program.sh" python3
@@ -319,6 +319,20 @@ for k in range(recordings):
     recorded(4, MODES[4 - k % 2], f'recording {k} by four recorders')
     tracked(1, MODES[4 - k % 2], f'track {k}')
     tracked(4, MODES[3 + k % 2], f'track {k} of four files')
+
+# Which underruns can be with threads, from paper: a player of a file of so many blocks, with a ring of two places, and the cycles
+# that miss one. Behind the ring's two, and what was played before the segment, each may miss one, up to the last of the file; of
+# a file that ends there, of a freewheel segment and of a player that is not active none may.
+UNDERRUNS = (
+    (5, 'run 6', [3], True), (5, 'run 6', [3, 4, 5, 6], True), (5, 'run 6', [2], False), (2, 'run 6', [3], False), (3, 'run 6', [4, 5, 6], True),
+    (3, 'run 6', [4, 6], False), (5, 'freewheel 6', [3], False), (5, 'freewheel 1, run 5', [4], True), (5, 'freewheel 1, run 5', [3], False),
+    (5, 'run 3, run 3', [3, 6], True), (5, 'run 3, run 3', [6], False), (5, 'run 3, run 3', [3, 5], False), (5, 'run 2, do deactivate t, run 4', [4], False),
+    (0, 'run 6', [1], False))
+for blocks, segments, cycles, can_be in UNDERRUNS:
+    lines = [*head(3, 4, 1, 16, 'threads 1', 'ring 2', 'disk 1'), 'do open t disk 0', 'do activate t', *segments.split(', ')]
+    script = explained.Script(''.join(f'{line}\n' for line in lines))
+    if can_be != (not explained.Play(script, [[]], missed=[cycles], disks=[[[0] * 4 * blocks]]).faults):
+        fault(f'explained.py: underruns in the cycles {cycles} of {segments}, of {blocks} blocks')
 
 # What is altered is found: a line that is missing, that stands twice, or that has another number; and one byte of each file. The
 # number of a cycle is raised by more than there are calls, since one that is raised by one may be another report that can be.
