@@ -5,7 +5,11 @@ _sagbufe_jackd()
     local word=${COMP_WORDS[COMP_CWORD]}
     COMPREPLY=()
     if ((COMP_CWORD == 1)); then
-        mapfile -t COMPREPLY < <(compgen -W 'play rehearse graph check --help --version' -- "$word")
+        mapfile -t COMPREPLY < <(compgen -W 'play rehearse graph check help --help --version' -- "$word")
+        return
+    fi
+    if [[ ${COMP_WORDS[1]} == help ]]; then
+        ((COMP_CWORD == 2)) && mapfile -t COMPREPLY < <(compgen -W 'play rehearse graph check' -- "$word")
         return
     fi
     if [[ ${COMP_WORDS[1]} == graph ]]; then

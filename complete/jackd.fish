@@ -25,13 +25,21 @@ function __sagbufe_jackd_first
     test (count (commandline -opc)) -eq 1
 end
 
+# Whether the name of a command may stand behind `help`.
+function __sagbufe_jackd_help_at
+    set -l words (commandline -opc)
+    test (count $words) -eq 2; and test $words[2] = help
+end
+
 complete -c $name -f
 complete -c $name -n __sagbufe_jackd_first -a play -d 'Plays a session, and prints its report'
 complete -c $name -n __sagbufe_jackd_first -a rehearse -d 'Plays a large session made from a number, and sums it up'
 complete -c $name -n __sagbufe_jackd_first -a graph -d 'Prints the graph that a cycle of a play used'
 complete -c $name -n __sagbufe_jackd_first -a check -d 'Checks whether a report explains the files of a play'
+complete -c $name -n __sagbufe_jackd_first -a help -d 'Prints how the program is called'
 complete -c $name -n __sagbufe_jackd_first -l help -d 'Print how the program is called'
 complete -c $name -n __sagbufe_jackd_first -l version -d 'Print the version'
+complete -c $name -n __sagbufe_jackd_help_at -a 'play rehearse graph check' -d 'Prints how the command is called'
 # SCRIPT, CAPTURE and PLAYBACK, and then at most four pairs of --record and PATH, and at most four of --disk and PATH.
 complete -c $name -n '__sagbufe_jackd_play_at 0 1 2 4 6 8 10 12 14 16 18' -F
 complete -c $name -n '__sagbufe_jackd_play_at 3 5 7 9; and not contains -- --disk (commandline -opc)' -l record -d 'The file of the next recorder'

@@ -81,10 +81,14 @@ try() {
   [ "$got" = "$wanted" ] || fault "bash offers '$got' behind '$*', not '$wanted'"
 }
 for name in jackd sagbufe-jackd; do
-  try 'play rehearse graph check --help --version' $name ''
+  try 'play rehearse graph check help --help --version' $name ''
   try 'play' $name p
   try 'rehearse' $name r
   try 'graph' $name g
+  try 'help' $name h
+  try 'play rehearse graph check' $name help ''
+  try 'rehearse' $name help r
+  try '' $name help play ''
   try 'one.session' $name graph ''
   try '--dot' $name graph a b 3 ''
   try '' $name rehearse ''
@@ -115,8 +119,8 @@ else
 fi
 if command -v fish >/dev/null; then
   for name in jackd sagbufe-jackd; do
-    got=$(cd "$folder/files" && fish --no-config -c "source $folder/free/share/fish/vendor_completions.d/$name.fish; complete -C '$name '; complete -C '$name play a '; complete -C '$name play a b c --'; complete -C '$name play --strict a b c --'" | cut -f 1 | tr '\n' ' ')
-    [ "$got" = 'check graph play rehearse one.session --disk --no-sync --record --strict --disk --no-sync --record ' ] || fault "fish offers '$got'"
+    got=$(cd "$folder/files" && fish --no-config -c "source $folder/free/share/fish/vendor_completions.d/$name.fish; complete -C '$name '; complete -C '$name play a '; complete -C '$name play a b c --'; complete -C '$name play --strict a b c --'; complete -C '$name help '" | cut -f 1 | tr '\n' ' ')
+    [ "$got" = 'check graph help play rehearse one.session --disk --no-sync --record --strict --disk --no-sync --record check graph play rehearse ' ] || fault "fish offers '$got'"
   done
 else
   over fish

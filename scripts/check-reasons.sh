@@ -104,6 +104,10 @@ words_case('a misspelt command', ['plya', 's', 'c', 'p'], 'jackd: no command "pl
 words_case('a command in capitals', ['Play', 's', 'c', 'p'], 'jackd: no command "Play"; is "play" meant?')
 words_case('another command', ['convert', 's'], 'jackd: no command "convert"')
 words_case('a misspelt option', ['--halp'], 'jackd: no option "--halp"; is "--help" meant?')
+words_case('the help of a misspelt command', ['help', 'plya'], 'jackd: no command "plya"; is "play" meant?')
+words_case('the help of another command', ['help', 'convert'], 'jackd: no command "convert"')
+words_case('the help of an option', ['help', '--record'], 'jackd: no option "--record"')
+words_case('the help of two commands', ['help', 'play', 'check'], 'jackd: "check" is one word too many')
 words_case('play alone', ['play'], 'jackd: play needs SCRIPT, CAPTURE and PLAYBACK; SCRIPT is missing')
 words_case('a name too few', ['play', 's', 'c'], 'jackd: play needs SCRIPT, CAPTURE and PLAYBACK; PLAYBACK is missing')
 words_case('an option without a path', [*PLAY, '--record'], 'jackd: "--record" needs a path')
@@ -677,7 +681,8 @@ case('the version, short', ['-V'], 0, version, '')
 help_text = subprocess.run([program, '--help'], stdout=subprocess.PIPE).stdout
 if b'jackd play SCRIPT CAPTURE PLAYBACK' not in help_text or b'docs/FORMATS.md' not in help_text:
     faults.append('the help does not name play and the formats')
-for words in [['-h'], ['help'], ['play', '--help'], ['play', '-h'], ['check', '--help']]:
+COMMANDS = ['play', 'rehearse', 'graph', 'check', 'help']
+for words in [['-h'], ['help'], ['play', '-h'], *([command, '--help'] for command in COMMANDS), *(['help', command] for command in COMMANDS)]:
     case('the help, as ' + ' '.join(words), words, 0, help_text, '')
 
 for fault in faults[:30]:

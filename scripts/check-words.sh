@@ -1,13 +1,14 @@
 #!/usr/bin/env bash
 # The man page, the completion of each shell and `jackd --help` name the same commands and options, the man page and the
-# help the same exit codes, and the newest release of CHANGELOG.md has the version that `jackd --version` prints.
+# help the same exit codes, and the newest release of CHANGELOG.md has the version that `jackd --version` prints. Of each
+# command `jackd help COMMAND` prints what `jackd COMMAND --help` does.
 set -u
 # shellcheck source=scripts/program.sh
 . "$(dirname "$0")/program.sh" python3
 python3 - "$jackd" <<'PY'
 import re, subprocess, sys
 
-told = lambda word: subprocess.run([sys.argv[1], word], stdout=subprocess.PIPE, text=True, check=True).stdout
+told = lambda *words: subprocess.run([sys.argv[1], *words], stdout=subprocess.PIPE, text=True, check=True).stdout
 read = lambda name: open(name).read()
 options = lambda text: set(re.findall(r'(?<![\w-])--?[a-zA-Z][a-z]*(?:-[a-z]+)*\b', text))
 faults = []
@@ -24,6 +25,7 @@ helped = told('--help')
 commands = set(re.findall(r'^  (\w+)  ', helped.split('Commands:')[1].split('Options:')[0], re.M))
 wanted = options(helped)
 codes = set(re.findall(r'\b(\d)\s', helped.split('Exit codes:')[1]))
+faults += [f'help {command} is another text than {command} --help' for command in sorted(commands) if told('help', command) != told(command, '--help')]
 
 page = read('docs/jackd.1').replace(r'\-', '-')
 section = dict(re.findall(r'^\.SH (.*)\n((?:(?!\.SH ).*\n)*)', page, re.M))

@@ -38,16 +38,23 @@ fn words(rt: &(impl Env + AllocGlobal)) -> io::Result<Vec<String>> {
     Ok(words)
 }
 
-// Whether these words ask for the help.
+// Whether a word is a command.
+fn is_command(word: &str) -> bool {
+    word == "play" || word == "rehearse" || word == "graph" || word == "check" || word == "help"
+}
+
+// Whether a word is the option that asks for the help.
+fn is_help_option(word: &str) -> bool {
+    word == "--help" || word == "-h"
+}
+
+// Whether these words ask for the help, or for that of a command.
 fn ask_help(words: &[String]) -> bool {
     match words {
-        [only] => { only.as_str() == "--help" || only.as_str() == "-h" || only.as_str() == "help" }
-        [command, help] => {
-            (command.as_str() == "play"
-                || command.as_str() == "rehearse"
-                || command.as_str() == "graph"
-                || command.as_str() == "check")
-                && (help.as_str() == "--help" || help.as_str() == "-h")
+        [only] => is_help_option(only.as_str()) || only.as_str() == "help",
+        [first, second] => {
+            is_command(first.as_str()) && is_help_option(second.as_str())
+                || first.as_str() == "help" && is_command(second.as_str())
         }
         _ => false,
     }

@@ -10,6 +10,7 @@ const USAGE: &str =
        jackd rehearse NUMBER
        jackd graph SCRIPT REPORT CYCLE [--dot]
        jackd check SCRIPT CAPTURE REPORT PLAYBACK [--record PATH]..
+       jackd help [COMMAND]
        jackd --help
        jackd --version";
 
@@ -51,6 +52,7 @@ fn program<'a>(alloc: Global) -> Result<Command<'a>, AllocError> {
     let check = Command::new(alloc, "check").about(
         "Checks whether a report explains the files of a play",
     );
+    let helping = Command::new(alloc, "help").about("Prints this text");
     let help = Arg::new(alloc, "help")
         .long("help")
         .action(ArgAction::SetTrue)
@@ -73,6 +75,7 @@ fn program<'a>(alloc: Global) -> Result<Command<'a>, AllocError> {
         .subcommand(rehearse)?
         .subcommand(graph)?
         .subcommand(check)?
+        .subcommand(helping)?
         .arg(help)?
         .arg(version)
 }

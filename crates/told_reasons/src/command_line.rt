@@ -4,7 +4,7 @@ ghost use Rattle.std.specs.Prelude.{IfOk};
 ghost use Rattle.reason_text.specs.Reasons.{IsReason};
 
 use crate::filling::fill;
-use crate::forms::{CHECK_OPTIONS, GRAPH_OPTIONS, PLAY_OPTIONS, PROGRAM};
+use crate::forms::{CHECK_OPTIONS, GRAPH_OPTIONS, HELPED, PLAY_OPTIONS, PROGRAM};
 use crate::nearest::nearest;
 use reason_text::Piece::{Number, Quoted, Shown, Text};
 use reason_text::Reason;
@@ -128,6 +128,8 @@ fn wrong_form(word: &[u8]) -> Option<&'static str> {
     }
 }
 
+const NO_COMMAND: &str = "no command {0}";
+
 const TOO_MANY: &str = "{0} is one word too many";
 
 const TOO_MANY_NAMES: &str =
@@ -142,7 +144,17 @@ fn wrong_words(words: &[String]) -> Wrong<'_> {
         "check" => wrong_names(rest, check()),
         "rehearse" => wrong_rehearsal(rest),
         "graph" => wrong_graph(rest),
-        _ => unknown(command.as_bytes(), PROGRAM.as_slice(), "no command {0}"),
+        "help" => wrong_help(rest),
+        _ => unknown(command.as_bytes(), PROGRAM.as_slice(), NO_COMMAND),
+    }
+}
+
+// Why the words behind `help` name no command.
+fn wrong_help(words: &[String]) -> Wrong<'_> {
+    match words {
+        [] => wrong_word("these words are no command", b"".as_slice()),
+        [command] => unknown(command.as_bytes(), HELPED.as_slice(), NO_COMMAND),
+        [_, more, ..] => wrong_word(TOO_MANY, more.as_bytes()),
     }
 }
 

@@ -95,6 +95,9 @@ pub const PROGRAM: [&str; 9] = [
     "-V",
 ];
 
+/// What may stand behind `help`.
+pub const HELPED: [&str; 5] = ["play", "rehearse", "graph", "check", "help"];
+
 /// The options of a play.
 pub const PLAY_OPTIONS: [&str; 4] = ["--record PATH", "--disk PATH", "--strict", "--no-sync"];
 
