@@ -455,14 +455,14 @@ class Disk:
 class Play:
     """A report and files, from the order of the calls' lanes, the cycles' numbers, and the cycles of overruns by recorder and of underruns by disk.
 
-    Where one of the four is None it is that of serial mode. `faults` tells what can't be.
+    Where one of the four is None it is that of serial mode. `faults` tells what can't be. `disk` is what plays a disk file.
     """
 
-    def __init__(self, script, capture, order=None, numbers=None, lost=None, missed=None, disks=()):
+    def __init__(self, script, capture, order=None, numbers=None, lost=None, missed=None, disks=(), disk=Disk):
         self.script, self.faults = script, []
         if len(disks) != len(script.disks):
             raise ValueError(f'{len(disks)} disk files are given, of {len(script.disks)}')
-        self.disks = [Disk(script, d, channels, missed and missed[d]) for d, channels in enumerate(disks)]
+        self.disks = [disk(script, d, channels, missed and missed[d]) for d, channels in enumerate(disks)]
         self.replies, self.graphs, self.accepted, self.meters, self.logs = [], [], [], [], []
         self.state = State(script)
         self.graphs.append(self.state.graph())

@@ -1,11 +1,11 @@
 #!/usr/bin/env python3
 """The first wrong part of a report and its files, as `jackd check` tells it, computed from docs/FORMATS.md alone.
 
-verdicts.py SCRIPT CAPTURE REPORT PLAYBACK [RECORD]..    prints `check ok`, or `check wrong PART NUMBER[ PLACE]` and ends with 8
+verdicts.py SCRIPT CAPTURE REPORT PLAYBACK [RECORD].. [--disk DISK]..    prints `check ok`, or `check wrong PART NUMBER[ PLACE]` and ends with 8
 
-It stands on the second computation of a play, explained.py, and serves scripts without disk files. What a report leaves open is
-taken as it is printed, in every mode: the order of the calls, the numbers of the cycles and the cycles of the overruns. The parts
-are looked at in this order, and the first wrong one is told, by the first number that is wrong in it:
+It stands on the second computation of a play, explained.py. What a report leaves open is taken as it is printed, in every mode:
+the order of the calls, the numbers of the cycles, and the cycles of the overruns and of the underruns. The parts are looked at in
+this order, and the first wrong one is told, by the first number that is wrong in it:
 
     report K         line K is none that a report of the script has in this place, or is the first that is missing
     call K           call K is not the next of its lane, stands before one of an earlier stage, has another reply, or is missing
@@ -14,6 +14,9 @@ are looked at in this order, and the first wrong one is told, by the first numbe
     midi K           event K, of those of all logs, is another one, is missing, or is one too many
     recorder K       recorder K - 1 kept another number of blocks than its line tells
     overrun K        overrun K, of those of all recorders, can't be, or not behind the one before it
+    disk K           of disk K - 1 another number of blocks was played than its line tells
+    underrun K       underrun K, of those of all disks, can't be, or not behind the one before it; in serial mode it is another one than
+                     the reader's turns leave, or is missing
     record R BYTE    the file of recorder R differs first at BYTE, or one of the two ends there; both are counted from 0
     playback 0 BYTE  and so the playback
 """
@@ -33,6 +36,8 @@ FORMS = {form.split(' ', 1)[0]: re.compile(form) for form in (
     f'midi {NAME} {NUMBER} {NUMBER} ((?:[0-9a-f]{{2}}){{1,16}})',
     f'recorder {NUMBER} {NUMBER} {NUMBER}',
     f'overrun {NUMBER} {NUMBER} {NUMBER} {NUMBER}',
+    f'disk {NUMBER} {NUMBER} {NUMBER}',
+    f'underrun {NUMBER} {NUMBER} {NUMBER} {NUMBER}',
     'end',
 )}
 # The kinds of lines that one of a kind may stand behind.
@@ -44,7 +49,9 @@ BEHIND = {
     'midi': {'report', 'call', 'cycle', 'meter', 'midi'},
     'recorder': {'report', 'call', 'cycle', 'meter', 'midi', 'recorder', 'overrun'},
     'overrun': {'recorder', 'overrun'},
-    'end': {'report', 'call', 'cycle', 'meter', 'midi', 'recorder', 'overrun'},
+    'disk': {'report', 'call', 'cycle', 'meter', 'midi', 'recorder', 'overrun', 'disk', 'underrun'},
+    'underrun': {'disk', 'underrun'},
+    'end': {'report', 'call', 'cycle', 'meter', 'midi', 'recorder', 'overrun', 'disk', 'underrun'},
 }
 
 
@@ -52,9 +59,10 @@ class Told:
     """What a report tells; `wrong` is its first wrong line, None where it is whole."""
 
     def __init__(self, most, report):
-        # How many lines of a kind a report may have, the kind of the line before, and how many overruns a recorder's line still asks for.
+        # How many lines of a kind a report may have, the kind of the line before, and how many overruns or underruns the line of a
+        # recorder or a disk still asks for.
         self.most, self.last, self.asked, self.wrong = most, None, 0, None
-        self.calls, self.cycles, self.meters, self.events, self.recorders, self.overruns = [], [], [], [], [], []
+        self.calls, self.cycles, self.meters, self.events, self.recorders, self.overruns, self.disks, self.underruns = ([] for _ in range(8))
         *lines, rest = report.decode('latin-1').split('\n')
         for number, line in enumerate(lines, 1):
             if not self.takes(line):
@@ -67,9 +75,9 @@ class Told:
         """Whether a report of the script may go on by this line, which is told then."""
         kind = line.split(' ', 1)[0]
         form = kind in FORMS and FORMS[kind].fullmatch(line)
-        if not form or self.last not in BEHIND[kind] or (self.asked > 0) != (kind == 'overrun'):
+        if not form or self.last not in BEHIND[kind] or (self.asked > 0) != (kind in ('overrun', 'underrun')):
             return False
-        if kind in ('meter', 'midi', 'recorder', 'end') and len(self.cycles) < self.most['cycle']:
+        if kind in ('meter', 'midi', 'recorder', 'disk', 'end') and len(self.cycles) < self.most['cycle']:
             return False
         self.last = kind
         return kind == 'report' or getattr(self, kind)(form)
@@ -102,8 +110,18 @@ class Told:
         self.asked -= 1
         return self.overruns[-1][0] == len(self.recorders) - 1
 
+    def disk(self, form):
+        number, blocks, self.asked = map(int, form.groups())
+        self.disks.append(blocks)
+        return len(self.recorders) == self.most['recorder'] and number == len(self.disks) - 1 and number < self.most['disk'] and self.asked <= self.most['cycle']
+
+    def underrun(self, form):
+        self.underruns.append(tuple(map(int, form.groups())))
+        self.asked -= 1
+        return self.underruns[-1][0] == len(self.disks) - 1
+
     def end(self, _form):
-        return len(self.recorders) == self.most['recorder']
+        return len(self.recorders) == self.most['recorder'] and len(self.disks) == self.most['disk']
 
 
 class Replay:
@@ -128,13 +146,32 @@ class Replay:
         return sum(count for other, count in self.by_stage.items() if other < stage)
 
 
-class Heard:
-    """What the cycles of these numbers gave: peaks, events, the playback, and of each recorder the cycles in which it was active with their blocks."""
+class Disk(explained.Disk):
+    """A disk file whose player has no block in each cycle that is told as an underrun, whether it can be one or not."""
 
-    def __init__(self, checker, lanes, numbers):
+    def __init__(self, script, disk, channels, missed):
+        super().__init__(script, disk, channels, missed)
+        # The cycles in which a player was active, and of each cycle how many blocks were played before it, also past the end.
+        self.active, self.before = set(), [0]
+
+    def cycle(self, k, segment, is_active):
+        self.before.append(self.got)
+        if is_active:
+            self.active.add(k)
+        if k in self.missed or not is_active:
+            return []
+        first, self.got = self.got * segment.period, self.got + 1
+        return [(channel[first:first + segment.period] + [0] * segment.period)[:segment.period] for channel in self.channels]
+
+
+class Heard:
+    """What the cycles of these numbers gave, where these are told as underruns: peaks, events, the playback, of each recorder the cycles in which it was active with their blocks, and each disk."""
+
+    def __init__(self, checker, lanes, numbers, missed):
         script = checker.script
-        made = explained.Play(script, checker.capture, lanes, numbers, [()] * len(script.recorders))
+        made = explained.Play(script, checker.capture, lanes, numbers, [()] * len(script.recorders), missed, checker.disks, Disk)
         assert not made.faults, made.faults
+        self.disks = made.disks
         self.peaks, self.logged, (self.playback, *_) = made.peaks, made.logged, made.files()
         self.active, self.blocks = [], []
         for tape in made.tapes:
@@ -154,12 +191,13 @@ def first_difference(one, other):
 
 
 class Checker:
-    """What is wrong first with reports and files of a session; script and capture are its."""
+    """What is wrong first with reports and files of a session; script, capture and disk files are its."""
 
-    def __init__(self, script, capture):
+    def __init__(self, script, capture, disks=()):
         self.script, self.capture = explained.Script(script), explained.samples_of(capture)
-        if self.script.disks:
-            raise ValueError('it has disk files')
+        self.disks = [explained.samples_of(disk) for disk in disks]
+        if len(self.disks) != len(self.script.disks):
+            raise ValueError(f'{len(self.disks)} disk files are given, of {len(self.script.disks)}')
         # Each lane's calls, with their stages and the cycles that they ask for; and of each cycle its segment and phase.
         self.planned, self.turns, self.phase_of = {lane: [] for lane in range(5)}, [], []
         for phase, (calls, segment) in enumerate(self.script.phases):
@@ -170,7 +208,8 @@ class Checker:
             self.phase_of += [phase] * segment.cycles
         calls = [words for lane in self.planned.values() for words, _, _ in lane]
         meters, logs = (sum(words[0] == 'open' and words[2] == kind for words in calls) for kind in ('meter', 'midilog'))
-        self.most = {'call': len(calls), 'cycle': self.script.cycles, 'meter': meters, 'midi': 4096 * logs, 'recorder': len(self.script.recorders)}
+        self.most = {'call': len(calls), 'cycle': self.script.cycles, 'meter': meters, 'midi': 4096 * logs, 'recorder': len(self.script.recorders),
+                     'disk': len(self.script.disks)}
         self.replays, self.plays, self.waves = {}, {}, {}
 
     def verdict(self, report, files):
@@ -187,8 +226,9 @@ class Checker:
         if cycle:
             return 'cycle', cycle
         numbers = tuple(number for number, _ in told.cycles)
-        heard = self.heard(lanes, numbers)
-        return self.wrong_row(told, heard) or self.wrong_file(told, heard, (lanes, numbers), files)
+        missed = tuple(frozenset(cycle for other, cycle, _, _ in told.underruns if other == d) for d in range(len(self.disks)))
+        heard = self.heard(lanes, numbers, missed)
+        return self.wrong_row(told, heard) or self.wrong_disk(told, heard) or self.wrong_file(told, heard, (lanes, numbers, missed), files)
 
     # Calls.
 
@@ -228,10 +268,10 @@ class Checker:
             before = number
         return None
 
-    def heard(self, lanes, numbers):
-        if (lanes, numbers) not in self.plays:
-            self.plays[lanes, numbers] = Heard(self, lanes, numbers)
-        return self.plays[lanes, numbers]
+    def heard(self, lanes, numbers, missed):
+        if (lanes, numbers, missed) not in self.plays:
+            self.plays[lanes, numbers, missed] = Heard(self, lanes, numbers, missed)
+        return self.plays[lanes, numbers, missed]
 
     # The lines behind the cycles.
 
@@ -268,6 +308,46 @@ class Checker:
         other = overruns[-2] if overruns[1:] else (None,)
         return other[0] != recorder or other[1] < cycle and other[3] <= taken
 
+    def wrong_disk(self, told, heard):
+        disk = first_difference(told.disks, [min(it.got, it.blocks) for it in heard.disks])
+        if disk is not None:
+            return 'disk', disk + 1
+        count = len(told.underruns)
+        counted = first(range(1, count + 1), lambda number: not self.can_miss(told.underruns[:number], heard))
+        stated = None if self.script.threads else first_difference(told.underruns, self.stated(heard))
+        wrong = [number for number in (counted, None if stated is None else stated + 1) if number]
+        return ('underrun', min(wrong)) if wrong else None
+
+    def can_miss(self, underruns, heard):
+        """Whether the last of these is one of a ring of which all was played, and behind the one before it."""
+        number, cycle, sent, taken = underruns[-1]
+        disk, ring = heard.disks[number], self.script.ring
+        if cycle not in disk.active or self.turns[cycle - 1].freewheel:
+            return False
+        if not sent == taken == disk.before[cycle] or sent > disk.blocks:
+            return False
+        if self.script.threads:
+            held = disk.before[self.turns[cycle - 1].first] + ring
+            if held > sent or held >= disk.blocks:
+                return False
+        other = underruns[-2] if underruns[1:] else (None,)
+        return other[0] != number or other[1] < cycle
+
+    def stated(self, heard):
+        """The underruns that the readers' turns leave in serial mode."""
+        found, ring, fill = [], self.script.ring, self.script.fill
+        for number, disk in enumerate(heard.disks):
+            got = put = 0
+            for k, segment in enumerate(self.turns, 1):
+                put = min(disk.blocks, got + ring, disk.blocks if segment.freewheel else put + fill)
+                if k not in disk.active:
+                    continue
+                if not segment.freewheel and put == got < disk.blocks:
+                    found.append((number, k, got, got))
+                else:
+                    got = min(disk.blocks, got + 1)
+        return found
+
     # The files.
 
     def wrong_file(self, told, heard, play, files):
@@ -295,17 +375,20 @@ def line_of(verdict):
 
 
 def main(words):
-    if len(words) < 4:
+    disks = []
+    while words[-2:-1] == ['--disk']:
+        words, disks = words[:-2], [*words[-1:], *disks]
+    if len(words) < 4 or '--disk' in words:
         sys.exit(__doc__)
     held = []
-    for name in words:
+    for name in [*words, *disks]:
         with open(name, 'rb') as it:
             held.append(it.read())
-    script, capture, report, *files = held
+    (script, capture, report, *files), disks = held[:len(words)], held[len(words):]
     try:
-        checker = Checker(script.decode('ascii', 'replace'), capture)
+        checker = Checker(script.decode('ascii', 'replace'), capture, disks)
     except (ValueError, IndexError) as fault:
-        sys.exit(f'verdicts: script and capture are no session without disk files: {fault}')
+        sys.exit(f'verdicts: script, capture and disk files are no session: {fault}')
     line, code = line_of(checker.verdict(report, files))
     sys.stdout.write(line)
     return code
