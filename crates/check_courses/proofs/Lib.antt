@@ -1,3 +1,4 @@
 mod RestLemmas
 mod AlikeLemmas
 mod UntoldLemmas
+mod MetLemmas

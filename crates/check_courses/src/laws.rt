@@ -1,9 +1,9 @@
 //! What a checker may leave out: underruns that no player meets, and the playback's file.
 
-ghost use Rattle.std.specs.Prelude.{◌≡◌, ◌+◌, ◌≤◌, ℕ, ℤ, List, Some, false, length, map, min};
+ghost use Rattle.std.specs.Prelude.{◌≡◌, ◌+◌, ◌<◌, ◌≤◌, ◌&&◌, ℕ, ℤ, List, Some, false, length, map, min};
 ghost use Rattle.jack_types.specs.declared.files.Format.{Format as FormatValue};
 ghost use Rattle.jack_types.specs.declared.replies.Underrun.{Underrun as UnderrunValue};
-ghost use Rattle.session_model.specs.Courses.{Course, DiskFile, played_before};
+ghost use Rattle.session_model.specs.Courses.{Course, DiskFile, is_underrun, played_before};
 ghost use Rattle.session_model.specs.Disks.{file_blocks};
 ghost use Rattle.session_model.specs.Grammar.{IsScript};
 ghost use Rattle.session_model.specs.Scripts.{turns};
@@ -11,7 +11,7 @@ ghost use Rattle.driver_laws.specs.Cycling.{CyclesOnce, StepsOnce, WritesOnce, W
 ghost use Rattle.driver_laws.specs.Drivers.{Driver, HasPlayback};
 ghost use Rattle.driver_laws.specs.Keeping.{Fits, HasTape, Keeps};
 ghost use Rattle.driver_laws.specs.Playing.{PlaysOwn};
-ghost use Rattle.check_courses.specs.Rests.{DifferAtRest, GivesSame, with_underruns};
+ghost use Rattle.check_courses.specs.Rests.{DifferAtRest, GivesSame, is_met, met, with_underruns};
 ghost use Rattle.check_courses.specs.Untold.{untold};
 
 use driver_laws::courses::a_script_with_disks_keeps_its_period;
@@ -26,6 +26,14 @@ pub fn underruns_at_rest()
 {
     a_script_with_disks_keeps_its_period();
 }
+
+/// Of a course's underruns those that no player meets are at rest, so the others do as well.
+pub fn underruns_that_are_met()
+    ensures met { (course : Course) (disk k : ℕ) → disk < length course.script.header.disks → is_underrun (met course) disk k ≡ (is_underrun course disk k && is_met course disk k) }
+    ensures others { (course : Course) (disk k : ℕ) → length course.script.header.disks ≤ disk → is_underrun (met course) disk k ≡ false }
+    ensures first { (course : Course) (disk : ℕ) → is_underrun (met course) disk 0 ≡ false }
+    ensures rest { (course : Course) (last : ℕ) → length course.underruns ≤ length course.script.header.disks → DifferAtRest course (met course) last }
+{}
 
 /// Of a driver whose playback tells nothing, all that is said of the playback holds by itself, where no cycle failed.
 pub fn playback_untold()
