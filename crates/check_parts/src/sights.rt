@@ -1,6 +1,7 @@
 //! What is seen at a line that is not right. It is for people: no clause rests on it.
 
 use crate::calls::reply_of;
+use crate::disks::Played;
 use crate::starts::start_of;
 use crate::takings::{Taken, Takings};
 use call_checks::CallChecks;
@@ -114,4 +115,29 @@ pub fn overrun_sight(
         Some(start) if !start.is_freewheel => ring_sight(taken, script.header().ring, loss),
         _ => Sight::Nothing,
     }
+}
+
+/// What is seen at a disk's line that does not tell the blocks that were played.
+pub fn disk_sight(played: &Played, row: &Count) -> Sight {
+    differing(Number::Blocks, played.blocks, row.blocks)
+}
+
+/// What is seen at an underrun that is not right, of the disk of these takings: the first of its counts that is not that of what
+/// was played. Where its cycle has no underrun, nothing is.
+pub fn underrun_sight(takings: &Takings, loss: &Loss) -> Sight {
+    if !takings.has(loss.cycle) {
+        return Sight::Nothing;
+    }
+    let taken = takings.at(loss.cycle);
+    if !taken.active {
+        return Sight::Nothing;
+    }
+    let sent = u64::from(taken.kept);
+    if loss.sent != sent {
+        return differing(Number::Sent, sent, loss.sent);
+    }
+    if loss.taken != sent {
+        return differing(Number::Taken, sent, loss.taken);
+    }
+    Sight::Nothing
 }
