@@ -9,6 +9,8 @@ use Rattle.std.specs.Prelude.{◌≡◌, ℕ, ◌+◌, List, ◌∷◌, map, sum
 use Rattle.jack_host.specs.Files.{bytes_under}
 use Rattle.session_model.specs.Explanations.{Written}
 use Rattle.file_compare.specs.Comparisons.{Compared}
+use Rattle.wave_pcm.specs.Readings.{Reading}
+use Rattle.session_check.specs.check_walk.specs.Walkings.{Led}
 use Rattle.session_check.specs.Cases.{IsUntouched}
 use Rattle.session_check.specs.declared.checking.Checked.{Checked}
 use Rattle.play_words.specs.Words.{Play}
@@ -37,11 +39,15 @@ GivesWritten (Some files) name play report playback records = Tells files name p
 abbrev pub faults_in : List Compared → ℕ
 faults_in files = sum_by (λ (one : Compared). one.faults) files
 
-abbrev pub faults_in_all : ℕ → ℕ → Compared → List Compared → ℕ
-faults_in_all capture report playback records = capture + report + playback.faults + faults_in records
+-- those of the disks' files, and of their readers
+abbrev pub faults_at : List Reading → List Led → ℕ
+faults_at disks feeders = sum_by (λ (disk : Reading). disk.faults) disks + sum_by (λ (led : Led). led.playing.faults) feeders
+
+abbrev pub faults_in_all : ℕ → ℕ → ℕ → Compared → List Compared → ℕ
+faults_in_all capture disks report playback records = capture + disks + report + playback.faults + faults_in records
 
 abbrev pub faults_of : {S : Type 0} → Checked S → ℕ
-faults_of checked = faults_in_all checked.capture.faults checked.report.faults checked.playback checked.records.items
+faults_of checked = faults_in_all checked.capture.faults (faults_at checked.disks.items checked.feeders.items) checked.report.faults checked.playback checked.records.items
 
 pub record IsFresh (compared : Compared) : Type 0 where
   pub untouched : IsUntouched compared

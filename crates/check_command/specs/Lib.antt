@@ -1,4 +1,3 @@
-pub mod Scripts
 pub mod Cases
 pub mod Lines
 pub mod Answers

@@ -4,16 +4,15 @@ ghost use Rattle.std.specs.Prelude.{◌≡◌, ◌+◌, ◌<◌, ◌≤◌, ◌�
 ghost use Rattle.jack_host.specs.Causes.{Adds, Rose};
 ghost use Rattle.jack_host.specs.Files.{SameFiles};
 ghost use Rattle.play_inputs.specs.Answers.{HasOwnFault};
+ghost use Rattle.play_inputs.specs.Openings.{OpeningStatus};
 ghost use Rattle.check_command.specs.Cases.{IfCase, LacksCase};
 ghost use Rattle.check_command.specs.Files.{faults_of};
-ghost use Rattle.check_command.specs.Scripts.{CheckOpening};
 ghost use Rattle.check_command.specs.Verdicts.{IsVerdict, answer_of as answer};
 
-use crate::files::{WrittenFiles, back_records, open_written};
-use crate::opening::{CheckInputs, open_checked};
+use crate::files::{WrittenFiles, back_disks, back_feeders, back_records, open_written};
 use client_kinds::Guest;
 use jack_host::{Gate, Host};
-use play_inputs::Status;
+use play_inputs::{Inputs, Status, open_inputs};
 use play_words::CheckNames;
 use session_check::{CheckFault, Checked, Verdict, check};
 use std::alloc::Global;
@@ -32,22 +31,26 @@ fn answer_of(verdict: Result<Verdict, CheckFault>) -> Result<Verdict, Status>
 
 // Hands the sources of a check back to the host, and answers its verdict.
 fn hand_back<H: Host>(host: &mut H, checked: Checked<H::In>) -> Result<Verdict, Status>
-    requires { 3 + length checked.records.items ≤ H.lent host.old }
+    requires { 3 + length checked.disks.items + length checked.feeders.items + length checked.records.items ≤ H.lent host.old }
     ensures answer { result ≡ answer checked.verdict }
     ensures reads { Adds (H.read_faults host.old) (faults_of checked) (H.read_faults host.new) }
     ensures no_more { H.read_faults host.new ≤ H.read_faults host.old + faults_of checked }
     ensures writes { H.write_faults host.new ≡ H.write_faults host.old }
     ensures files { SameFiles (H.files host.old) (H.files host.new) }
-    ensures lent { H.lent host.new + 3 + length checked.records.items ≡ H.lent host.old }
+    ensures lent { H.lent host.new + 3 + length checked.disks.items + length checked.feeders.items + length checked.records.items ≡ H.lent host.old }
 {
     let Checked {
         verdict,
         capture,
+        disks,
+        feeders,
         report,
         playback,
         records,
     } = checked;
     back_records(host, records);
+    back_feeders(host, feeders);
+    back_disks(host, disks);
     host.back(playback.into_source());
     host.back(report.into_source());
     host.back(capture.into_source());
@@ -67,7 +70,7 @@ pub(crate) fn decide<T: Threads + Sync, H: Host, G: Guest + Send, A: Gate>(
     ensures verdict { IfOk result (λ verdict.
         IfCase (H.files host.old) (map G.sound (map G.score guests.items)) names.now (IsVerdict verdict)) }
     ensures fault { IfErr result
-        (CheckOpening (H.files host.old) (map G.sound (map G.score guests.items)) names.now.play) }
+        (OpeningStatus (H.files host.old) (map G.sound (map G.score guests.items)) names.now.play) }
     ensures own { IfErr result HasOwnFault }
     ensures read { IsErrOf result Status.ReadFault →
         Rose (H.read_faults host.old) (H.read_faults host.new)
@@ -79,10 +82,15 @@ pub(crate) fn decide<T: Threads + Sync, H: Host, G: Guest + Send, A: Gate>(
     ensures files { SameFiles (H.files host.old) (H.files host.new) }
     ensures lent { H.lent host.new ≡ H.lent host.old }
 {
-    let CheckInputs { script, capture } = open_checked(alloc, host, &names.play, guests.len())?;
+    let Inputs {
+        script,
+        capture,
+        disks,
+    } = open_inputs(alloc, host, &names.play, guests.len())?;
     let written = match open_written(alloc, host, names.report, &names.play) {
         Ok(written) => written,
         Err(status) => {
+            back_disks(host, disks);
             host.back(capture.into_source());
             return Err(status);
         }
@@ -93,7 +101,7 @@ pub(crate) fn decide<T: Threads + Sync, H: Host, G: Guest + Send, A: Gate>(
         records,
     } = written;
     let checked = check(
-        threads, gate, alloc, &script, capture, guests, report, playback, records,
+        threads, gate, alloc, &script, capture, disks, guests, report, playback, records,
     );
     hand_back(host, checked)
 }

@@ -5,13 +5,15 @@ ghost use Rattle.jack_host.specs.Causes.{Adds, Rose};
 ghost use Rattle.jack_host.specs.Files.{SameFiles};
 ghost use Rattle.session_check.specs.Cases.{left_of};
 ghost use Rattle.check_command.specs.Cases.{LacksOne};
-ghost use Rattle.check_command.specs.Files.{GivesAll, GivesWritten, IsFresh, faults_in, written_names};
+ghost use Rattle.check_command.specs.Files.{GivesAll, GivesWritten, IsFresh, faults_at, faults_in, written_names};
 
 use file_compare::Compare;
 use jack_host::{Failed, Host, Source};
 use play_inputs::Status;
+use play_inputs::wave_pcm::Wave;
 use play_words::Names;
 use report_reader::Lines;
+use session_check::Feeder;
 use std::alloc::Global;
 
 /// The report, the playback and the records of a check, of which nothing was read.
@@ -33,6 +35,34 @@ pub(crate) fn back_records<H: Host>(host: &mut H, mut records: Vec<Compare<H::In
 {
     'handing: while let Some(record) = records.pop() {
         host.back(record.into_source());
+    }
+}
+
+/// Hands disk files back to the host.
+pub(crate) fn back_disks<H: Host>(host: &mut H, mut disks: Vec<Wave<H::In>>)
+    requires { length disks.items ≤ H.lent host.old }
+    ensures reads { Adds (H.read_faults host.old) (faults_at disks.items []) (H.read_faults host.new) }
+    ensures no_more { H.read_faults host.new ≤ H.read_faults host.old + faults_at disks.items [] }
+    ensures writes { H.write_faults host.new ≡ H.write_faults host.old }
+    ensures files { SameFiles (H.files host.old) (H.files host.new) }
+    ensures lent { H.lent host.new + length disks.items ≡ H.lent host.old }
+{
+    'handing: while let Some(disk) = disks.pop() {
+        host.back(disk.into_source());
+    }
+}
+
+/// Hands the files of disks' readers back to the host.
+pub(crate) fn back_feeders<H: Host>(host: &mut H, mut feeders: Vec<Feeder<H::In>>)
+    requires { length feeders.items ≤ H.lent host.old }
+    ensures reads { Adds (H.read_faults host.old) (faults_at [] feeders.items) (H.read_faults host.new) }
+    ensures no_more { H.read_faults host.new ≤ H.read_faults host.old + faults_at [] feeders.items }
+    ensures writes { H.write_faults host.new ≡ H.write_faults host.old }
+    ensures files { SameFiles (H.files host.old) (H.files host.new) }
+    ensures lent { H.lent host.new + length feeders.items ≡ H.lent host.old }
+{
+    'handing: while let Some(feeder) = feeders.pop() {
+        host.back(feeder.into_source());
     }
 }
 

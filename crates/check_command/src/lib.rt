@@ -3,7 +3,6 @@
 
 mod checking;
 mod files;
-mod opening;
 mod top;
 mod verdicts;
 

@@ -5,14 +5,16 @@
 --     GoesAlong sounding course walking      a walk behind cycles of a course
 --     IsWalking sounding walking      what stays true of a walk
 --     IsNext freewheel gear, MayPublish walking changes number      when the next cycle may be run, and so much be published before it
---     IsGivenTo script capture scores given, MayStart given printed, AsksNoDisk course      along which courses a new walk may go, and go on
-use Rattle.std.specs.Prelude.{◌≡◌, ℕ, ◌+◌, ◌≤◌, ◌<◌, Bool, false, List, [], length, slice_get, ℤ, Option, Some, None, if◌then◌else◌}
+--     IsGivenTo script capture disks scores given, MayStart given printed      along which courses a new walk may go
+--     MissesAs course walking      the next cycle misses the blocks that the course has as underruns
+use Rattle.std.specs.Prelude.{◌≡◌, ℕ, ◌+◌, ◌≤◌, ◌<◌, Bool, false, List, [], length, map, slice_get, ℤ, Option, Some, None, if◌then◌else◌}
 use Rattle.std.specs.Option.{option_map_or}
 use Rattle.jack_types.specs.Recorders.{no_format}
 use Rattle.jack_types.specs.declared.commands.Change.{Change}
 use Rattle.jack_types.specs.declared.replies.Entry.{Entry}
-use Rattle.session_model.specs.Courses.{Course, turn}
+use Rattle.session_model.specs.Courses.{Course, DiskFile, is_disk_active, is_underrun, turn}
 use Rattle.session_model.specs.Explanations.{Given, Printed}
+use Rattle.session_model.specs.Grammar.{IsScript}
 use Rattle.session_model.specs.Histories.{LegalSoFar, accepted}
 use Rattle.session_model.specs.Kinds.{Sound}
 use Rattle.session_model.specs.Playback.{played_in}
@@ -20,14 +22,16 @@ use Rattle.session_model.specs.Recorders.{block, is_taping}
 use Rattle.session_model.specs.Scripts.{Script, turns}
 use Rattle.client_kinds.specs.Scores.{Score}
 use Rattle.graph_word.specs.Publications.{IsFront, Publishing}
-use Rattle.driver_words.specs.Rings.{Getting, Sending}
+use Rattle.driver_words.specs.Rings.{Getting, IsPair, Sending}
+use Rattle.disk_files.specs.disk_player.specs.Playing.{Playing}
 use Rattle.run_laws.specs.control_desk.specs.Desks.{base_of}
 use Rattle.driver_words.specs.Tapes.{Tape}
 use Rattle.driver_laws.specs.Drivers.{Driver, HasOwnRings, HasOwnRows, run, turn_of}
 use Rattle.driver_laws.specs.Keeping.{AreOfCalls}
 use Rattle.cycle_works.specs.Gears.{Gear, driver_of, with_playback}
-pub use Rattle.cycle_works.specs.Gears.{IsServed}
+use Rattle.check_courses.specs.Rests.{met}
 use Rattle.check_courses.specs.Untold.{untold}
+use Rattle.walk_laws.specs.Disks.{IsLed}
 use Rattle.walk_laws.specs.Walks.{IsEmptied, Walks}
 
 -- the end of a recorder's ring that gets, and the block that came from it behind the last cycle, where one came
@@ -35,12 +39,20 @@ pub record Taken : Type 0 where
   pub getting : Getting
   pub block : Option (List ℤ)
 
--- the works, the end of the publication that publishes, the recorders, and the block that was mixed last
+-- the player of a disk's file; whether a client plays the file in the cycle, and whether the cycle is to miss its block
+pub record Led : Type 0 where
+  pub playing : Playing
+  pub plays : Bool
+  pub misses : Bool
+
+-- the works, the end of the publication that publishes, the recorders, the disks, and the block that was mixed last; whether a cycle failed
 pub record Walking : Type 0 where
   pub gear : Gear
   pub publishing : Publishing
   pub takers : List Taken
+  pub leds : List Led
   pub played : List ℤ
+  pub failed : Bool
 
 -- a playback that tells nothing
 abbrev pub no_file : Option Tape
@@ -57,12 +69,20 @@ block_at walking recorder = option_map_or (λ (taken : Taken). taken.block) (sli
 abbrev pub block_given : Course → ℕ → ℕ → Option (List ℤ)
 block_given course recorder k = if is_taping course recorder k then Some (block course recorder k) else None
 
--- behind some cycles of the course: it is kept, and what the last one took are calls of the script; each recorder's block of that cycle is at hand, and what that plays back
+-- behind some cycles of the course: with the underruns that players meet it is kept, and what the last cycle took are calls of the script; each disk was led, and it is known whether it was played in that cycle; each recorder's block of it is at hand, and what it plays back
 pub record GoesAlong (sounding : Score → Sound) (course : Course) (walking : Walking) : Type 0 where
-  pub walks : Walks course walking.publishing (driver_in sounding walking)
+  pub walks : Walks (met course) walking.publishing (driver_in sounding walking)
+  pub few : length course.underruns ≤ length course.script.header.disks
+  pub leds : (disk : ℕ) (led : Led) (got : Getting) → slice_get walking.leds disk ≡ Some led → slice_get walking.gear.disks.disks disk ≡ Some got → IsLed course disk led.playing got
+  pub plays : (disk : ℕ) (led : Led) → slice_get walking.leds disk ≡ Some led → 1 ≤ run (driver_in sounding walking) → led.plays ≡ is_disk_active course disk (run (driver_in sounding walking))
   pub of_calls : AreOfCalls walking.gear.script walking.gear.stage.plan.changes
   pub blocks : (recorder : ℕ) (taken : Taken) → slice_get walking.takers recorder ≡ Some taken → 1 ≤ run (driver_in sounding walking) → taken.block ≡ block_given course recorder (run (driver_in sounding walking))
   pub played : 1 ≤ run (driver_in sounding walking) → (turn course (run (driver_in sounding walking))).is_freewheel ≡ false → walking.played ≡ played_in course (run (driver_in sounding walking))
+
+-- the two ends of a disk's ring, and no read of its file failed
+pub record IsFed (led : Led) (got : Getting) : Type 0 where
+  pub pair : IsPair led.playing.sending got
+  pub going : led.playing.failed ≡ false
 
 -- rings are emptied, no block was lost, rows and rings are the walk's own, and both ends of the publication are of one
 pub record IsGoing (sounding : Score → Sound) (walking : Walking) : Type 0 where
@@ -70,15 +90,18 @@ pub record IsGoing (sounding : Score → Sound) (walking : Walking) : Type 0 whe
   pub own_rings : HasOwnRings (driver_in sounding walking)
   pub own_rows : HasOwnRows (driver_in sounding walking)
   pub none_lost : walking.gear.rings.overruns ≡ []
+  pub sound : walking.gear.failed ≡ false
+  pub leds : (disk : ℕ) (led : Led) (got : Getting) → slice_get walking.leds disk ≡ Some led → slice_get walking.gear.disks.disks disk ≡ Some got → IsFed led got
   pub table : walking.publishing.table ≡ walking.gear.reading.table
   pub base : walking.publishing.base ≡ base_of walking.gear.script
   pub held : IsFront walking.publishing.held walking.publishing.all
 
--- whatever the sources tell: a recorder for each ring, of a script that is played; and it goes, where no cycle failed
+-- whatever the sources tell: a recorder for each ring and a reader for each disk, of a lawful script; and it goes, where no cycle failed
 pub record IsWalking (sounding : Score → Sound) (walking : Walking) : Type 0 where
-  pub served : IsServed walking.gear.script
+  pub lawful : IsScript walking.gear.script
   pub as_many : length walking.takers ≡ length walking.gear.script.header.recorders
-  pub going : walking.gear.failed ≡ false → IsGoing sounding walking
+  pub as_many_disks : length walking.leds ≡ length walking.gear.script.header.disks
+  pub going : walking.failed ≡ false → IsGoing sounding walking
 
 -- a cycle is left, of this kind, and its period is set
 pub record IsNext (freewheel : Bool) (gear : Gear) : Type 0 where
@@ -95,18 +118,18 @@ pub record MayPublish (walking : Walking) (changes : List Change) (number : ℕ)
   pub rises : length walking.publishing.all ≤ number
   pub few : number ≤ length changes
 
--- the script and scores, over what the capture tells; there are no disks
-pub record IsGivenTo (script : Script) (capture : Option (List ℤ)) (scores : List Sound) (given : Given) : Type 0 where
+-- the script and scores, over what the capture and the disks' files tell, which are of the script's channels
+pub record IsGivenTo (script : Script) (capture : Option (List ℤ)) (disks : List (Option (List ℤ))) (scores : List Sound) (given : Given) : Type 0 where
   pub script_is : given.script ≡ script
   pub capture_is : capture ≡ Some given.capture
+  pub disks_are : disks ≡ map (λ (file : DiskFile). Some file.samples) given.disks
+  pub channels : map (λ (file : DiskFile). file.channels) given.disks ≡ script.header.disks
   pub scores_are : given.scores ≡ scores
-  pub no_disks : given.disks ≡ []
 
--- a legal history, and no underruns
+-- a legal history, and underruns of the script's disks
 pub record MayStart (given : Given) (printed : Printed) : Type 0 where
   pub legal : LegalSoFar given.script printed.history
-  pub none_missed : printed.underruns ≡ []
+  pub few : length printed.underruns ≤ length given.script.header.disks
 
--- without underruns
-abbrev pub AsksNoDisk : Course → Type 0
-AsksNoDisk course = course.underruns ≡ []
+pub record MissesAs (sounding : Score → Sound) (course : Course) (walking : Walking) : Type 0 where
+  pub each : (disk : ℕ) (led : Led) → slice_get walking.leds disk ≡ Some led → led.misses ≡ is_underrun course disk (run (driver_in sounding walking) + 1)

@@ -6,9 +6,10 @@ ghost use Rattle.session_model.specs.Explanations.{Explained, Given, Printed, Wr
 ghost use Rattle.jack_types.specs.declared.replies.Row.{Row as RowValue};
 ghost use Rattle.check_sights.specs.declared.sights.Sight.{Sight as SightValue};
 ghost use Rattle.task_laws.specs.Calls.{guests_needed};
-ghost use Rattle.check_walk.specs.Walkings.{IsServed};
+ghost use Rattle.session_model.specs.Grammar.{IsScript};
+ghost use Rattle.check_walk.specs.Openings.{AreUnread};
 ghost use Rattle.session_check.specs.Cases.{IsCase, IsUntouched, left_of};
-ghost use Rattle.session_check.specs.Counts.{NoneFell, OneRose, counts_of};
+ghost use Rattle.session_check.specs.Counts.{NoneFell, OneRose, counts_of, disk_faults};
 ghost use Rattle.session_check.specs.Passes.{AreTold, CountsFaults, IsUnderway, IsWrongBehind, MayPlay, RightUpTo, passing_of};
 ghost use Rattle.session_check.specs.Verdicts.{is_read, of_calls as verdict_on_calls, of_report as verdict_on_report};
 ghost use Rattle.script_segments.specs.Segments.{segments as the_segments};
@@ -16,7 +17,7 @@ ghost use Rattle.told_reports.specs.Kept.{report_kept};
 
 use crate::calling::{Ready, called};
 use crate::comparing::compared;
-use crate::listing::listed;
+use crate::listing::{listed, missed};
 use crate::pass::{Pass, Stop};
 use crate::sights::sight_of;
 use crate::verdict::{CheckFault, Verdict, row_of};
@@ -24,7 +25,7 @@ use crate::walking::walked;
 use check_parts::CallsFault;
 use check_parts::part_laws::laws::parts_in_their_order;
 use check_sights::Sight;
-use check_walk::Walk;
+use check_walk::{Feeder, Refused, Walk};
 use check_walk::script_needs::limits::samples_are_few;
 use client_kinds::Guest;
 use driver_laws::endings::{all_is_played_back, blocks_kept_are_recorded};
@@ -45,6 +46,9 @@ use wave_pcm::Wave;
 pub struct Checked<S: Source> {
     pub verdict: Result<Verdict, CheckFault>,
     pub capture: Wave<S>,
+    // The disks' files where no cycle was played, else their readers.
+    pub disks: Vec<Wave<S>>,
+    pub feeders: Vec<Feeder<S>>,
     pub report: Lines<S>,
     pub playback: Compare<S>,
     pub records: Vec<Compare<S>>,
@@ -120,6 +124,15 @@ fn judged<S: Source, G: Guest + Send, T: Threads + Sync, K: Gate>(
         let sight = sight_of(script, segments, told, pass, &row);
         return wrong(row, sight);
     }
+    let ended = pass.end();
+    if ended.is_err() {
+        return Err(CheckFault::Read);
+    }
+    let found = missed(script, segments, told, pass);
+    if let Some(row) = found {
+        let sight = sight_of(script, segments, told, pass, &row);
+        return wrong(row, sight);
+    }
     let header = script.header();
     match compared(&header, &mut pass.records, &mut pass.playback) {
         Ok(None) => Ok(Verdict::Explained),
@@ -138,30 +151,32 @@ pub fn check<S: Source, G: Guest + Send, T: Threads + Sync, K: Gate>(
     alloc: Global,
     script: &Script,
     capture: Wave<S>,
+    disks: Vec<Wave<S>>,
     guests: Vec<G>,
     mut report: Lines<S>,
     playback: Compare<S>,
     records: Vec<Compare<S>>,
 ) -> Checked<S>
-    requires served { IsServed script.now }
+    requires lawful { IsScript script.now }
     requires capture { (capture.format.channels ≡ script.now.header.capture) × (capture.failed ≡ false) }
+    requires disks { AreUnread script.now.header.disks disks.items }
     requires guests { guests_needed script.now ≤ length guests.items }
     requires records { length records.items ≡ length script.now.header.recorders }
     requires fresh { IsUntouched playback × All IsUntouched records.items }
     ensures explained { (given : Given) (written : Written)
-        → IsCase script.now capture.left (map G.sound (map G.score guests.items)) report.left playback.left (map left_of records.items) given written
+        → IsCase script.now capture.left (map (λ disk. disk.left) disks.items) (map G.sound (map G.score guests.items)) report.left playback.left (map left_of records.items) given written
         → result.verdict ≡ Ok Verdict.Explained → (printed : Printed) × Explained given printed written }
     ensures wrong { (given : Given) (written : Written)
-        → IsCase script.now capture.left (map G.sound (map G.score guests.items)) report.left playback.left (map left_of records.items) given written
+        → IsCase script.now capture.left (map (λ disk. disk.left) disks.items) (map G.sound (map G.score guests.items)) report.left playback.left (map left_of records.items) given written
         → (row : RowValue) (sight : SightValue) → result.verdict ≡ Ok (Verdict.Wrong row sight) → IsFirstWrong given written row }
     ensures read { IsErrOf result.verdict CheckFault.Read
-        → OneRose (counts_of capture.faults report.faults playback records.items)
-        (counts_of result.capture.faults result.report.faults result.playback result.records.items) }
-    ensures later { NoneFell (counts_of capture.faults report.faults playback records.items)
-        (counts_of result.capture.faults result.report.faults result.playback result.records.items) }
+        → OneRose (counts_of capture.faults (map (λ disk. disk.faults) disks.items) report.faults playback records.items)
+        (counts_of result.capture.faults (disk_faults result.disks.items result.feeders.items) result.report.faults result.playback result.records.items) }
+    ensures later { NoneFell (counts_of capture.faults (map (λ disk. disk.faults) disks.items) report.faults playback records.items)
+        (counts_of result.capture.faults (disk_faults result.disks.items result.feeders.items) result.report.faults result.playback result.records.items) }
     ensures kept { OnOk result.verdict
-        (counts_of result.capture.faults result.report.faults result.playback result.records.items
-        ≡ counts_of capture.faults report.faults playback records.items) }
+        (counts_of result.capture.faults (disk_faults result.disks.items result.feeders.items) result.report.faults result.playback result.records.items
+        ≡ counts_of capture.faults (map (λ disk. disk.faults) disks.items) report.faults playback records.items) }
 {
     rows_are_a_report();
     rows_are_in_place();
@@ -172,6 +187,8 @@ pub fn check<S: Source, G: Guest + Send, T: Threads + Sync, K: Gate>(
             return Checked {
                 verdict: of_report(fault),
                 capture,
+                disks,
+                feeders: Vec::new(alloc),
                 report,
                 playback,
                 records,
@@ -182,24 +199,30 @@ pub fn check<S: Source, G: Guest + Send, T: Threads + Sync, K: Gate>(
         calls,
         segments,
         takings,
+        plays,
+        played,
     } = match called(alloc, script, &told) {
         Ok(ready) => ready,
         Err(fault) => {
             return Checked {
                 verdict: of_calls(fault),
                 capture,
+                disks,
+                feeders: Vec::new(alloc),
                 report,
                 playback,
                 records,
             };
         }
     };
-    let walk = match Walk::new(alloc, script, capture, guests) {
+    let walk = match Walk::new(alloc, script, capture, disks, guests) {
         Ok(walk) => walk,
-        Err((capture, _)) => {
+        Err(Refused { capture, disks }) => {
             return Checked {
                 verdict: Err(CheckFault::Memory),
                 capture,
+                disks,
+                feeders: Vec::new(alloc),
                 report,
                 playback,
                 records,
@@ -210,6 +233,8 @@ pub fn check<S: Source, G: Guest + Send, T: Threads + Sync, K: Gate>(
         calls,
         walk,
         takings,
+        plays,
+        played,
         playback,
         records,
         done: 0,
@@ -222,9 +247,12 @@ pub fn check<S: Source, G: Guest + Send, T: Threads + Sync, K: Gate>(
         records,
         ..
     } = pass;
+    let (capture, feeders) = walk.into_sources();
     Checked {
         verdict,
-        capture: walk.into_capture(),
+        capture,
+        disks: Vec::new(alloc),
+        feeders,
         report,
         playback,
         records,

@@ -3,7 +3,7 @@
 use crate::events::{is_of as is_of_log, log_in};
 use crate::listing::{is_of, meter_in};
 use crate::pass::Pass;
-use check_parts::{overrun_sight, recorder_sight};
+use check_parts::{disk_sight, overrun_sight, recorder_sight, underrun_sight};
 use check_sights::{Number, Sight};
 use check_walk::Walk;
 use client_kinds::Guest;
@@ -107,6 +107,17 @@ fn line_sight<S: Source, G: Guest>(
                 None => Sight::Nothing,
             },
             None => Sight::Nothing,
+        },
+        Part::Disk => match (pass.played.get(place), told.disks().get(place)) {
+            (Some(played), Some(row)) => disk_sight(played, row),
+            _ => Sight::Nothing,
+        },
+        Part::Underrun => match told.underruns().get(place) {
+            Some(loss) => match pass.plays.get(loss.file as usize) {
+                Some(takings) => underrun_sight(takings, loss),
+                None => Sight::Nothing,
+            },
+            None => Sight::Missing,
         },
         _ => Sight::Nothing,
     }
