@@ -33,7 +33,7 @@ use Rattle.jack_control.specs.Files.{AllStand, AreApart, AreOut, IsHeld, IsPart,
 use Rattle.play_inputs.specs.Inputs.{Files}
 use Rattle.jack_control.specs.Openings.{IsSessionOf}
 use Rattle.jack_control.specs.Performances.{Explain, HaveCut, HaveCutSoFar, HaveFronts, MadeSome, front_at, front_so_far}
-use Rattle.jack_control.specs.Plays.{AreMadeInOrder, Cuts, IsExplained, IsMadeOrKept, IsPlayCut, Plays, TouchesOnly, made_by}
+use Rattle.jack_control.specs.Plays.{Cuts, IsExplained, IsMadeOrKept, IsPlayCut, Plays, TouchesOnly, made_by}
 use Rattle.jack_control.proofs.FileLemmas.{some-told, touches-after, touches_same}
 use Rattle.jack_control.proofs.MadeLemmas.{made-touches}
 

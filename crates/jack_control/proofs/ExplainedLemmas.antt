@@ -13,14 +13,13 @@ use Rattle.jack_types.specs.declared.files.Format.{Format}
 use Rattle.jack_types.specs.declared.replies.Entry.{Entry}
 use Rattle.jack_types.specs.declared.replies.Overrun.{Overrun}
 use Rattle.jack_types.specs.declared.replies.Underrun.{Underrun}
-use Rattle.session_model.specs.Courses.{Course, DiskFile}
-use Rattle.session_model.specs.Disks.{turned_underruns}
+use Rattle.session_model.specs.Courses.{Course}
 use Rattle.session_model.specs.Explanations.{Explained, Given, Printed, course_of, overruns_of, playback_text, record_text}
 use Rattle.session_model.specs.Playback.{playback_format, played_back}
 use Rattle.session_model.specs.Recorders.{recorded, recorder_format}
 use Rattle.session_model.specs.Samples.{below}
 use Rattle.session_model.specs.Scripts.{Script, turns}
-use Rattle.session_model.specs.Serial.{course_before, serial_history, serial_numbers, serial_overruns, serial_printed}
+use Rattle.session_model.specs.Serial.{serial_history, serial_numbers, serial_overruns, serial_printed}
 use Rattle.session_model.specs.WaveFiles.{wave_text}
 use Rattle.session_model.specs.Kinds.{Sound}
 use Rattle.client_kinds.specs.Scores.{Score}
@@ -28,13 +27,13 @@ use Rattle.session_laws.proofs.ActivationLemmas.{get_or-map_below}
 use Rattle.driver_words.specs.Tapes.{HasAnyFront, HasFront, IsCut}
 use Rattle.session_model.specs.Rings.{samples_of_blocks}
 use Rattle.front_laws.proofs.FrontLemmas.{any-front}
-use Rattle.driver_laws.specs.Drivers.{overruns_on, run, underruns_on}
+use Rattle.driver_laws.specs.Drivers.{overruns_on, run}
 use Rattle.driver_laws.specs.Keeping.{kept_blocks, played_so_far}
 use Rattle.recorder_files.specs.Recorders.{Recording, Stored, held_in, held_or}
 use Rattle.run_laws.proofs.PlaceLemmas.{mapped_there}
 use Rattle.run_laws.specs.Sessions.{IsGiven, Session, course_in, printed_of}
 use Rattle.run_laws.specs.Told.{Ends, Runs, StandsSoFar, text_in}
-use Rattle.serial_laws.specs.Faults.{StandsInSerial, playback_front, record_front, serial_course_of}
+use Rattle.serial_laws.specs.Faults.{StandsInSerial, serial_course_of}
 use Rattle.serial_laws.proofs.FrontLemmas.{HasFront-told, KeptAreAll, PlayedIsAll}
 use Rattle.session_run.specs.Seen.{Parts, bytes_of, session_of, stores_in, told_of}
 use Rattle.session_run.specs.Standings.{format_at}

@@ -3,7 +3,7 @@
 --     session-told      what a session was given
 --     AreDisks-fresh, waves-many, players-many, players-fresh      its disk files, of which nothing was read
 use Rattle.std.proofs.Common.{◌≡◌, ◌∙◌, ℕ, suc, zero, ℤ, List, [], ◌∷◌, Some, ap, arith, length, map, refl, sym}
-use Rattle.std.specs.Prelude.{All, Option, slice_get}
+use Rattle.std.specs.Prelude.{All, Option}
 use Rattle.std.proofs.lemmas.List.{length-map}
 use Rattle.std.proofs.lemmas.Option.{none-some, same_Some}
 use Rattle.session_model.specs.Courses.{DiskFile}

@@ -1,5 +1,5 @@
 -- What a play leaves and was given, behind what was opened before it.
-use Rattle.std.proofs.Common.{◌≡◌, ◌∙◌, ℕ, List, Some, None, subst}
+use Rattle.std.proofs.Common.{◌≡◌, ℕ, List, subst}
 use Rattle.std.specs.Prelude.{Option}
 use Rattle.jack_types.specs.declared.replies.Row.{Row}
 use Rattle.check_sights.specs.declared.sights.Sight.{Sight}

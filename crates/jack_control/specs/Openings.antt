@@ -3,7 +3,7 @@
 --     faults_in players      how many reads of disk files failed
 --     AreFaultless players      none did
 --     NoFaults parts      none of a session's sources
-use Rattle.std.specs.Prelude.{◌≡◌, ℕ, List, [], length, map, slice_get, sum_by, Option, Some}
+use Rattle.std.specs.Prelude.{◌≡◌, ℕ, List, [], length, slice_get, sum_by, Option, Some}
 use Rattle.session_model.specs.Explanations.{Given}
 use Rattle.session_model.specs.Kinds.{Sound}
 use Rattle.client_kinds.specs.Scores.{Score}

@@ -12,7 +12,7 @@ use wave_pcm::Wave;
 
 /// Hands files back of which no session was made.
 pub(crate) fn back_waves<H: Host>(host: &mut H, mut waves: Vec<Wave<H::In>>)
-    requires { length waves.items ≤ H.lent host.old }
+    requires out { length waves.items ≤ H.lent host.old }
     ensures later { H.read_faults host.old ≤ H.read_faults host.new }
     ensures writes { H.write_faults host.new ≡ H.write_faults host.old }
     ensures files { SameFiles (H.files host.old) (H.files host.new) }
@@ -25,7 +25,7 @@ pub(crate) fn back_waves<H: Host>(host: &mut H, mut waves: Vec<Wave<H::In>>)
 
 /// Hands the disk files of a session back, in the order of opening.
 pub(crate) fn back_disks<H: Host, G: Guest>(host: &mut H, session: &mut Session<H::In, H::Out, G>)
-    requires { length session.old.players ≤ H.lent host.old }
+    requires out { length session.old.players ≤ H.lent host.old }
     ensures reads { Adds (H.read_faults host.old) (faults_in session.old.players) (H.read_faults host.new) }
     ensures no_more { H.read_faults host.new ≤ H.read_faults host.old + faults_in session.old.players }
     ensures writes { H.write_faults host.new ≡ H.write_faults host.old }

@@ -6,10 +6,10 @@ use Rattle.std.proofs.lemmas.List.Sums.{sum_by-cons}
 use Rattle.jack_control.proofs.disks.back_disks.Goals as goal
 
 pub back-requires : goal.back-requires
-back-requires g c κs within =
+back-requires g c =
     let one = ap length c.in-Some.ensures.taken.1 in
     let lent = c.handing.invariant.lent in
-    let enough = c.requires in
+    let enough = c.requires.out in
     omega (arith, one, lent, enough)
 
 pub handing-preserved : goal.handing-preserved

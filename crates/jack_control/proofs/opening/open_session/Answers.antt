@@ -35,7 +35,7 @@ returns-in-Ok-clause-opened g c =
     }
 
 pub new-requires-clause-disks : goal.new-requires-clause-disks
-new-requires-clause-disks g c κs within = AreDisks-fresh c.in_ok-script.field-0.script.header.rate c.in_ok-script.field-0.script.header.disks c.in_ok-script.field-0.disks.items c.in_ok-script.ensures.disks
+new-requires-clause-disks g c = AreDisks-fresh c.in_ok-script.field-0.script.header.rate c.in_ok-script.field-0.script.header.disks c.in_ok-script.field-0.disks.items c.in_ok-script.ensures.disks
 
 pub returns-in-Ok-clause-fresh : goal.returns-in-Ok-clause-fresh
 returns-in-Ok-clause-fresh g c = record {
@@ -56,26 +56,26 @@ returns-in-Ok-clause-few g c =
     let few = c.in_ok-script.ensures.lawful.header.few_disks in
     omega (arith, many, waves, few)
 
-pub back_waves-requires : goal.back_waves-requires
-back_waves-requires g c κs within =
+pub back_waves-requires-clause-out : goal.back_waves-requires-clause-out
+back_waves-requires-clause-out g c =
     let out = c.in_ok-script.ensures.out in
     let same = ap length c.in-Err.ensures.back.1 in
     omega (arith, out, same)
 
 pub back-requires : goal.back-requires
-back-requires g c κs within =
+back-requires g c =
     let out = c.in_ok-script.ensures.out in
     let same = ap length c.in-Err.ensures.back.1 in
     let one = c.back_waves.ensures.lent in
     omega (arith, out, same, one)
 
-pub returns-in-Err-clause-back : goal.returns-in-Err-clause-back
-returns-in-Err-clause-back g c =
+pub returns-clause-back : goal.returns-clause-back
+returns-clause-back g c =
     let out = c.in_ok-script.ensures.out in
     let same = ap length c.in-Err.ensures.back.1 in
     let one = c.back_waves.ensures.lent in
     let two = c.back.ensures.lent in
     omega (arith, out, same, one, two)
 
-pub returns-in-Err-clause-files : goal.returns-in-Err-clause-files
-returns-in-Err-clause-files g c = same_after _ _ _ c.open_inputs.ensures.files (same_after _ _ _ c.back_waves.ensures.files c.back.ensures.files)
+pub returns-clause-files : goal.returns-clause-files
+returns-clause-files g c = same_after _ _ _ c.open_inputs.ensures.files (same_after _ _ _ c.back_waves.ensures.files c.back.ensures.files)

@@ -1,5 +1,4 @@
 use Rattle.std.proofs.Common.{◌∙◌, List, IsNone, IsSome, ap, inr, length, refl, subst, sym}
-use Rattle.jack_types.specs.declared.replies.Entry.{Entry}
 use Rattle.session_model.specs.Scripts.{Script, phases}
 use Rattle.session_model.specs.Serial.{serial}
 use Rattle.wave_pcm.specs.Readings.{Reading, SameReading}

@@ -113,8 +113,8 @@ returns-clause-writes g c =
 
 -- ---- how many objects of the host are out
 
-pub back_disks-requires : goal.back_disks-requires
-back_disks-requires g c κs within =
+pub back_disks-requires-clause-out : goal.back_disks-requires-clause-out
+back_disks-requires-clause-out g c =
     let start = c.requires.out.0 in
     let players = c.perform-session.ensures.players in
     let same = ap length c.hand_back-handed.ensures.players in
@@ -123,7 +123,7 @@ back_disks-requires g c κs within =
     omega (arith, start, players, same, one, two)
 
 pub back-requires : goal.back-requires
-back-requires g c κs within =
+back-requires g c =
     let start = c.requires.out.0 in
     let players = c.perform-session.ensures.players in
     let same = ap length c.hand_back-handed.ensures.players in

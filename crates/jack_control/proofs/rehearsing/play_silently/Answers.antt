@@ -30,8 +30,8 @@ returns-in-Ok-clause-history g c =
     history-of g.G.Guest.sound (g.H.Host.files c.args.host.now) (map g.G.Guest.sound (map g.G.Guest.score c.args.guests.items)) c.args.names.now c.in_ok-session.session c.in-Ok.history.items c.in_ok-session.ensures.opened
     (λ none. c.in-Ok.ensures.items ∙ c.history.ensures.value ∙ ap (λ (d : Desk). d.history) c.desk.ensures ∙ at-ok c.perform-session.result.1 _ c.in_default.is c.perform-session.ensures.history none)
 
-pub back_disks-requires : goal.back_disks-requires
-back_disks-requires g c κs within =
+pub back_disks-requires-clause-out : goal.back_disks-requires-clause-out
+back_disks-requires-clause-out g c =
     let start = c.in_ok-session.ensures.out in
     let players = c.perform-session.ensures.players in
     let same = ap length c.hand_back-handed.ensures.players in
@@ -40,7 +40,7 @@ back_disks-requires g c κs within =
     omega (arith, start, players, same, one, two)
 
 pub back-requires : goal.back-requires
-back-requires g c κs within =
+back-requires g c =
     let start = c.in_ok-session.ensures.out in
     let players = c.perform-session.ensures.players in
     let same = ap length c.hand_back-handed.ensures.players in
