@@ -97,8 +97,14 @@ fn a_held_disk_file_is_late_by_the_cycles_in_which_it_was_held(
     assert!(rt; played.status == Status::Ok);
     has_out(&rt, &played, REPORT);
     let mut heard = [0; 80];
-    heard[..8].copy_from_slice(&samples[..8]);
-    heard[36..].copy_from_slice(&samples[8..52]);
+    for (place, sample) in heard.iter_mut().enumerate() {
+        let place = place as i32;
+        if place < 8 {
+            *sample = place.saturating_add(1);
+        } else if place >= 36 {
+            *sample = place.saturating_sub(27);
+        }
+    }
     has_file(&rt, &played, "p", &wave(rt.alloc(), FORMAT, &heard)?);
     Ok(())
 }
