@@ -19,10 +19,11 @@ _sagbufe_jackd()
         return
     fi
     # Words 2 to 4 are SCRIPT, CAPTURE and PLAYBACK, and of a check REPORT stands before PLAYBACK; then come at most four pairs
-    # of --record and PATH. The options --strict and --no-sync of a play stand anywhere, but not for a PATH, and are not counted.
-    local first place=$COMP_CWORD strict= sync= it
+    # of --record and PATH, and of a play behind them at most four of --disk and PATH. The options --strict and --no-sync of a
+    # play stand anywhere, but not for a PATH, and are not counted.
+    local first place=$COMP_CWORD strict= sync= it records=4 disks=0
     case ${COMP_WORDS[1]} in
-        play) first=5 strict=offered sync=offered ;;
+        play) first=5 strict=offered sync=offered disks=4 ;;
         check) first=6 ;;
         *) return ;;
     esac
@@ -30,11 +31,14 @@ _sagbufe_jackd()
         case $it in
             --strict) place=$((place - 1)) strict= ;;
             --no-sync) place=$((place - 1)) sync= ;;
+            --record) records=$((records - 1)) ;;
+            --disk) disks=$((disks - 1)) records=0 ;;
         esac
     done
     if ((place >= first && (place - first) % 2 == 0)); then
-        ((place <= first + 6)) && mapfile -t COMPREPLY < <(compgen -W --record -- "$word")
-    elif [[ $word != -* ]] && ((place <= first + 7)); then
+        ((records > 0)) && mapfile -t COMPREPLY < <(compgen -W --record -- "$word")
+        ((disks > 0)) && mapfile -t -O ${#COMPREPLY[@]} COMPREPLY < <(compgen -W --disk -- "$word")
+    elif [[ $word != -* ]] && ((records >= 0 && disks >= 0)); then
         compopt -o filenames 2>/dev/null
         mapfile -t COMPREPLY < <(compgen -f -- "$word")
         strict= sync=

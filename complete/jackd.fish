@@ -32,12 +32,13 @@ complete -c $name -n __sagbufe_jackd_first -a graph -d 'Prints the graph that a 
 complete -c $name -n __sagbufe_jackd_first -a check -d 'Checks whether a report explains the files of a play'
 complete -c $name -n __sagbufe_jackd_first -l help -d 'Print how the program is called'
 complete -c $name -n __sagbufe_jackd_first -l version -d 'Print the version'
-# SCRIPT, CAPTURE and PLAYBACK, and then at most four pairs of --record and PATH.
-complete -c $name -n '__sagbufe_jackd_play_at 0 1 2 4 6 8 10' -F
-complete -c $name -n '__sagbufe_jackd_play_at 3 5 7 9' -l record -d 'The file of the next recorder'
+# SCRIPT, CAPTURE and PLAYBACK, and then at most four pairs of --record and PATH, and at most four of --disk and PATH.
+complete -c $name -n '__sagbufe_jackd_play_at 0 1 2 4 6 8 10 12 14 16 18' -F
+complete -c $name -n '__sagbufe_jackd_play_at 3 5 7 9; and not contains -- --disk (commandline -opc)' -l record -d 'The file of the next recorder'
+complete -c $name -n '__sagbufe_jackd_play_at 3 5 7 9 11 13 15 17; and test (count (string match -- --disk (commandline -opc))) -lt 4' -l disk -d 'The file that the next disk plays'
 # The options of a play stand anywhere, but not for a PATH.
-complete -c $name -n '__sagbufe_jackd_play_at 0 1 2 3 5 7 9 11; and not contains -- --strict (commandline -opc)' -l strict -d 'Exit code 9 where something was lost'
-complete -c $name -n '__sagbufe_jackd_play_at 0 1 2 3 5 7 9 11; and not contains -- --no-sync (commandline -opc)' -l no-sync -d 'Do not wait until the files are on their medium'
+complete -c $name -n '__sagbufe_jackd_play_at 0 1 2 3 5 7 9 11 13 15 17 19; and not contains -- --strict (commandline -opc)' -l strict -d 'Exit code 9 where something was refused, lost or late'
+complete -c $name -n '__sagbufe_jackd_play_at 0 1 2 3 5 7 9 11 13 15 17 19; and not contains -- --no-sync (commandline -opc)' -l no-sync -d 'Do not wait until the files are on their medium'
 # SCRIPT, CAPTURE, REPORT and PLAYBACK, and then at most four pairs of --record and PATH.
 complete -c $name -n '__sagbufe_jackd_check_at 0 1 2 3 5 7 9 11' -F
 complete -c $name -n '__sagbufe_jackd_check_at 4 6 8 10' -l record -d 'The file of the next recorder'

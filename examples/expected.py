@@ -89,6 +89,13 @@ frames, recorded, played = 6 * 64 + 5 * 16 + 3 * 256, 6 * 64 + 2 * 16, 6 * 64 + 
 compare('periods.playback.wav', 24, [[0 if k == 3 and n >= played else at(six[5 - k], n) for n in range(frames)] for k in range(6)])
 compare('periods.record0.wav', 24, [[0 if k == 0 and n >= recorded else at(six[k], n) for n in range(frames)] for k in range(6)])
 
+# The bass has five cycles of 64 frames, rests for three, and goes on. What is captured is heard on both sides.
+[voice], (left, right), [bass] = read('tracks.capture.wav'), read('tracks.disk0.wav'), read('tracks.disk1.wav')
+low = [at(bass, n) if n < 320 else at(bass, n - 192) if n >= 512 else 0 for n in range(20 * 64)]
+mix = [[clamp(at(voice, n) + (at(side, n) >> 1) + low[n]) for n in range(20 * 64)] for side in (left, right)]
+compare('tracks.playback.wav', 16, mix)
+compare('tracks.record0.wav', 16, mix)
+
 # With threads the report says what each cycle had: the accepted calls up to its number, each by its lane and index. The first
 # call of either lane connects the capture with the playback; the second takes half of it, or the recorder's, away.
 [heard] = read('threads.capture.wav')

@@ -53,11 +53,12 @@ PY
   sh typed > said 2>&1
 }
 
-# All sessions of examples/ are done: each has its verdict and a whole report, which is the one that stands there in serial mode.
+# All sessions of examples/ are done, but the one of disk files, which no check knows: each has its verdict and a whole report, which is the one that stands there in serial mode.
 all_done() {
   local session name
   for session in "$top"/examples/*.session; do
     name=$(basename "$session" .session)
+    if [ "$name" = tracks ]; then continue; fi
     [ "$(cat "out/$name/verdict" 2> /dev/null)" = 'check ok' ] || fault "$1: $name is not done"
     if ! grep -q '^mode threads' "$session" && ! cmp -s "out/$name/report" "examples/$name.report"; then
       fault "$1: $name has another report than in examples/"
@@ -125,5 +126,5 @@ if command -v make > /dev/null; then
 else
   echo 'check-batch: make: passed over, no make'
 fi
-[ $status -eq 0 ] && [ -n "$tried" ] && echo "check-batch: passed, $(find "$top/examples" -name '*.session' | wc -l) sessions$tried"
+[ $status -eq 0 ] && [ -n "$tried" ] && echo "check-batch: passed, $(find sessions -name '*.session' | wc -l) sessions$tried"
 exit $status

@@ -80,16 +80,20 @@ def run(what, wanted, words, inputs=(), outputs=(), **more):
         faults.append(f'{what}: {programs} programs were started')
 
 
-def play(name, records, wanted=0, capture=None, script=None):
+def play(name, records, wanted=0, capture=None, script=None, disks=()):
     """A play of a session of examples/, with its outputs in the same folder."""
     inputs = script or f'{name}.session', capture or f'{name}.capture.wav'
     outputs = [f'{name}.playback.wav', *(f'{name}.record{it}.wav' for it in range(records))]
-    run(f'a play of {inputs[0]}', wanted, ['play', *inputs, outputs[0], *(word for it in outputs[1:] for word in ('--record', it))], inputs, outputs)
+    named = [*(word for it in outputs[1:] for word in ('--record', it)), *(word for it in disks for word in ('--disk', it))]
+    run(f'a play of {inputs[0]}', wanted, ['play', *inputs, outputs[0], *named], [*inputs, *disks], outputs)
 
 
 open('faulty', 'w').write('jackd 1\nrate 1\n')
 for name, records in (('straight', 0), ('metronome', 0), ('notes', 0), ('patch', 2), ('bench', 2), ('echo', 1), ('periods', 1), ('threads', 1)):
     play(name, records)
+play('tracks', 1, disks=['tracks.disk0.wav', 'tracks.disk1.wav'])
+play('tracks', 1, 3, disks=['tracks.disk0.wav', 'missing'])
+play('tracks', 1, 7, disks=['tracks.disk1.wav', 'tracks.disk0.wav'])
 play('straight', 0, 5, script='faulty')
 play('straight', 0, 4, capture='faulty')
 play('straight', 0, 3, capture='missing')

@@ -1,8 +1,8 @@
 #!/usr/bin/env bash
 # Each session of examples/ in serial mode prints its report, byte for byte, and writes the files that examples/expected.py
 # computes from its capture. A session with threads prints a report that explains what it writes, by scripts/explained.py; so do
-# its two reports that stand there, which differ. The rehearsal by hand shows what the program tells of its number. Captures are
-# made with sox, and with Python where sox lacks.
+# its two reports that stand there, which differ. The rehearsal by hand shows what the program tells of its number. Captures and
+# disk files are made with sox, and with Python where sox lacks.
 set -u
 # shellcheck source=scripts/program.sh
 . "$(dirname "$0")/program.sh" python3
@@ -22,13 +22,17 @@ for session in "$examples"/*.session; do
     words+=(--record "$name.record$r.wav")
     files+=("$name.record$r.wav")
   done
-  if ! "$jackd" "${words[@]}" > "$name.report" 2> told; then
+  disks=()
+  for ((d = 0; d < $(grep -c '^disk ' "$session"); d++)); do
+    disks+=(--disk "$name.disk$d.wav")
+  done
+  if ! "$jackd" "${words[@]}" "${disks[@]}" > "$name.report" 2> told; then
     echo "check-examples: $name: not played: $(tail -n 1 "$name.report")"
     cat told
     status=1
     continue
   fi
-  explained "$session" "$name.capture.wav" "$name.report" "${files[@]}"
+  explained "$session" "$name.capture.wav" "$name.report" "${files[@]}" "${disks[@]}"
   if grep -q '^mode threads' "$session"; then
     for report in "$examples/$name.report" "$examples/$name-2.report"; do
       explained "$session" "$name.capture.wav" "$report"

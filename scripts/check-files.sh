@@ -1,6 +1,6 @@
 #!/usr/bin/env bash
-# What a play must not lose is there behind it, byte for byte: the script, the capture, and the outputs of a play that makes
-# none of them, whatever their names are. Compared are checksums, exit codes and standard output.
+# What a play must not lose is there behind it, byte for byte: the script, the capture, the disk files, and the outputs of a play
+# that makes none of them, whatever their names are. Compared are checksums, exit codes and standard output.
 set -u
 # shellcheck source=scripts/program.sh
 . "$(dirname "$0")/program.sh" python3 sha256sum
@@ -11,13 +11,18 @@ jackd=$folder/jackd
 status=0
 cases=0
 
-# Scripts without and with a recorder, a capture of 40 samples, and a file of an earlier play.
+# Scripts without and with a recorder, and of a disk file that is recorded, a capture of 40 samples, which is the disk file too, and
+# a file of an earlier play.
 mkdir "$folder/given"
 printf '%s\n' 'jackd 1' 'rate 48000' 'period 4' 'capture 1' 'playback 1 16' 'mode serial' \
   'do connect system:capture_1 system:playback_1' 'run 10' > "$folder/given/s"
 printf '%s\n' 'jackd 1' 'rate 48000' 'period 4' 'capture 1' 'playback 1 16' 'mode serial' 'recorder 1 16' \
   'do open tape record 0' 'do register tape:in in audio' 'do activate tape' 'do connect system:capture_1 tape:in' \
   'do connect system:capture_1 system:playback_1' 'run 10' > "$folder/given/r"
+printf '%s\n' 'jackd 3' 'rate 48000' 'period 4' 'capture 1' 'playback 1 16' 'mode serial' 'recorder 1 16' 'disk 1' \
+  'do open tape record 0' 'do register tape:in in audio' 'do activate tape' \
+  'do open track disk 0' 'do register track:out out audio' 'do activate track' 'do connect track:out tape:in' \
+  'do connect track:out system:playback_1' 'run 10' > "$folder/given/k"
 python3 - "$folder/given" <<'PY'
 import struct, sys
 def wave(name, samples):
@@ -25,6 +30,7 @@ def wave(name, samples):
     header = b'RIFF' + struct.pack('<I', 36 + len(data)) + b'WAVEfmt ' + struct.pack('<IHHIIHH', 16, 1, 1, 48000, 96000, 2, 16)
     open(f'{sys.argv[1]}/{name}', 'wb').write(header + b'data' + struct.pack('<I', len(data)) + data)
 wave('c', range(1, 41))
+wave('d', range(1, 41))
 wave('old', range(100, 200))
 PY
 
@@ -42,7 +48,7 @@ begin() {
   report=$folder/report$cases
 }
 
-# Plays with these words, and wants this exit code, and standard output that is empty, or is a report.
+# Plays with these words, and wants this exit code, and standard output that is empty, or a fault line, or a report.
 play() {
   local wanted=$1 out=$2
   shift 2
@@ -51,6 +57,7 @@ play() {
   [ $code -eq "$wanted" ] || fault "exit code $code, not $wanted"
   case $out in
     nothing) [ ! -s "$report" ] || fault 'something was put out' ;;
+    fault) grep -q '^fault ' "$report" || fault 'no fault was put out' ;;
     report) [ "$(head -n 1 "$report")" = 'report 1' ] && [ "$(tail -n 1 "$report")" = end ] || fault 'no report was put out' ;;
   esac
 }
@@ -117,6 +124,40 @@ same r c old
 begin 'a record that is a playback which was not there'
 play 6 nothing r c p --record ./p
 same r c
+
+begin 'a play of a disk file'
+play 0 report k old p --record q --disk d
+played p
+played q
+same k old d
+
+begin 'a play of the capture as a disk file'
+play 0 report k c p --record q --disk ./c
+played p
+same k c
+
+begin 'a disk file as the playback, spelt otherwise'
+play 6 nothing k c ./d --record old --disk d
+same k c d old
+
+begin 'a disk file as a record, by a hard link'
+ln d link
+play 6 nothing k c old --record link --disk d
+same k c d old
+
+begin 'a disk file from a pipe'
+mkfifo pipe
+cat d > pipe &
+writer=$!
+play 0 report k old p --record q --disk pipe
+wait "$writer"
+played p
+same k old d
+
+begin 'a disk file that is no WAVE file'
+play 4 fault k c old --record p --disk s
+same k c old s
+[ ! -e p ] || fault 'a record was made'
 
 begin 'a record in a missing folder'
 play 6 nothing r c old --record missing/q

@@ -1,25 +1,28 @@
 #!/usr/bin/env bash
 # The graph of each cycle of each session of examples/, and of some rows of tests/rows, is the one that scripts/graphs.py
-# computes from the script and the report. With --dot it has a box a client and an arrow a connection. Reports with a number
-# that is one higher or lower, and with a line left out, doubled or exchanged with the next, are answered as scripts/graphs.py
-# answers them: what stands behind the cycle's line changes nothing. The same holds of the reports of tests/graphs, which no play
-# prints, and what is wrong in each of their cases is what is written there (scripts/cases.py reads them). Then the faults of
-# words, files, scripts and standard output, and how long the last of 1,000,000 cycles takes.
+# computes from the script and the report. With --dot it has the boxes and the arrows that scripts/digraphs.py asks for, also
+# where names are words of graphviz, and graphviz draws them, the capture left and the playback right of all; without graphviz
+# that is left out. The pictures of the tutorial are those of its sessions. Reports with a number that is one higher or lower,
+# and with a line left out, doubled or exchanged with the next, are answered as scripts/graphs.py answers them: what stands
+# behind the cycle's line changes nothing. The same holds of the reports of tests/graphs, which no play prints, and what is
+# wrong in each of their cases is what is written there (scripts/cases.py reads them). Then the faults of words, files, scripts
+# and standard output, and how long the last of 1,000,000 cycles takes.
 set -u
 # shellcheck source=scripts/program.sh
 . "$(dirname "$0")/program.sh" python3
 folder=$(mktemp -d)
 trap 'rm -rf "$folder"' EXIT
 python3 - "$jackd" "$folder" <<'PY'
-import glob, os, re, subprocess, sys, time
+import glob, html, os, re, shutil, subprocess, sys, time
 from concurrent.futures import ThreadPoolExecutor
 
 sys.path.insert(0, 'scripts')
+import digraphs
 from cases import all_in
 from graphs import Script, answer
 
 program, folder = os.path.abspath(sys.argv[1]), sys.argv[2]
-faults, graphs, dots, changed, refused = [], 0, 0, 0, 0
+faults, pictures, graphs, dots, changed, refused = [], [], 0, 0, 0, 0
 pool = ThreadPoolExecutor(os.cpu_count())
 
 
@@ -28,17 +31,30 @@ def ask(*words, **more):
     return done.returncode, done.stdout.decode(), done.stderr.decode()
 
 
-def dot_faults(text, lines):
-    """What a digraph lacks of a graph's lines, or has besides."""
-    words = [line.split() for line in lines.splitlines()]
-    boxes = {it[1]: it[-1] == 'active' for it in words if it[0] == 'client'}
-    arrows = [(it[1], it[2], it[3] == 'feedback') for it in words if it[0] == 'connected']
-    ports = {it[1] for it in words if it[0] == 'port'}
-    drawn = {it[1]: 'color=grey' not in it[2] for it in re.finditer(r'^  "([^"]+)" \[label="[^"]*"(.*)\];$', text, re.M)}
-    ends = [(f'{it[1]}:{it[2]}', f'{it[3]}:{it[4]}', it[5] is not None)
-            for it in re.finditer(r'^  "([^"]+)":"([^"]+)" -> "([^"]+)":"([^"]+)"( \[style=dashed\])?;$', text, re.M)]
-    fields = {f'{box[1]}:{it}' for box in re.finditer(r'^  "([^"]+)" \[label="([^"]*)"', text, re.M) for it in re.findall(r'<([^>]+)>', box[2])}
-    return [what for what, one, other in (('boxes', boxes, drawn), ('arrows', arrows, ends), ('ports', ports, fields)) if one != other]
+def draw(name, script, report, cycle, lines):
+    """Whether the digraph of a cycle is that of its graph's lines; it is kept for graphviz."""
+    global dots
+    code, text, _ = ask(script, report, str(cycle), '--dot')
+    dots += 1
+    wrong = digraphs.faults(text, lines)
+    if code or wrong:
+        faults.append(f'{name}: cycle {cycle} --dot: {code} {wrong}')
+    return f'{name}: cycle {cycle}', text, lines
+
+
+def lay(name, text, lines):
+    """Whether graphviz reads this digraph, and draws the capture left and the playback right of all, and each direct connection to the right."""
+    laid, wanted = digraphs.Laid(text), digraphs.wanted(lines)
+    if laid.code or laid.warnings:
+        return [f'{name}: graphviz: {laid.code} {laid.warnings}']
+    arrows = [(source, destination, looks) for source, destination, looks in wanted['arrows']]
+    if sorted(laid.boxes) != sorted(wanted['boxes']) or laid.arrows != sorted((':'.join(one), ':'.join(other)) for one, other, _ in arrows):
+        return [f'{name}: graphviz draws {laid.boxes} and {laid.arrows}']
+    pairs = [(one[0], other[0]) for one, other, looks in arrows if 'constraint' not in looks]
+    for it in laid.boxes:
+        pairs += [('system:capture', it)] if it != 'system:capture' else []
+        pairs += [(it, 'system:playback')] if it != 'system:playback' else []
+    return [f'{name}: graphviz draws {one} right of {other}' for one, other in pairs if laid.boxes[one] >= laid.boxes[other]]
 
 
 def compare(name, script, report, cycle):
@@ -68,7 +84,7 @@ def changes(lines):
 
 def session(name, script, report):
     """All cycles of a session, and its report with changes, of its cycle in the middle and of its last."""
-    global graphs, dots, changed, refused
+    global graphs, changed, refused
     count = Script(open(script).read()).cycles
     cycles = range(1, count + 1)
     told = list(pool.map(lambda cycle: compare(name, script, report, cycle), cycles))
@@ -77,11 +93,7 @@ def session(name, script, report):
         if code:
             faults.append(f'{name}: cycle {cycle} has no graph')
         elif cycle % 25 == 1 or cycle == count:
-            code, dot, _ = ask(script, report, str(cycle), '--dot')
-            dots += 1
-            wrong = dot_faults(dot, lines)
-            if code or wrong:
-                faults.append(f'{name}: cycle {cycle} --dot: {code} {wrong}')
+            pictures.append(draw(name, script, report, cycle, lines))
     held = open(report).read().splitlines()
     if not count:
         return
@@ -151,6 +163,55 @@ for place, cases in all_in('tests/graphs'):
         if (code, line) != (8, f'check wrong {wrong}\n') and (code, wrong) != (0, 'ok'):
             faults.append(f'{place}: {what}: {code} {line!r}, and not {wrong}')
 
+# Names that mean something to graphviz where they stand without quotes: its words, and the sides of a box.
+NAMES, PORTS = ('node', 'edge', 'graph', 'digraph', 'subgraph', 'strict', 'capture', 'playback', 'system.capture', '-', '.', '7', '-1.5', 'n', '_'), ('n', 'e', 'w', '_', 'c', '-')
+odd = [f'do {it}' for name in NAMES for it in (f'open {name} mix', *(f'register {name}:{port} {way} audio' for port, way in zip(PORTS, 3 * ('in', 'out'))), f'activate {name}')]
+odd += [f'do connect {one}:{out} {other}:{into}' for one, other in zip(NAMES, (*NAMES[1:], NAMES[0])) for out, into in (('e', 'n'), ('_', 'w'), ('-', 'c'))]
+odd += ['do open none pass', 'do open idle pass', 'do register idle:in in audio']
+place = f'{folder}/names'
+os.mkdir(place)
+capture_of(f'{place}/c.wav', 1, 48000)
+open(f'{place}/s', 'w').write('\n'.join(('jackd 1', 'rate 48000', 'period 4', 'capture 1', 'playback 1 16', 'mode serial', *odd, 'run 1', '')))
+report = play(f'{place}/s', f'{place}/c.wav', place)
+if report:
+    session('names', f'{place}/s', report)
+else:
+    faults.append('a session with odd names was not played')
+
+# The pictures of the tutorial: each is drawn by a command of it, and has the boxes, the words and the arrows of its session's graph.
+tutorial = open('docs/TUTORIAL.md').read()
+files = dict(re.findall(r'^```text (\S+)\n(.*?)^```$', tutorial, re.M | re.S))
+commands = {it[4]: it for it in re.finditer(r'jackd graph (\S+) (\S+) ([0-9]+) --dot \| dot -Tsvg > (\S+\.svg)', tutorial)}
+shown = re.findall(r'^!\[[^]]*\]\((\S+\.svg)\)$', tutorial, re.M)
+if sorted(commands) != sorted(shown) or sorted(shown) != sorted(map(os.path.basename, glob.glob('docs/*.svg'))):
+    faults.append(f'the tutorial draws {sorted(commands)}, shows {sorted(shown)}, and docs/ has {glob.glob("docs/*.svg")}')
+for picture, command in sorted(commands.items()):
+    place = f'{folder}/{picture}'
+    os.mkdir(place)
+    capture_of(f'{place}/c.wav', 1, 48000)
+    open(f'{place}/s', 'w').write(files[command[1]])
+    report = play(f'{place}/s', f'{place}/c.wav', place)
+    if not report:
+        faults.append(f'the session of docs/{picture} was not played')
+        continue
+    _, lines, _ = compare(picture, f'{place}/s', report, int(command[3]))
+    wanted = digraphs.wanted(lines)
+    svg = open(f'docs/{picture}').read()
+    told = lambda what: sorted(html.unescape(it).strip() for it in re.findall(rf'<{what}[^>]*>(.*?)</{what}>', svg))
+    words = [wanted['title']] + [it for box, _ in wanted['boxes'].values() for it in (*box['inputs'], *box['lines'], *box['outputs'])]
+    titles = [wanted['title'], *wanted['boxes']] + [f'{one[0]}:{one[2]}->{other[0]}:{other[2]}' for one, other, _ in wanted['arrows']]
+    red = sum('color' in looks for _, _, looks in wanted['arrows'])
+    if told('text') != sorted(words) or told('title') != sorted(titles) or len(re.findall('<path [^>]*stroke="red"', svg)) != red:
+        faults.append(f'docs/{picture} is another picture than that of {command[1]}, cycle {command[3]}')
+
+# What graphviz makes of the digraphs.
+if shutil.which('dot'):
+    for found in pool.map(lambda it: lay(*it), pictures):
+        faults += found
+    laid = f'{len(pictures)} of them by graphviz'
+else:
+    laid = 'graphviz is left out, no dot'
+
 # Faults of the words, the files and the script.
 SCRIPT, REPORT = 'examples/patch.session', 'examples/patch.report'
 HELP = "try 'jackd --help'\n"
@@ -209,6 +270,6 @@ speed = os.path.getsize(report) / min(took) / 1e6
 for fault in faults[:20]:
     print('check-graph:', fault)
 if not faults:
-    print(f'check-graph: passed, {graphs} graphs, {dots} of them drawn, {changed} changed reports of which {refused} are refused, {from_paper} cases from paper; the last of {CYCLES} cycles in {min(took):.2f} s, {speed:.0f} MB/s')
+    print(f'check-graph: passed, {graphs} graphs, {dots} of them drawn ({laid}), {changed} changed reports of which {refused} are refused, {from_paper} cases from paper; the last of {CYCLES} cycles in {min(took):.2f} s, {speed:.0f} MB/s')
 sys.exit(bool(faults))
 PY

@@ -90,15 +90,18 @@ for name in jackd sagbufe-jackd; do
   try '' $name rehearse ''
   try 'one.session' $name play ''
   try 'one.session' $name play a b o
-  try '--record --strict --no-sync' $name play a b c ''
+  try '--record --disk --strict --no-sync' $name play a b c ''
   try 'one.session' $name play a b c --record ''
   try '' $name play a b c --record -
-  try '--record --strict --no-sync' $name play a b c --record d --record e --record f ''
-  try '--strict --no-sync' $name play a b c --record d --record e --record f --record g ''
+  try 'one.session' $name play a b c --disk ''
+  try '--record --disk --strict --no-sync' $name play a b c --record d --record e --record f ''
+  try '--disk --strict --no-sync' $name play a b c --record d --record e --record f --record g ''
+  try '--disk --strict --no-sync' $name play a b c --record d --disk e --disk f --disk g ''
+  try '--strict --no-sync' $name play a b c --disk d --disk e --disk f --disk g ''
   try '--strict --no-sync' $name play -
   try 'one.session' $name play --strict a b o
-  try '--record --no-sync' $name play --strict a b c ''
-  try '--record' $name play --strict a b c --no-sync ''
+  try '--record --disk --no-sync' $name play --strict a b c ''
+  try '--record --disk' $name play --strict a b c --no-sync ''
   try '' $name play --strict --no-sync -
   try '--record' $name check a b c d ''
   try '' $name --help ''
@@ -113,7 +116,7 @@ fi
 if command -v fish >/dev/null; then
   for name in jackd sagbufe-jackd; do
     got=$(cd "$folder/files" && fish --no-config -c "source $folder/free/share/fish/vendor_completions.d/$name.fish; complete -C '$name '; complete -C '$name play a '; complete -C '$name play a b c --'; complete -C '$name play --strict a b c --'" | cut -f 1 | tr '\n' ' ')
-    [ "$got" = 'check graph play rehearse one.session --no-sync --record --strict --no-sync --record ' ] || fault "fish offers '$got'"
+    [ "$got" = 'check graph play rehearse one.session --disk --no-sync --record --strict --disk --no-sync --record ' ] || fault "fish offers '$got'"
   done
 else
   over fish

@@ -1,9 +1,11 @@
 #!/usr/bin/env bash
-# A lack of memory, at each allocation of a play in turn, in serial mode, with threads and with threads that steal, is answered by
-# exit code 1, which is told, with no report and no file made, or makes no difference, as where a vector's growth then asks for
-# less (two at most); and a longer session makes no more allocations. Where workers steal, a deque may grow in a cycle: so often
-# (seven times a worker, at most) an allocation more or less makes no difference, and none of a session's length. So is it at each allocation of a check, whose files stay; and a check of
-# a hundred times as many cycles makes at most 16 more, by which lists grow while the report is read: its cycles make none.
+# A lack of memory, at each allocation of a play in turn, in serial mode, with threads and with threads that steal, and with disk
+# files in serial mode and with threads, is answered by exit code 1, which is told, with no report and no file made, or makes no
+# difference, as where a vector's growth then asks for less (two at most); and a longer session makes no more allocations up to
+# the end of its report (behind that it may be told which blocks a busy machine lost). Where workers steal, a deque may grow in a
+# cycle: so often (seven times a worker, at most) an allocation more or less makes no difference, and none of a session's length.
+# So is it at each allocation of a check, whose files stay; and a check of a hundred times as many cycles makes at most 16 more, by
+# which lists grow while the report is read: its cycles make none.
 # Each start of a thread takes memory of its own; where that is refused or the start is, each in turn and all of them, the play
 # is as with it. Workers are started in heavy cycles alone. The program runs under an allocator that refuses one call, and a
 # start of threads that refuses one or all.
@@ -14,7 +16,8 @@ folder=$(mktemp -d)
 trap 'rm -rf "$folder"' EXIT
 
 # An allocator and a start of threads in front of the C library's: they refuse the allocation of the number $REFUSED and the
-# start of the number $UNSTARTED, or all starts where that is `all`, and write into $COUNT how many of each there were.
+# start of the number $UNSTARTED, or all starts where that is `all`, and write into $COUNT how many of each there were, and how many
+# allocations came before the last write to standard output.
 cat > "$folder/refusing.c" <<'C'
 #define _GNU_SOURCE
 #include <dlfcn.h>
@@ -27,7 +30,7 @@ cat > "$folder/refusing.c" <<'C'
 #include <sys/syscall.h>
 #include <unistd.h>
 
-static unsigned long calls, refused, starts, unstarted;
+static unsigned long calls, refused, starts, unstarted, printed;
 
 static unsigned long number_of(const char *name) {
     const char *text = getenv(name);
@@ -38,7 +41,7 @@ static unsigned long number_of(const char *name) {
 __attribute__((constructor)) static void begin(void) {
     refused = number_of("REFUSED");
     unstarted = number_of("UNSTARTED");
-    calls = starts = 0;
+    calls = starts = printed = 0;
 }
 
 static int refuses(void) {
@@ -80,10 +83,17 @@ void *aligned_alloc(size_t align, size_t size) {
     return real(align, size);
 }
 
+ssize_t write(int file, const void *bytes, size_t count) {
+    static ssize_t (*real)(int, const void *, size_t);
+    if (!real) real = dlsym(RTLD_NEXT, "write");
+    if (file == 1) printed = __atomic_load_n(&calls, __ATOMIC_SEQ_CST);
+    return real(file, bytes, count);
+}
+
 static void end(int code) {
-    char text[64];
+    char text[96];
     int file = open(getenv("COUNT"), O_WRONLY | O_CREAT | O_TRUNC, 0600);
-    int length = snprintf(text, sizeof text, "%lu %lu", calls, starts);
+    int length = snprintf(text, sizeof text, "%lu %lu %lu", calls, starts, printed);
     if (file < 0 || write(file, text, length) < 0) code = 99;
     syscall(SYS_exit_group, code);
 }
@@ -101,9 +111,9 @@ os.chdir(folder)
 made = ['playback', 'record']
 
 
-def wave(data):
+def wave(data, channels=1):
     header = b'RIFF' + (36 + len(data)).to_bytes(4, 'little') + b'WAVEfmt ' + (16).to_bytes(4, 'little')
-    header += bytes([1, 0, 1, 0]) + (48000).to_bytes(4, 'little') + (96000).to_bytes(4, 'little') + bytes([2, 0, 16, 0])
+    header += bytes([1, 0, channels, 0]) + (48000).to_bytes(4, 'little') + (96000 * channels).to_bytes(4, 'little') + bytes([2 * channels, 0, 16, 0])
     return header + b'data' + len(data).to_bytes(4, 'little') + data
 
 
@@ -142,10 +152,25 @@ def steals(cycles):
     return threads(cycles, mode='steal 2', calls=calls, version=3, events=[f'event 0 {n} 90{n % 128:02x}40' for n in range(700)])
 
 
-def capture_of(text):
-    """A capture that is as long as the session, so that nothing is told of it."""
+def disks(cycles, mode='serial', changes=('lane 1 at 2 disconnect d0:1 system:playback_1', 'lane 1 at 3 deactivate d1')):
+    """Two disk files, which are played beside a recorder. The ring holds all blocks of eight cycles."""
+    calls = []
+    for disk, ports in ((0, '1'), (1, '12')):
+        calls += [f'do open d{disk} disk {disk}', *(f'do register d{disk}:{port} out audio' for port in ports), f'do activate d{disk}']
+        calls += [f'do connect d{disk}:{port} system:playback_{port}' for port in ports]
+    return script(mode, 64, calls, cycles, list(changes), 3, ['disk 1', 'disk 2'])
+
+
+def readers(cycles):
+    """The same with threads, of which each disk file has one."""
+    return disks(cycles, 'threads 2', [])
+
+
+def file_of(text, channels=1):
+    """A capture or a disk file that is as long as the session, so that nothing is told of it."""
     period, cycles = (int(re.search(rf'^{word} (\d+)$', text, re.M)[1]) for word in ('period', 'run'))
-    return wave((bytes(range(256)) * (period * cycles // 128 + 1))[:2 * period * cycles])
+    size = 2 * channels * period * cycles
+    return wave((bytes(range(256)) * (size // 256 + 1))[:size], channels)
 
 
 def play(text, refused=0, unstarted=0):
@@ -154,9 +179,14 @@ def play(text, refused=0, unstarted=0):
             os.remove(name)
     with open('script', 'w') as it:
         it.write(text)
-    with open('capture', 'wb') as it:
-        it.write(capture_of(text))
-    return run(['play', 'script', 'capture', 'playback', '--record', 'record'], refused, unstarted)
+    given, words = {'capture': file_of(text)}, ['play', 'script', 'capture', 'playback', '--record', 'record']
+    for disk, channels in enumerate(re.findall(r'^disk (\d)$', text, re.M)):
+        given[f'disk{disk}'] = file_of(text, int(channels))
+        words += ['--disk', f'disk{disk}']
+    for name, held in given.items():
+        with open(name, 'wb') as it:
+            it.write(held)
+    return run(words, refused, unstarted)
 
 
 def check(report, refused=0):
@@ -171,7 +201,7 @@ def run(words, refused, unstarted=0):
     where = {**os.environ, 'LD_PRELOAD': f'{folder}/refusing.so', 'COUNT': 'count', 'REFUSED': str(refused), 'UNSTARTED': str(unstarted)}
     ran = subprocess.run([jackd, *words], env=where, capture_output=True, timeout=60)
     files = [open(name, 'rb').read() if os.path.exists(name) else None for name in made]
-    counts = open('count').read().split() if os.path.exists('count') else [0, 0]
+    counts = open('count').read().split() if os.path.exists('count') else [0, 0, 0]
     return (ran.returncode, ran.stdout, ran.stderr, *files), *map(int, counts)
 
 
@@ -181,15 +211,15 @@ def told(got):
 
 def faults(session, workers, grown=0):
     """How often a play allocates, and what it does where that is refused; a cycle may make so many allocations more."""
-    whole, count, starts = play(session(8))
-    longer, more, later = play(session(800))
+    whole, count, starts, printed = play(session(8))
+    longer, _, later, more = play(session(800))
     if whole[0] or longer[0]:
         yield f'with ample memory {told(whole)}, and {told(longer)}'
         return
-    if count == 0:
+    if count == 0 or printed == 0:
         yield 'no allocation was counted'
-    if abs((count - starts) - (more - later)) > grown:
-        yield f'{count} allocations and {starts} threads for 8 cycles, and {more} and {later} for 800'
+    if abs((printed - starts) - (more - later)) > grown:
+        yield f'{printed} allocations and {starts} threads for 8 cycles, and {more} and {later} for 800'
     if later - starts != workers * 792:
         yield f'{starts} threads for 8 cycles, and {later} for 800'
     if session is light:
@@ -215,7 +245,7 @@ def check_faults(session):
     counts = []
     for cycles in (800, 8):
         (code, report, _, *files), *_ = play(session(cycles))
-        whole, count, starts = check(report)
+        whole, count, starts, _ = check(report)
         if whole != (0, b'check ok\n', b'', *files) or starts:
             yield f'with ample memory {told(whole)}, {starts} threads'
             return
@@ -233,7 +263,7 @@ def check_faults(session):
     print(f'check-memory: check of {session.__name__}: {count} allocations refused, one a check: {count - harmless} answered by 1, {harmless} made no difference')
 
 
-sessions = ((serial, 0), (threads, 1), (light, 0), (steals, 1, 14))
+sessions = ((serial, 0), (threads, 1), (light, 0), (steals, 1, 14), (disks, 0), (readers, 0))
 wrong = [f'{session.__name__}: {fault}' for session, *numbers in sessions for fault in faults(session, *numbers)]
 wrong += [f'check of {session.__name__}: {fault}' for session in (serial, threads, steals) for fault in check_faults(session)]
 for fault in wrong[:10]:

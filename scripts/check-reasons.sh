@@ -48,6 +48,9 @@ def stopped(cycles, number):
 PLAY = ['play', 's', 'c', 'p']
 GOOD = text(JOINED, 'run 2')
 PLAYED = report(['call 0 1 ok 1'], stopped(2, 1))
+# A script of two disk files, of one channel and of two.
+TRACKS = text('run 2', header=['jackd 3', *HEADER[1:], 'disk 1', 'disk 2'])
+ON_DISK = [*PLAY, '--disk', 'd', '--disk', 'e']
 HELP = "try 'jackd --help'\n"
 
 
@@ -130,6 +133,10 @@ words_case('a strict rehearsal', ['rehearse', '7', '--strict'], 'jackd: "--stric
 words_case('an empty name', ['play', 's', 'c', ''], 'jackd: PLAYBACK is empty, and names no file')
 words_case('a name like an option', ['play', '-s', 'c', 'p'], 'jackd: SCRIPT begins with "-"; a file is named ./-s')
 words_case('an option first', ['play', '--record', 'r', 's', 'c', 'p'], 'jackd: "--record" comes behind SCRIPT, CAPTURE and PLAYBACK')
+words_case('five disk files', [*PLAY, *sum((['--disk', f'd{k}'] for k in range(5)), [])], 'jackd: "--disk" stands more than 4 times')
+words_case('one disk file twice', [*PLAY, '--disk', 'd', '--disk', 'd'], 'jackd: PATH and PATH name one file: d')
+words_case('a disk file that is the playback', [*PLAY, '--disk', 'p'], 'jackd: PLAYBACK and PATH name one file: p')
+words_case('a disk option without a path', [*PLAY, '--disk'], 'jackd: "--disk" needs a path')
 words_case('a record behind a disk', [*PLAY, '--disk', 'd', '--record', 'r'], 'jackd: "--record" stands before "--disk"')
 words_case('rehearse alone', ['rehearse'], 'jackd: rehearse needs a NUMBER from 0 to 4294967295')
 words_case('a misspelt rehearsal', ['rehears', '7'], 'jackd: no command "rehears"; is "rehearse" meant?')
@@ -166,6 +173,9 @@ read_case('a name too long', ['play', 'n' * 300, 'c', 'p'], 'jackd: ' + 'n' * 30
 read_case('a path too long', ['play', 'd/' * 3000, 'c', 'p'], 'jackd: a name of more than 4096 bytes: File name too long')
 read_case('a link to itself', ['play', 's', 'l', 'p'], 'jackd: l: Too many levels of symbolic links',
     prepare=lambda where: os.symlink('l', f'{where}/l'))
+read_case('no disk file', ON_DISK, 'jackd: d: No such file or directory', files={'s': TRACKS})
+read_case('no second disk file', ON_DISK, 'jackd: e: No such file or directory', files={'s': TRACKS, 'd': wave()})
+read_case('a disk file that is a directory', [*PLAY, '--disk', '.', '--disk', 'e'], 'jackd: .: Is a directory', files={'s': TRACKS})
 read_case('a name that steers a terminal', ['play', 's\x1b]0;x\x07', 'c', 'p'], 'jackd: s\\x1b]0;x\\x07: No such file or directory')
 if os.geteuid():
     read_case('a script that may not be read', PLAY, 'jackd: s: Permission denied', prepare=lambda where: os.chmod(f'{where}/s', 0))
@@ -208,6 +218,10 @@ wave_case('an extension of few bytes', wave(form(tag=0xfffe, rest=struct.pack('<
     'its "fmt " chunk is extended by 10 bytes, at least 22 are needed')
 wave_case('floats in an extended format', wave(form(tag=0xfffe, bits=32, rest=struct.pack('<HHI', 22, 32, 0) + b'\3\0' + GUID)),
     'BadFormat Guid 3', f'float samples (subformat 3) are not read: {CONVERT}')
+for disk, other in ({'d': b'hello, this is no sound'}, 'd'), ({'d': wave(), 'e': b'hello, this is no sound'}, 'e'):
+    case('a text as a disk file', ON_DISK, 4, b'fault 4 wave NotRiff\n', f'jackd: {other}: no RIFF WAVE file (begins "hell")\n', files={'s': TRACKS, **disk})
+case('a disk file of float samples', ON_DISK, 4, b'fault 4 wave BadFormat Tag 3\n',
+    'jackd: d: float samples (tag 3) are not read: sox d -e signed-integer -b 24 new.wav\n', files={'s': TRACKS, 'd': wave(form(tag=3, bits=32))})
 wave_case('very many chunks', wave(before=chunk(b'junk', b'') * 4096), 'TooManyChunks', '4096 chunks stand before its samples')
 
 
@@ -242,7 +256,6 @@ script_case('a script in UTF-16', '\ufeffjackd 1\n'.encode('utf-16-le'), 1, 'Hea
 header_case('a missing rate', 2, 'period 64', 'Header', '"rate" is expected here')
 header_case('a header in capitals', 1, 'JACKD 1', 'Header', '"jackd" is expected here')
 header_case('another version', 1, 'jackd 4', 'Choice', 'version 4 is none; 1, 2 and 3 are')
-script_case('a script with disks', text(JOINED, 'run 2', header=['jackd 3', *HEADER[1:], 'disk 1']), 1, 'Choice', 'disk files are not played yet', 'jackd 3')
 header_case('a rate too low', 2, 'rate 44', 'Range', '"44" is outside 8000 to 192000')
 header_case('a rate with a unit', 2, 'rate 48kHz', 'Number', '"48kHz" is no number of 1 to 10 digits')
 header_case('no power of two', 3, 'period 100', 'Choice', '100 is no power of two')
@@ -289,6 +302,7 @@ script_case('a name that is no UTF-8', text('run 2').replace(b'run', b'do open \
 body_case('a port without a client', 'do connect capture_1 system:playback_1', 'Name',
     'a port is CLIENT:PORT, of A-Z a-z 0-9 . _ -, the client 1 to 32 of them, 64 in all')
 body_case('a record without a recorder', 'do open t record 0', 'Range', '"0" is the number of none: the header has no such line')
+body_case('a player without a disk', 'do open t disk 0', 'Range', '"0" is the number of none: the header has no such line', version=3)
 body_case('a lane without a segment', 'lane 1 at 0 start', 'Lane', 'no "run" or "freewheel" line is open before this call of a lane')
 body_case('a lane that falls behind', 'lane 1 at 2 stop', 'Lane', 'cycle 2 falls behind 3, the call before of lane 1',
     before=['run 9', 'lane 1 at 3 start'])
@@ -322,6 +336,10 @@ write_case('the script by a link', ['play', 's', 'c', 'l'], 'jackd: l: is the sc
     prepare=lambda where: os.symlink('s', f'{where}/l'))
 write_case('the playback by another name', [*PLAY, '--record', './p'], 'jackd: ./p: is the playback p; nothing was written',
     files={'s': text('do start', 'run 2', header=[*HEADER, 'recorder 1 16']), 'p': b'kept'})
+write_case('a disk file as the playback', ['play', 's', 'c', './d', '--disk', 'd', '--disk', 'e'], 'jackd: ./d: is the disk file d; nothing was written',
+    files={'s': TRACKS, 'd': wave(), 'e': wave(form(channels=2))})
+write_case('a disk file as a record, by a link', [*PLAY, '--record', 'l', '--disk', 'd', '--disk', 'e'], 'jackd: l: is the disk file e; nothing was written',
+    files={'s': TRACKS.replace(b'disk 1', b'recorder 1 16\ndisk 1'), 'p': b'kept', 'd': wave(), 'e': wave(form(channels=2))}, prepare=lambda where: os.symlink('e', f'{where}/l'))
 LONG = {'s': text(JOINED, 'run 2000')}
 
 
@@ -374,6 +392,13 @@ differs_case('a recorder without a file', 'Records 1 0', 'the script has 1 recor
     {'s': text('run 2', header=[*HEADER, 'recorder 1 16'])})
 differs_case('a file without a recorder', 'Records 0 2', 'the script has 0 recorders, --record was given 2 times', None,
     [*PLAY, '--record', 'r', '--record', 'q'])
+differs_case('disks without files', 'Disks 2 0', 'the script has 2 disk files, --disk was given 0 times', {'s': TRACKS})
+differs_case('a disk file of another rate', 'DiskRate 48000 44100', 'the script has rate 48000, e has 44100: sox e -r 48000 new.wav',
+    {'s': TRACKS, 'd': wave(), 'e': wave(form(rate=44100))}, ON_DISK)
+differs_case('a disk file of other channels', 'DiskChannels 1 2', 'the script has disk 1, d has 2 channels: sox d -c 1 new.wav',
+    {'s': TRACKS, 'd': wave(form(channels=2))}, ON_DISK)
+differs_case('a second disk file of other channels', 'DiskChannels 2 1', 'the script has disk 2, e has 1 channel: sox e -c 2 new.wav',
+    {'s': TRACKS, 'd': wave(), 'e': wave()}, ON_DISK)
 differs_case('a disk file', 'Disks 0 1', 'the script has 0 disk files, --disk was given 1 time', {'d': wave()}, [*PLAY, '--disk', 'd'])
 
 # Two mistakes at once: a file that can't be made is told last, since no file is made before all is read.
@@ -444,6 +469,25 @@ case('a strict play of lost blocks', ['play', '--strict', *PLAY[1:], '--record',
 case('a strict play of a refused call', [*PLAY, '--strict'], 9, REFUSED,
     'jackd: s:7: close a: refused 1 NoClient (no client a is open)\njackd: 1 of 1 call was refused\n',
     files={'s': text('do close a', 'run 2')}, made=['p'])
+# Underruns: blocks are put into the ring in the freewheel cycle alone, two of them, of which that cycle plays one.
+LATE = ['jackd 3', *HEADER[1:], 'ring 2', 'fill 0']
+FILL = 'jackd: "fill 1" has no underrun, nor has a "freewheel" segment\n'
+PLAYER = ['do open d disk 0', 'do activate d']
+UNDERRUN = {'s': text(*PLAYER, 'run 2', header=[*LATE, 'disk 1']), 'd': wave()}
+MISSED = report(TAPED[:2], stopped(2, 2), ['disk 0 0 2', 'underrun 0 1 0 0', 'underrun 0 2 0 0'])
+TOLD_LATE = 'jackd: d: 2 underruns beside 0 blocks played, the first in cycle 1 (second 0.000); each is silent, and the track is late from there on\n' + FILL
+case('underruns', [*PLAY, '--disk', 'd'], 0, MISSED, TOLD_LATE, files=UNDERRUN, made=['p'])
+case('a strict play of underruns', ['play', '--strict', *PLAY[1:], '--disk', 'd'], 9, MISSED, TOLD_LATE, files=UNDERRUN, made=['p'])
+case('underruns of a script from a pipe', ['play', '/dev/stdin', 'c', 'p', '--disk', 'd'], 0, MISSED, TOLD_LATE, files={'d': wave()}, made=['p'], stdin=UNDERRUN['s'])
+case('one underrun', [*PLAY, '--disk', 'd'], 0, report(TAPED[:2], stopped(3, 2), ['disk 0 2 1', 'underrun 0 3 2 2']),
+    'jackd: d: 1 underrun beside 2 blocks played, in cycle 3 (second 0.002); it is silent, and the track is late from there on\n' + FILL,
+    files={'s': text(*PLAYER, 'freewheel 1', 'run 2', header=[*LATE, 'disk 1']), 'd': wave(data=bytes(512))}, made=['p'])
+case('underruns of the second disk, and a lost block', [*PLAY, '--record', 't', '--disk', 'd', '--disk', './d'], 0,
+    report(TAPED, stopped(4, 4), ['recorder 0 3 1', 'overrun 0 4 3 1', 'disk 0 0 0', 'disk 1 2 2', 'underrun 1 3 2 2', 'underrun 1 4 2 2']),
+    'jackd: t: 1 of 4 blocks was lost, in cycle 4 (second 0.004); the file is shifted from there on\n' + DRAIN
+    + 'jackd: ./d: 2 underruns beside 2 blocks played, the first in cycle 3 (second 0.002); each is silent, and the track is late from there on\n' + FILL,
+    files={'s': text('do open t record 0', 'do activate t', 'do open d disk 1', 'do activate d', 'freewheel 1', 'run 3',
+        header=['jackd 3', *HEADER[1:], 'ring 2', 'drain 0', 'fill 0', 'recorder 1 16', 'disk 1', 'disk 1']), 'd': wave(data=bytes(512))}, made=['p', 't'])
 case('a strict play of nothing wrong', ['play', 's', '--strict', 'c', 'p', '--strict'], 0, PLAYED, '', made=['p'])
 case('a strict play of a faulty script', [*PLAY, '--strict'], 5, b'fault 5 script 7 Unknown\n',
     'jackd: s:7: no command "strat"; is "start" meant?\n    do strat\n', files={'s': text('do strat', 'run 2')})
@@ -610,6 +654,9 @@ overrun_case('another number of blocks sent', 'overrun 2', 12, 'overrun 2: the n
 # A check ends as a play does where what is given is wrong.
 case('a check of no report', ['check', 's', 'c', 'nor', 'p'], 3, b'fault 3 read\n', 'jackd: nor: No such file or directory\n', files=STRAIGHT)
 case('a check of no playback file', ['check', 's', 'c', 'r', 'nop'], 3, b'fault 3 read\n', 'jackd: nop: No such file or directory\n', files=STRAIGHT)
+for words in CHECK, [*CHECK, '--disk', 'd', '--disk', 'e']:
+    case('a check of a script with disks', words, 5, b'fault 5 script 1 Choice\n', 'jackd: s:1: a session with disk files is played, and not checked yet\n    jackd 3\n',
+        files={**STRAIGHT, 's': TRACKS, 'd': wave(), 'e': wave(form(channels=2))})
 case('a check of a misspelt script', CHECK, 5, b'fault 5 script 7 Unknown\n', 'jackd: s:7: no command "strat"; is "start" meant?\n    do strat\n',
     files={**STRAIGHT, 's': text('do strat', 'run 2')})
 case('a check of two channels', CHECK, 7, b'fault 7 differs Channels 1 2\n', 'jackd: the script has capture 1, c has 2 channels: sox c -c 1 new.wav\n',

@@ -6,6 +6,7 @@
 #   words      the program's words, a line a run; each run ends as the row says
 #   s, s-1 ..  the scripts, each played as `s`
 #   c          the capture: c.wave as a WAVE file, c.hex by its bytes
+#   d, d0 ..   disk files, likewise
 #   o          a report, as `o`, for `graph`
 #   status     the exit code
 #   out        standard output
@@ -16,6 +17,8 @@
 #   fronts     how many of the script's fronts are played, and the lines of the others by exit code
 #   cuts       of the capture's fronts of FIRST to LAST bytes, a line each: FIRST LAST CODE, and then the fault line, with {} for
 #              the bytes, or behind code 0 the playback as a WAVE file
+#   disk-cuts  the same of the fronts of the disk file d; behind code 0 stands how many blocks it has, which is {} in `out`, and
+#              then the playback
 #   faults     a line each: CODE FAULT: TEXT, of the script with TEXT behind it, in which \n and \r are bytes
 #   reports    a line each: CODE FAULT: TEXT, of TEXT as the report
 #
@@ -26,7 +29,7 @@
 # too, as its row says, and where that is a play to its end $TIMES times (1), and as often with workers that steal, as a script of
 # version 3. A run that does not end in 60 seconds is a fault.
 #
-# What a row says of a play that ends well is also what scripts/explained.py computes of its script and capture.
+# What a row says of a play that ends well is also what scripts/explained.py computes of its script, capture and disk files.
 set -u
 # shellcheck source=scripts/program.sh
 . "$(dirname "$0")/program.sh" python3
@@ -43,14 +46,20 @@ jackd, top, times = sys.argv[1], 'tests/rows', int(os.environ.get('TIMES', 1))
 threads, explained_once = 0, functools.lru_cache(None)(explained.explain)
 
 
-def with_threads(script, steals=False):
-    """The script with 1, 2 and 4 workers, if no lane has a call and no ring has fewer places than `run` cycles."""
+def with_threads(script, row, steals=False):
+    """The script with 1, 2 and 4 workers, if no lane has a call, no recorder's ring has fewer places than `run` cycles, and no disk's
+    player may miss a block in these: its ring holds all blocks of its file."""
     lines = [line.split() for line in script.splitlines()]
     first = [line[0] for line in lines if line]
     places = sum(int(line[1]) for line in lines if line[:1] == [b'ring'] and line[1:]) or 16
     cycles = sum(int(line[1]) for line in lines if line[:1] == [b'run'] and line[1:])
     if b'lane' in first or b'recorder' in first and cycles > places:
         return []
+    if b'disk' in first and cycles and int(row['status']) == 0:
+        period = next(int(line[1]) for line in lines if line[:1] == [b'period'])
+        frames = [len(explained.samples_of(held)[0]) for name, held in row.items() if re.fullmatch(r'd\d?', name)]
+        if b'\nunderrun ' in row['out'] or max(frames) > places * period:
+            return []
     if steals:
         script, versions = re.subn(rb'^jackd [123]$', b'jackd 3', script, count=1, flags=re.M)
         if not versions:
@@ -111,17 +120,19 @@ def faults_of_fronts(row, words, given):
 
 
 def faults_of_cuts(row, words, given):
-    """Fronts of a capture end with their fault line, and make no file, or are played."""
-    whole, lines, behind = given['c'], row['cuts'].decode().splitlines(), 0
+    """Fronts of a capture, or of a disk file, end with their fault line, and make no file, or are played."""
+    way, of = ('cuts', 'c') if 'cuts' in row else ('disk-cuts', 'd')
+    whole, lines, behind = given[of], row[way].decode().splitlines(), 0
     for line in lines:
         first, last, code, wanted = line.split(' ', 3)
+        blocks, wanted = wanted.split(' ', 1) if (of, code) == ('d', '0') else ('', wanted)
         if int(first) != behind:
             yield f'the cuts skip {behind} bytes'
         behind = int(last) + 1
         for kept in range(int(first), behind):
-            front = {**given, 'c': whole[:kept]}
+            front = {**given, of: whole[:kept]}
             status, out, files = play(words, front)
-            said = row['out'] if code == '0' else wanted.replace('{}', str(kept)).encode() + b'\n'
+            said = row['out'].replace(b'{}', blocks.encode()) if code == '0' else wanted.replace('{}', str(kept)).encode() + b'\n'
             if (str(status), out) != (code, said):
                 yield f'the first {kept} bytes: exit code {status}, {out[:200]}'
             made = {words.split()[3]: [wave_of(wanted)]} if code == '0' else {}
@@ -151,12 +162,19 @@ def faults_of_run(row, made, words, given):
         yield f'standard output is {out[-400:]}, not {row["out"][-400:]}'
     yield from faults_of_files(files, given, made)
     if status == 0 and words.startswith('play '):
-        found, computed = explained_once(given['s'].decode(), given['c'], row['out'].decode())
-        outputs = [files.get(name, b'') for name in words.split()[3:] if name != '--record']
+        words = words.split()
+        behind = lambda option: [os.path.normpath(name) for word, name in zip(words, words[1:]) if word == option]
+        found, computed = explained_once(given['s'].decode(), given['c'], row['out'].decode(), tuple(given[name] for name in behind('--disk')))
+        outputs = [files.get(name, b'') for name in [words[3], *behind('--record')]]
         yield from (f'computed: {fault}' for fault in [*found, *explained.differences(outputs, computed)])
 
 
-WAYS = {'fronts': faults_of_fronts, 'cuts': faults_of_cuts, 'faults': faults_of_texts, 'reports': faults_of_texts}
+WAYS = {'fronts': faults_of_fronts, 'cuts': faults_of_cuts, 'disk-cuts': faults_of_cuts, 'faults': faults_of_texts, 'reports': faults_of_texts}
+
+
+def is_given(name):
+    """Whether a row's file of this name is given to the program."""
+    return re.fullmatch(r'[co]|d\d?', name)
 
 
 def faults_of_row(folder):
@@ -166,7 +184,7 @@ def faults_of_row(folder):
         held, stem = read(f'{folder}/{name}'), name.split('.')[0]
         if re.fullmatch(r's(-\d+)?', stem):
             scripts.append(held)
-        elif stem in ('words', 'status', 'out', 'c', 'o', *WAYS):
+        elif stem in ('words', 'status', 'out', *WAYS) or is_given(stem):
             row[stem] = held
         else:
             made.setdefault(stem, []).append(held)
@@ -175,10 +193,10 @@ def faults_of_row(folder):
         plays = [words for words in row['words'].decode().splitlines() if words.startswith('play ')]
         is_played = int(row['status']) == 0
         ways = (False, True) if is_played else (False,)
-        others = [other for script in scripts for steals in ways for other in with_threads(script, steals) if plays] * (times if is_played else 1)
+        others = [other for script in scripts for steals in ways for other in with_threads(script, row, steals) if plays] * (times if is_played else 1)
         scripts, threads = scripts + others, threads + len(others)
     for script in scripts:
-        given = {'s': script, **{it: row[it] for it in ('c', 'o') if it in row}}
+        given = {'s': script, **{name: held for name, held in row.items() if is_given(name)}}
         for words in row['words'].decode().splitlines():
             runs += 1
             found = way(row, words, given) if way else faults_of_run(row, made, words, given)

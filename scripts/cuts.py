@@ -1,8 +1,9 @@
-"""The cuts of a row whose capture has a plain header of 44 bytes, as scripts/check-rows.sh takes them, by docs/FORMATS.md."""
+"""The cuts of a row whose capture or disk file has a plain header of 44 bytes, as scripts/check-rows.sh takes them, by docs/FORMATS.md."""
 
 
-def cuts(channels, bits, samples, period=64):
-    """Prints what the capture's fronts are: a fault within the header, and then as many whole frames as there are, heard in 32 bits in one period."""
+def cuts(channels, bits, samples, period=64, rate=48000, blocks=False):
+    """Prints what a file's fronts are: a fault within the header, and then as many whole frames as there are, heard in 32 bits in one
+    period. Of a disk file its blocks stand before them."""
     frame, count = channels * bits // 8, len(samples) // channels
     print('0 11 4 fault 4 wave Ends {}')
     print('12 19 4 fault 4 wave NoFormat')
@@ -12,4 +13,5 @@ def cuts(channels, bits, samples, period=64):
         first = 44 + frame * frames
         last = first + frame - 1 if frames < count else first
         heard = [sample * 2 ** (32 - bits) for sample in samples[:channels * frames]]
-        print(first, last, 0, 48000, channels, 32, *heard, f'0*{channels * (period - frames)}')
+        told = [min(frames, 1)] if blocks else []
+        print(first, last, 0, *told, rate, channels, 32, *heard, f'0*{channels * (period - frames)}')

@@ -1,13 +1,14 @@
 #!/usr/bin/env python3
 """Whether a report can be of its script, and what it and the files then hold, computed from docs/FORMATS.md alone.
 
-explained.py SCRIPT CAPTURE REPORT [PLAYBACK [RECORD]..]    tells what differs, and ends with 1 where anything does
-explained.py --tell SCRIPT CAPTURE REPORT                   prints the report anew, by its order, numbers and overruns alone
+explained.py SCRIPT CAPTURE REPORT [PLAYBACK [RECORD]..] [--disk DISK]..    tells what differs, and ends with 1 where anything does
+explained.py --tell SCRIPT CAPTURE REPORT [--disk DISK]..                   prints the report anew, by what it leaves open alone
 
-It is a second computation of all that `jackd play` does with a lawful script without disk files. A report leaves open only in
-which order the lanes' calls were answered, which number each cycle took, and which cycles were overruns; these are read off it
-and have to be ones that can be. All else (replies, moments, peaks, events, counts, every sample) is computed from them, so that
-two runs of a script with threads are each held against their own report. Of a script in serial mode the three are computed too.
+It is a second computation of all that `jackd play` does with a lawful script and its files. A report leaves open only in which
+order the lanes' calls were answered, which number each cycle took, and which cycles were overruns and underruns; these are read
+off it and have to be ones that can be. All else (replies, moments, peaks, events, counts, every sample) is computed from them,
+so that two runs of a script with threads are each held against their own report. Of a script in serial mode these are computed
+too.
 """
 import struct
 import sys
@@ -39,12 +40,12 @@ def event_of(digits):
 
 
 class Script:
-    """A lawful script without disk files."""
+    """A lawful script."""
 
     def __init__(self, text):
         rows = [line.split() for line in text.splitlines()]
         rows = [row for row in rows if row and not row[0].startswith('#')]
-        self.threads, self.ring, self.drain, self.recorders = False, 16, 4, []
+        self.threads, self.ring, self.drain, self.fill, self.recorders, self.disks = False, 16, 4, 4, [], []
         # The lists of events: of each event its frame and its bytes.
         self.events = [[] for _ in range(16)]
         # Phases: the calls of lane 0, and the segment behind them.
@@ -52,8 +53,8 @@ class Script:
         for place, (word, *rest) in enumerate(rows):
             if word == 'rate':
                 self.rate = int(rest[0])
-            elif word == 'period':
-                period = int(rest[0])
+            elif word == 'period' and not self.disks:
+                self.period = int(rest[0])
             elif word == 'capture':
                 self.capture = int(rest[0])
             elif word == 'playback':
@@ -64,19 +65,23 @@ class Script:
                 self.ring = int(rest[0])
             elif word == 'drain':
                 self.drain = int(rest[0])
+            elif word == 'fill':
+                self.fill = int(rest[0])
             elif word == 'recorder':
                 self.recorders.append((int(rest[0]), int(rest[1])))
+            elif word == 'disk':
+                self.disks.append(int(rest[0]))
             elif word == 'event':
                 self.events[int(rest[0])].append((int(rest[1]), event_of(rest[2])))
             elif word == 'do':
                 calls.append(rest)
             elif word in ('run', 'freewheel'):
-                self.phases.append((calls, Segment(word == 'freewheel', int(rest[0]), period, cycles + 1)))
+                self.phases.append((calls, Segment(word == 'freewheel', int(rest[0]), self.period, cycles + 1)))
                 calls, cycles = [], cycles + int(rest[0])
             elif word == 'lane':
                 self.phases[-1][1].lanes[int(rest[0])].append((int(rest[2]), rest[3:]))
-            elif word not in ('jackd', 'fill') or word == 'jackd' and place:
-                raise ValueError(f'no line of a script without disk files: {word}')
+            elif word != 'jackd' or place:
+                raise ValueError(f'no line of a lawful script in this place: {word}')
         self.phases.append((calls, Segment(first=cycles + 1)))
         self.cycles = cycles
 
@@ -154,7 +159,7 @@ class State:
         elif command == 'unregister':
             tests = [(first not in self.ports, 'NoPort'), (first.split(':')[0] == 'system', 'IsSystem')]
         elif command == 'open':
-            held = words[2] in ('record', 'guest') and any(words[2:] == client.kind for client in self.clients.values())
+            held = words[2] in ('record', 'guest', 'disk') and any(words[2:] == client.kind for client in self.clients.values())
             tests = [(first in self.clients, 'IsOpen'), (len(self.clients) > 64, 'ClientsFull'), (held, 'InUse')]
         else:
             client = self.clients.get(first.split(':')[0])
@@ -281,11 +286,11 @@ def first_memory(kind):
 
 
 def play(kind, memory, moment, period, inputs, outputs):
-    """What a client plays on so many outputs, and its memory behind it (sections 3 and 4)."""
+    """What a client plays on so many outputs, and its memory behind it (sections 3 and 4); the inputs of a disk's player are its block."""
     silence = [0] * period
     at = lambda j: inputs[j] if j < len(inputs) else silence
     name, numbers = kind[0], kind[1:]
-    if name == 'pass':
+    if name in ('pass', 'disk'):
         return [at(j) for j in range(outputs)], memory
     if name == 'gain':
         factor, shift = map(int, numbers)
@@ -408,14 +413,56 @@ class Tape:
         self.overruns.append((k, self.kept, taken))
 
 
-class Play:
-    """A report and files, from the order of the calls' lanes, the cycles' numbers, and the overruns' cycles by recorder.
+class Disk:
+    """A disk file's blocks and underruns; `missed` has the cycles of these, and is None where serial mode says them."""
 
-    Where one of the three is None it is that of serial mode. `faults` tells what can't be.
+    def __init__(self, script, disk, channels, missed):
+        if len(channels) != script.disks[disk]:
+            raise ValueError(f'disk file {disk} has {len(channels)} channels')
+        self.script, self.disk, self.channels, self.missed, self.underruns, self.faults = script, disk, channels, missed, [], []
+        self.blocks = -(-len(channels[0]) // script.period)
+        # In how many cycles the player was active and missed none, also past the end; the same before this segment; and how many
+        # blocks were put in serial mode.
+        self.got, self.begun, self.put = 0, 0, 0
+
+    def begin(self):
+        self.begun = self.got
+
+    def cycle(self, k, segment, is_active):
+        """What the player has in a cycle, or none where it has nothing: by channel its next block, zeros behind the end."""
+        got, ring = min(self.got, self.blocks), self.script.ring
+        self.put = min(self.blocks, got + ring, self.blocks if segment.freewheel else self.put + self.script.fill)
+        empty = self.put == got < self.blocks
+        misses = (empty if self.missed is None else k in self.missed) and is_active and not segment.freewheel
+        if self.missed is not None and k in self.missed:
+            self.look(k, misses)
+        if misses:
+            self.underruns.append((k, self.got))
+        if misses or not is_active:
+            return []
+        first, self.got = self.got * segment.period, self.got + 1
+        return [(channel[first:first + segment.period] + [0] * segment.period)[:segment.period] for channel in self.channels]
+
+    def look(self, k, misses):
+        """An underrun with threads comes behind what the ring held when its segment began, of a file that goes on there."""
+        held = self.begun + self.script.ring
+        if not misses:
+            self.faults.append(f'disk {self.disk} has an underrun in cycle {k}, which can have none')
+        elif not held <= self.got <= self.blocks or held == self.blocks:
+            self.faults.append(f'disk {self.disk} has an underrun in cycle {k} behind {self.got} of {self.blocks} blocks, and its ring held them up to {held}')
+
+
+class Play:
+    """A report and files, from the order of the calls' lanes, the cycles' numbers, and the cycles of overruns by recorder and of underruns by disk.
+
+    Where one of the four is None it is that of serial mode. `faults` tells what can't be.
     """
 
-    def __init__(self, script, capture, order=None, numbers=None, lost=None):
+    def __init__(self, script, capture, order=None, numbers=None, lost=None, missed=None, disks=()):
         self.script, self.faults = script, []
+        if len(disks) != len(script.disks):
+            raise ValueError(f'{len(disks)} disk files are given, of {len(script.disks)}')
+        self.disks = [Disk(script, d, channels, missed and missed[d]) for d, channels in enumerate(disks)]
         self.replies, self.graphs, self.accepted, self.meters, self.logs = [], [], [], [], []
         self.state = State(script)
         self.graphs.append(self.state.graph())
@@ -480,8 +527,8 @@ class Play:
         self.lines, self.heard = [], [[] for _ in range(script.playback)]
         self.tapes = [Tape(script, r, lost and lost[r]) for r in range(len(script.recorders))]
         for _, segment in script.phases:
-            for tape in self.tapes:
-                tape.begin()
+            for it in (*self.tapes, *self.disks):
+                it.begin()
             for k in range(segment.first, segment.first + segment.cycles):
                 number, period = self.numbers[k - 1], segment.period
                 graph, silence = self.graphs[number], [0] * period
@@ -505,9 +552,10 @@ class Play:
                     was_there = birth == graph.births[source] and past_period == period
                     return now[source] if not feedback else before if was_there else nothing
 
-                blocks = {}
+                blocks, played = {}, {kind[1] for _, kind, *_ in graph.order if kind[0] == 'disk'}
+                had = {str(d): disk.cycle(k, segment, str(d) in played) for d, disk in enumerate(self.disks)}
                 for birth, kind, inputs, outputs, midi_inputs, midi_outputs in graph.order:
-                    sounds = [heard(port) for port in inputs]
+                    sounds = had[kind[1]] if kind[0] == 'disk' else [heard(port) for port in inputs]
                     notes = [merged(carried(source, feedback, []) for source, feedback in graph.into.get(port, ())) for port in midi_inputs]
                     if kind[0] == 'record':
                         blocks[int(kind[1])] = sounds
@@ -524,7 +572,7 @@ class Play:
                     tape.cycle(k, segment, blocks.get(r))
         self.peaks = [(name, memories.get(birth, 0)) for name, birth in self.meters]
         self.logged = [(name, event) for name, birth in self.logs for event in memories.get(birth, ())]
-        self.faults += [fault for tape in self.tapes for fault in tape.faults]
+        self.faults += [fault for it in (*self.tapes, *self.disks) for fault in it.faults]
 
     # What is written.
 
@@ -534,6 +582,9 @@ class Play:
         for r, tape in enumerate(self.tapes):
             lines.append(f'recorder {r} {tape.kept} {len(tape.overruns)}')
             lines += [f'overrun {r} {k} {sent} {taken}' for k, sent, taken in tape.overruns]
+        for d, disk in enumerate(self.disks):
+            lines.append(f'disk {d} {min(disk.got, disk.blocks)} {len(disk.underruns)}')
+            lines += [f'underrun {d} {k} {got} {got}' for k, got in disk.underruns]
         return ''.join(f'{line}\n' for line in [*lines, 'end'])
 
     def files(self):
@@ -561,7 +612,7 @@ def samples_of(wave):
     at, data = 12, None
     while data is None:
         if at >= len(wave):
-            raise ValueError('the capture is no WAVE file')
+            raise ValueError('there is no WAVE file')
         name, size = wave[at:at + 4], int.from_bytes(wave[at + 4:at + 8], 'little')
         if name == b'fmt ':
             channels, bits = (int.from_bytes(wave[at + k:at + k + 2], 'little') for k in (10, 22))
@@ -577,25 +628,28 @@ def samples_of(wave):
     return [samples[channel::channels] for channel in range(channels)]
 
 
-def left_open(report, recorders):
-    """What a report leaves open: the lanes of its calls, the numbers of its cycles, and the overruns' cycles by recorder."""
+def left_open(script, report):
+    """What a report leaves open: the lanes of its calls, the numbers of its cycles, and the cycles of overruns by recorder and of underruns by disk."""
+    if not script.threads:
+        return ()
     rows = [line.split() for line in report.splitlines()]
-    lost = [[int(row[2]) for row in rows if row[:2] == ['overrun', str(r)]] for r in range(recorders)]
-    return [int(row[1]) for row in rows if row[:1] == ['call']], [int(row[2]) for row in rows if row[:1] == ['cycle']], lost
+    lost = [[int(row[2]) for row in rows if row[:2] == ['overrun', str(r)]] for r in range(len(script.recorders))]
+    missed = [[int(row[2]) for row in rows if row[:2] == ['underrun', str(d)]] for d in range(len(script.disks))]
+    return [int(row[1]) for row in rows if row[:1] == ['call']], [int(row[2]) for row in rows if row[:1] == ['cycle']], lost, missed
 
 
 def first_difference(one, other):
     return next((k for k, (a, b) in enumerate(zip(one, other)) if a != b), min(len(one), len(other)))
 
 
-def explain(script, capture, report):
-    """What is wrong with a report, a text each, and the files that it explains; the capture and the files are bytes."""
+def explain(script, capture, report, disks=()):
+    """What is wrong with a report, a text each, and the files that it explains; the capture, the disk files and these are bytes."""
     read = Script(script)
     try:
-        choices = left_open(report, len(read.recorders)) if read.threads else ()
+        choices = left_open(read, report)
     except (ValueError, IndexError):
         return ['the report has a line of no form'], []
-    made = Play(read, samples_of(capture), *choices)
+    made = Play(read, samples_of(capture), *choices, disks=[samples_of(disk) for disk in disks])
     if made.faults:
         return made.faults, []
     wanted, told = made.report().splitlines(keepends=True), report.splitlines(keepends=True)
@@ -604,9 +658,9 @@ def explain(script, capture, report):
     return found, made.files()
 
 
-def faults_of(script, capture, report, files=()):
-    """What is wrong with a report and with the files that are given, a text each."""
-    found, made = explain(script, capture, report)
+def faults_of(script, capture, report, files=(), disks=()):
+    """What is wrong with a report and with the files that are made, a text each."""
+    found, made = explain(script, capture, report, disks)
     return found + differences(files, made)
 
 
@@ -618,23 +672,26 @@ def differences(files, made):
 
 def main(words):
     tells = words[:1] == ['--tell']
-    if len(words) < 3 + tells:
+    words, disks = words[tells:], []
+    while words[-2:-1] == ['--disk']:
+        words, disks = words[:-2], [*words[-1:], *disks]
+    if len(words) < 3 or '--disk' in words:
         sys.exit(__doc__)
     held = []
-    for name in words[tells:]:
+    for name in [*words, *disks]:
         with open(name, 'rb') as it:
             held.append(it.read())
-    script, capture, report, *files = held
+    (script, capture, report, *files), disks = held[:len(words)], held[len(words):]
     script, report = script.decode('ascii', 'replace'), report.decode('ascii', 'replace')
     try:
         read = Script(script)
+        if tells:
+            made = Play(read, samples_of(capture), *left_open(read, report), disks=[samples_of(disk) for disk in disks])
+            sys.stdout.write(''.join(f'{fault}\n' for fault in made.faults) or made.report())
+            return bool(made.faults)
+        found = faults_of(script, capture, report, files, disks)
     except (ValueError, IndexError) as fault:
-        sys.exit(f'explained: the script is not lawful, or has disk files: {fault}')
-    if tells:
-        made = Play(read, samples_of(capture), *left_open(report, len(read.recorders)) if read.threads else ())
-        sys.stdout.write(''.join(f'{fault}\n' for fault in made.faults) or made.report())
-        return bool(made.faults)
-    found = faults_of(script, capture, report, files)
+        sys.exit(f'explained: the script is not lawful, or does not fit its files: {fault}')
     for fault in found:
         print(f'explained: {fault}')
     return bool(found)

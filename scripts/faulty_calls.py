@@ -3,8 +3,10 @@
 
 faulty_calls.py JACKD SECONDS SEED    tells how many runs, of which calls and errors, and what failed; 1 where anything did
 
-Five bases: a play in serial mode, one with threads, two recorders and a lane, one of events with workers that steal and share
-cycles, a check of the second, and a graph of it. Each is deterministic: no call of a lane stands between cycles. Of each one
+Seven bases: a play in serial mode, one with threads, two recorders and a lane, one of events with workers that steal and share
+cycles, one of two disk files in serial mode and one with threads, a check of the second, and a graph of it. Each is deterministic: no
+call of a lane stands between cycles, and no ring of a recorder or a disk file has fewer places than there are cycles with threads.
+Of each one
 
     with strace      every call that it makes behind its start (opening, reading, writing, seeking, cutting, syncing, closing, locking and
                      asking for files; asking for memory and giving it back; starting a thread, and waiting) fails once, with one error
@@ -73,8 +75,8 @@ STRANGER = b'another program keeps this\n'
 
 def script(mode, *rest, version=1, period=64, recorders=1, cycles=40):
     header = [f'jackd {version}', 'rate 48000', f'period {period}', 'capture 1', 'playback 2 16', f'mode {mode}', 'ring 64', *['recorder 1 16'] * recorders]
-    events = [line for line in rest if line.startswith('event ')]
-    lines = [*header, *events, 'do open a delay 5', 'do register a:i in audio', 'do register a:o out audio', 'do activate a', 'do connect system:capture_1 a:i', 'do connect a:o system:playback_1']
+    more = [line for line in rest if line.startswith(('disk ', 'event '))]
+    lines = [*header, *more, 'do open a delay 5', 'do register a:i in audio', 'do register a:o out audio', 'do activate a', 'do connect system:capture_1 a:i', 'do connect a:o system:playback_1']
     for k in range(recorders):
         lines += [f'do open t{k} record {k}', f'do register t{k}:i in audio', f'do activate t{k}', f'do connect a:o t{k}:i']
     lines += [line for line in rest if line.startswith('do ')]
@@ -102,9 +104,30 @@ def events(size):
     return script('steal 2', *calls, *(f'event 0 {40 * n} 90{n % 128:02x}40' for n in range(30)), version=3, period=4096, cycles=2 if size < 60 else 9)
 
 
-def capture_of(text):
+def tracks(mode, cycles):
+    """A file of one channel and one of two, played beside the capture and into the record."""
+    calls = [f'do {call}' for disk, ports in ((0, '1'), (1, '12'))
+        for call in (f'open d{disk} disk {disk}', *(f'register d{disk}:{port} out audio' for port in ports), f'activate d{disk}')]
+    edges = ('d0:1 system:playback_1', 'd1:1 system:playback_1', 'd1:2 system:playback_2', 'd0:1 t0:i')
+    return script(mode, 'disk 1', 'disk 2', *calls, *(f'do connect {edge}' for edge in edges), version=3, cycles=cycles)
+
+
+def disks(size):
+    return tracks('serial', size)
+
+
+def readers(size):
+    """No more blocks than a ring has places, so that each is there before the cycles."""
+    return tracks('threads 2', min(size, 60))
+
+
+PLAYS = (serial, threads, events, disks, readers)
+
+
+def file_of(text, step=7919, channels=1):
+    """A file as long as the session."""
     period, cycles = (int(re.search(rb'(?m)^%s (\d+)$' % word, text)[1]) for word in (b'period', b'run'))
-    return explained.wave_of(48000, 1, 16, [(n * 7919 % 65536 - 32768) * 65536 for n in range(period * cycles)])
+    return explained.wave_of(48000, channels, 16, [(n * step % 65536 - 32768) * 65536 for n in range(channels * period * cycles)])
 
 
 class Base:
@@ -154,13 +177,16 @@ class Bench:
         return ran.returncode, out or b'', told
 
     def bases(self, size):
-        """The five, each played or made once."""
+        """The seven, each played or made once."""
         found = []
-        for session in (serial, threads, events):
+        for session in PLAYS:
             text = session(size)
-            given = {f'{session.__name__}.s': text, f'{session.__name__}.c': capture_of(text)}
+            given = {f'{session.__name__}.s': text, f'{session.__name__}.c': file_of(text)}
             names = [f'{session.__name__}.p', *(f'{session.__name__}.r{k}' for k in range(text.count(b'\nrecorder ')))]
             words = ['play', *given, names[0], *(word for name in names[1:] for word in ('--record', name))]
+            for k, channels in enumerate(re.findall(rb'\ndisk (\d)', text)):
+                given[f'{session.__name__}.d{k}'] = file_of(text, 104729 + k, int(channels))
+                words += ['--disk', f'{session.__name__}.d{k}']
             found.append(self.begun(Base(session.__name__, words, given, dict.fromkeys(names, b''))))
         played = found[1]
         given = {**played.given, 'threads.o': played.out, **played.made}
@@ -387,7 +413,7 @@ class Bench:
 
     def kills(self, chance, count):
         """Plays that are killed at any time."""
-        for base in self.bases(3000)[:3]:
+        for base in self.bases(3000)[:len(PLAYS)]:
             began = time.monotonic()
             self.lay(base, False)
             self.run(base.words)
@@ -445,7 +471,7 @@ def main(jackd, seconds, seed):
     bases = bench.bases(12)
     library, strace = library_in(tools), traces(tools)
     share = seconds / 4 if strace else seconds
-    bench.file_sizes(bases[:3], chance, began + share)
+    bench.file_sizes(bases[:len(PLAYS)], chance, began + share)
     bench.open_files(bases)
     bench.pipes(bases, chance)
     bench.kills(chance, 5 if seconds < 60 else 100)

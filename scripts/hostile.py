@@ -5,7 +5,7 @@ hostile.py JACKD SECONDS SEED [CASES]    tells how many, which classes of answer
 hostile.py JACKD --one SEED NUMBER       leaves the files of one case in a folder, and tells its words and its answer
 
 A case is a base, with one to four changes of one of its files, or of its words. The bases are the sessions of examples/, of
-tests/rows and of tests/verdicts, and some of scripts/sessions.py. The case of a number depends on the seed and the number alone.
+tests/rows and of tests/verdicts, and some of scripts/sessions.py, those with disk files too. The case of a number depends on the seed and the number alone.
 The first cases are the bases as they are, and then those by which every class of answers is reached, whatever chance does.
 
 Of each run is asked:
@@ -16,8 +16,9 @@ Of each run is asked:
                  take ten times as much: on a busy machine a thread that waits for another asks for the processor in vain
     its memory   it gets so much address space and no more: 256 MB, and 2,048 MB where it has threads
     its answer   standard output is what that exit code has by docs/FORMATS.md, section 9, and standard error tells a reason
-    the files    script, capture, report and checked files keep their bytes, and no other file is made
-    the play     of a play that ends well `check` says `check ok`, and every 20th is held against scripts/explained.py
+    the files    script, capture, disk files, report and checked files keep their bytes, and no other file is made
+    the play     of a play that ends well `check` says `check ok`, but of one with disk files, which a check refuses; every 20th is held
+                 against scripts/explained.py, and every second one with disk files
 """
 import collections
 import glob
@@ -49,12 +50,13 @@ WAVES = ['NotRiff', 'NotWave', 'NoFormat', 'NoData', 'Ends', 'TooManyChunks', *(
 PARTS = 'report call cycle meter midi recorder overrun record playback'.split()
 
 # All classes of answers of docs/FORMATS.md: sections 1, 7, 2, 9, 11 and 12. Of section 7 the cause Read is answered as code 3, and of
-# sections 7, 9 and 12 what is of disk files is not answered yet.
+# section 12 what a check says of disk files is left out, since it refuses their scripts.
 CLASSES = {
     'causes of a script': [f'script {name}' for name in CAUSES],
     'causes of a capture': [f'wave {name}' for name in WAVES],
+    'causes of a disk file': [f'disk wave {name}' for name in WAVES],
     'refusals of a call': [f'refused {number} {name}' for number, name in enumerate(explained.NAMES, 1)],
-    'differences': [f'differs {name}' for name in 'Guests Records Disks Rate Channels'.split()],
+    'differences': [f'differs {name}' for name in 'Guests Records Disks Rate Channels DiskRate DiskChannels'.split()],
     'wrong parts of a check': [f'check {part}' for part in PARTS],
     'wrong parts of a graph': [f'graph {part}' for part in ('report', 'call', 'cycle')],
     'exit codes': [f'code {code}' for code in (0, 2, 3, 4, 5, 6, 7, 8, 9)],
@@ -71,15 +73,16 @@ FAULT_LINES = {
 
 
 class Base:
-    """A session in a folder: its script `s`, capture `c`, report `o`, and the files `p`, `r0` .. of its play, where it has one."""
+    """A session in a folder: its script `s`, capture `c`, disk files `d0` .., report `o`, and the files `p`, `r0` .. of its play, where it has one."""
 
-    def __init__(self, name, script, capture, report=None, files=()):
+    def __init__(self, name, script, capture, disks=(), report=None, files=()):
         self.name, self.script, self.capture, self.report, self.files = name, script, capture, report, list(files)
+        self.disks = {f'd{k}': held for k, held in enumerate(disks)}
         self.records = sum(line.split()[:1] == [b'recorder'] for line in script.splitlines())
         self.cycles = cycles_of(script)[0]
 
     def held(self):
-        held = {'s': self.script, 'c': self.capture, 'o': self.report or b'report 1\nend\n'}
+        held = {'s': self.script, 'c': self.capture, 'o': self.report or b'report 1\nend\n', **self.disks}
         return {**held, **dict(zip(['p', *(f'r{k}' for k in range(4))], self.files or [self.capture]))}
 
 
@@ -225,7 +228,8 @@ class Case:
 def words_of(command, base, cycle=1):
     records = [word for k in range(base.records) for word in ('--record', f'r{k}')]
     if command == 'play':
-        return ['play', '--no-sync', 's', 'c', 'made-p', *(f'made-{word}' if word.startswith('r') else word for word in records)]
+        disks = [word for name in base.disks for word in ('--disk', name)]
+        return ['play', '--no-sync', 's', 'c', 'made-p', *(f'made-{word}' if word.startswith('r') else word for word in records), *disks]
     if command == 'graph':
         return ['graph', 's', 'o', str(cycle)]
     return ['check', 's', 'c', 'o', 'p', *records]
@@ -237,7 +241,9 @@ def drawn(chance, bases):
     changes, target = chance.choice([1, 1, 1, 2, 4]), chance.choices(['s', 'c', 'o', 'file', 'words'], [45, 20, 25, 5, 5])[0]
     if target in ('o', 'file') and not base.report:
         target = 's'
-    command = chance.choice({'s': ['play', 'play', 'play', 'check', 'graph'], 'c': ['play', 'play', 'check'], 'o': ['check', 'check', 'graph'], 'file': ['check']}.get(target, ['play', 'graph', 'check']))
+    if base.disks and target in ('c', 'o', 'file'):
+        target = chance.choice(list(base.disks))
+    command = chance.choice({'s': ['play', 'play', 'play', 'check', 'graph'], 'c': ['play', 'play', 'check'], 'o': ['check', 'check', 'graph'], 'file': ['check'], 'words': ['play', 'graph', 'check']}.get(target, ['play']))
     words = words_of(command, base, chance.randrange(1, max(1, base.cycles) + 1))
     if target == 'words':
         return Case(base, changed_words(chance, words, base), {})
@@ -289,6 +295,7 @@ def shown(bases):
     for kept in (0, 20, 40):
         yield Case(first, play, {'c': capture[:kept]})
     yield Case(first, play, {'c': capture[:12] + capture[36:]})
+    yield from shown_of_disks(next(base for base in bases if base.report and base.disks))
     lines = first.report.split(b'\n')
     at = next(at for at, line in enumerate(lines) if line.startswith(b'cycle '))
     for other in (b'report 2', b'end', b''):
@@ -306,6 +313,29 @@ def shown(bases):
     yield Case(first, play, {'s': script.rstrip() + b'\ndo open g99 guest 255\n'})
     yield Case(first, play, {'s': script.replace(b'rate ', b'rate 1', 1) if script.split(b'rate ')[1][:1] != b'1' else script.replace(b'rate 1', b'rate ', 1)})
     yield Case(first, play, {'s': re.sub(rb'(?m)^capture (\d)', lambda found: b'capture %d' % (int(found[1]) % 8 + 1), script, count=1)})
+
+
+def shown_of_disks(base):
+    """The same for what is wrong with a disk file: cases of its header, of its chunks, and of its rate and channels."""
+    name, disk = next(iter(base.disks.items()))
+    for at, there in [*HEADERS, (24, b'\1\0\0\0'), (22, bytes([disk[22] + 1]))]:
+        yield case_of_disk(base, name, disk[:at] + there + disk[at + len(there):])
+    channels = disk[22] % 8 + 1
+    yield case_of_disk(base, name, disk[:22] + bytes([channels, 0]) + disk[24:32] + (channels * disk[34] // 8).to_bytes(2, 'little') + disk[34:])
+    for count in (4095, 4096):
+        yield case_of_disk(base, name, disk[:12] + (b'junk' + bytes(4)) * count + disk[12:])
+    for kept in (0, 20, 40, len(disk) - 1):
+        yield case_of_disk(base, name, disk[:kept])
+    yield case_of_disk(base, name, disk[:12] + disk[36:])
+    for size in (14, 16, 17, 18, 40, 2**32 - 1):
+        for extra in (0, 10, 22):
+            for tag in (1, 3):
+                rest = extra.to_bytes(2, 'little') + disk[34:36] + bytes(4) + tag.to_bytes(2, 'little') + bytes.fromhex('000000001000800000aa00389b71')
+                yield case_of_disk(base, name, disk[:16] + size.to_bytes(4, 'little') + b'\xfe\xff' + disk[22:36] + rest + disk[36:])
+
+
+def case_of_disk(base, name, held):
+    return Case(base, words_of('play', base), {name: held})
 
 
 # Runs.
@@ -423,7 +453,7 @@ class Room:
             if not found:
                 yield f'exit code {code} with standard output {out[:100]!r}'
             elif code in (4, 7):
-                self.reached[found[1].decode()] += 1
+                self.reached[('disk ' if code == 4 and set(case.changed) & set(case.base.disks) else '') + found[1].decode()] += 1
             elif code == 5:
                 self.reached[f'script {found[3].decode()}'] += 1
             elif code == 8:
@@ -454,16 +484,18 @@ class Room:
         made = [name for name in made if name in case.words and os.path.exists(name)]
         if made[:1] != ['made-p']:
             return
-        self.checked += 1
-        answer = self.run(['check', 's', 'c', 'made-o', 'made-p', *(word for name in made[1:] for word in ('--record', name))], SPACE_OF_THREADS)
-        if answer[:2] != (0, b'check ok\n'):
-            yield f'check of the play: {answer[:3]}'
+        disks = [whole(name) for word, name in zip(case.words, case.words[1:]) if word == '--disk']
+        if not disks:
+            self.checked += 1
+            answer = self.run(['check', 's', 'c', 'made-o', 'made-p', *(word for name in made[1:] for word in ('--record', name))], SPACE_OF_THREADS)
+            if answer[:2] != (0, b'check ok\n'):
+                yield f'check of the play: {answer[:3]}'
         # Which of two formats counts, docs/FORMATS.md does not say.
-        if number % 20 == 0 and cycles_of(held['s'])[1] < 20000 and held['c'].count(b'fmt ') == 1:
+        if number % (2 if disks else 20) == 0 and cycles_of(held['s'])[1] < 20000 and all(it.count(b'fmt ') == 1 for it in [held['c'], *disks]):
             self.explained += 1
             files = [whole(name) for name in made]
             try:
-                found = explained.faults_of(held['s'].decode('latin-1').replace('\x85', '?'), held['c'], report.decode(), files)
+                found = explained.faults_of(held['s'].decode('latin-1').replace('\x85', '?'), held['c'], report.decode(), files, disks)
             except (ArithmeticError, LookupError, ValueError) as fault:
                 found = [f'explained.py: {fault!r}']
             yield from found[:2]
@@ -489,39 +521,42 @@ def same(name, held):
 # Bases.
 
 def texts(top):
-    """Scripts and captures, with their names, of examples/, tests/verdicts and tests/rows, and drawn ones."""
+    """Scripts, captures and lists of disk files, with their names, of examples/, tests/verdicts and tests/rows, and drawn ones."""
     subprocess.run([sys.executable, '-B', 'examples/captures.py', top], check=True)
     for script in sorted(glob.glob('examples/*.session')):
         name = os.path.basename(script).removesuffix('.session')
-        yield name, read(script), read(f'{top}/{name}.capture.wav')
+        yield name, read(script), read(f'{top}/{name}.capture.wav'), [read(disk) for disk in sorted(glob.glob(f'{top}/{name}.disk?.wav'))]
     for folder, _ in all_in('tests/verdicts'):
-        yield os.path.basename(folder), read(f'{folder}/s'), read(f'{folder}/c.wave')
+        yield os.path.basename(folder), read(f'{folder}/s'), read(f'{folder}/c.wave'), []
     for row in sorted(os.listdir('tests/rows')):
         files = {name.split('.')[0]: f'tests/rows/{row}/{name}' for name in os.listdir(f'tests/rows/{row}')}
         for script in ('s', 's-1'):
             if script in files and 'c' in files:
-                yield row, read(files[script]), read(files['c'])
-    for seed in range(12):
+                words = read(files['words']).decode().splitlines()[0].split()
+                disks = [os.path.normpath(name) for word, name in zip(words, words[1:]) if word == '--disk']
+                yield row, read(files[script]), read(files['c']), [read(files[name]) if name in files else b'' for name in disks]
+    for seed in range(16):
         chance = random.Random(seed)
-        session, channels = [(sessions.commands, 2), (sessions.eventful, 2), (sessions.connections, 1)][seed % 3]
+        session, channels = [(sessions.commands, 2), (sessions.eventful, 2), (sessions.connections, 1), (sessions.tracks, 2)][seed % 4]
         lines = session(chance, sessions.MODES[seed * 2 % 9])
-        yield f'drawn {seed}', ''.join(f'{line}\n' for line in lines).encode(), sessions.wave(chance, channels, 300)
+        capture = sessions.wave(chance, channels, 300)
+        yield f'drawn {seed}', ''.join(f'{line}\n' for line in lines).encode(), capture, sessions.disk_files(chance, lines)
 
 
 def bases_of(room):
     """The bases, each played once where it can be."""
     bases = []
     with tempfile.TemporaryDirectory() as top:
-        for name, script, capture in list(texts(top)):
-            base = Base(name, script, capture)
+        for name, script, capture, disks in list(texts(top)):
+            base = Base(name, script, capture, disks)
             # Short ones alone, whatever the machine does: so a seed has the same bases each time.
-            if len(script) > 60000 or len(capture) > 300000 or base.cycles > 5000 or cycles_of(script)[1] > 100000:
+            if len(script) > 60000 or max(map(len, [capture, *disks])) > 300000 or base.cycles > 5000 or cycles_of(script)[1] > 100000:
                 continue
             room.enter(base)
             code, report, *_ = room.run(words_of('play', base), SPACE_OF_THREADS)
             if code == 0 and len(report) < 200000:
                 files = [whole(f'made-{name}') for name in ['p', *(f'r{k}' for k in range(base.records))]]
-                base = Base(name, script, capture, report, files)
+                base = Base(name, script, capture, disks, report, files)
             bases.append(base)
             room.base = None
     return bases

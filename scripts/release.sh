@@ -33,7 +33,7 @@ umask 022
 name=sagbufe-$version-x86_64-linux
 tree=$room/$name
 mkdir "$tree"
-git archive "$commit" LICENSE complete docs/FORMATS.md docs/GLOSSARY.md docs/TUTORIAL.md docs/graph.svg docs/jackd.1 examples \
+git archive "$commit" LICENSE complete docs/FORMATS.md docs/GLOSSARY.md docs/TUTORIAL.md 'docs/*.svg' docs/jackd.1 examples \
   scripts/explained.py scripts/install.sh scripts/rehearsal.py | tar -x -C "$tree"
 install -m 755 "$program" "$tree/jackd"
 cat > "$tree/PROOF" <<END

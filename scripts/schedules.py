@@ -3,11 +3,12 @@
 
 schedules.py JACKD SECONDS SEED    tells how many plays, how they differ, how long lanes waited, and what failed; 1 where anything did
 
-The sessions are those of scripts/sessions.py: of all three versions, with lanes and two recorders, with 1 to 16 workers and with 1 to 8
-that steal. Each is played twice in a row, on one, two or four processors in turn. A third of them has as many busy loops beside it as
+The sessions are those of scripts/sessions.py: of all three versions, with lanes and two recorders, some with one to four disk files,
+with 1 to 16 workers and with 1 to 8 that steal. Each is played twice in a row, on one, two or four processors in turn. A third of them has as many busy loops beside it as
 it has processors, and another third is stopped and goes on every few milliseconds. Asked is that each play ends within 100 seconds with
-code 0, that `check` says `check ok`, and that scripts/explained.py, which knows nothing of the program, finds report and files
-explained; where both plays left the same, once. Every sixth session is a script with forty calls on four lanes.
+code 0, that `check` says `check ok`, but of a session with disk files, which a check refuses, and that scripts/explained.py, which
+knows nothing of the program, finds report and files explained; where both plays left the same, once. Every seventh session is a script
+with forty calls on four lanes, and every seventh has disk files.
 
 A lane waits where a call of it is due, and cycles go on without it: between the cycle that it asks for and the one that has its change,
 how many cycles were begun. What is told is of all accepted calls of lanes that change something: the cycle behind the one that is asked
@@ -48,7 +49,7 @@ class Yard:
     def __init__(self, jackd):
         self.jackd, self.folder = jackd, room_in_memory()
         self.faults, self.plays, self.explained, self.differ, self.pairs = [], collections.Counter(), 0, collections.Counter(), collections.Counter()
-        self.waits, self.never, self.longest, self.slowest, self.lost = collections.Counter(), 0, (0, ''), 0.0, 0
+        self.waits, self.never, self.longest, self.slowest, self.lost, self.missed = collections.Counter(), 0, (0, ''), 0.0, 0, 0
         self.processors = sorted(os.sched_getaffinity(0))
 
     def put(self, name, held):
@@ -96,29 +97,34 @@ class Yard:
                     ran.send_signal(it)
                 time.sleep(0.002 + random.random() * 0.003)
 
-    def play(self, what, lines, capture, processors, disturbed):
+    def play(self, what, lines, capture, disks, processors, disturbed):
         """Plays a session twice; each play has to be explained."""
         script = ''.join(f'{line}\n' for line in lines)
         self.put('s', script.encode())
         self.put('c', capture)
         names = ['p', *(f'r{k}' for k in range(sum(line.startswith('recorder ') for line in lines)))]
         outputs = ['p', *(word for name in names[1:] for word in ('--record', name))]
+        for k, held in enumerate(disks):
+            self.put(f'd{k}', held)
+        tracks = [word for k in range(len(disks)) for word in ('--disk', f'd{k}')]
         seen = []
         for turn in range(2):
-            code, report, told = self.ended(['play', '--no-sync', 's', 'c', *outputs], processors, disturbed)
+            code, report, told = self.ended(['play', '--no-sync', 's', 'c', *outputs, *tracks], processors, disturbed)
             self.plays[f'{disturbed}, {len(processors)}'] += 1
             if code != 0:
                 self.faults.append(f'{what}: ' + ('no end in 100 seconds' if code is None else f'exit code {code}: {told[-200:]!r}'))
                 continue
             files = [self.held(name) for name in names]
-            self.put('o', report)
-            answer = subprocess.run([self.jackd, 'check', 's', 'c', 'o', *outputs], cwd=self.folder, capture_output=True, timeout=100).stdout
-            if answer != b'check ok\n':
-                self.faults.append(f'{what}: check: {answer}')
+            if not disks:
+                self.put('o', report)
+                answer = subprocess.run([self.jackd, 'check', 's', 'c', 'o', *outputs], cwd=self.folder, capture_output=True, timeout=100).stdout
+                if answer != b'check ok\n':
+                    self.faults.append(f'{what}: check: {answer}')
             self.lost += b'\noverrun ' in report
+            self.missed += b'\nunderrun ' in report
             if (report, files) not in seen:
                 self.explained += 1
-                self.faults += [f'{what}: {fault}' for fault in explained.faults_of(script, capture, report.decode(), files)[:3]]
+                self.faults += [f'{what}: {fault}' for fault in explained.faults_of(script, capture, report.decode(), files, disks)[:3]]
                 seen.append((report, files))
             self.wait(what, explained.Script(script), report.decode())
         beside = any(line.startswith('lane ') for line in lines)
@@ -166,22 +172,23 @@ def main(jackd, seconds, seed):
     number = 0
     while time.monotonic() - began < seconds and len(yard.faults) < 20:
         chance = random.Random(f'{seed} {number}')
-        mode, count = MODES[number // 6 % len(MODES)], (1, 2, 4)[number % 3]
-        session, channels = [*sessions.KINDS_OF_SESSIONS, (sessions.eventful, 2), (forty_calls, 2)][number % 6]
+        mode, count = MODES[number // 7 % len(MODES)], (1, 2, 4)[number % 3]
+        session, channels = [*sessions.KINDS_OF_SESSIONS, (sessions.eventful, 2), (forty_calls, 2), (sessions.tracks, 2)][number % 7]
         if session is sessions.shared and number % 4:
             session = sessions.connections
         processors = set(yard.processors[:count])
         disturbed = DISTURBED[number // 3 % 3]
         capture = sessions.wave(chance, channels, chance.choice([0, 500, 1500]))
         what = f'seed {seed}, session {number} ({session.__name__}, {mode}, {len(processors)} processors, {disturbed})'
-        yard.play(what, session(chance, mode), capture, processors, disturbed)
+        lines = session(chance, mode)
+        yard.play(what, lines, capture, sessions.disk_files(chance, lines), processors, disturbed)
         number += 1
     for fault in yard.faults[:20]:
         print('soak: schedules:', fault[:600])
     plays = ', '.join(f'{sum(count for name, count in yard.plays.items() if name.startswith(it))} {it}' for it in DISTURBED)
     print(f'soak: schedules: seed {seed}, {number} sessions played twice, in {time.monotonic() - began:.0f} s: {plays}; on ' + ', '.join(f'{k} processor{"s" * (k > 1)} '
           f'{sum(count for name, count in yard.plays.items() if name.endswith(f", {k}"))}' for k in (1, 2, 4)) + f'; {yard.explained} explained, all others the same; the longest took {yard.slowest:.1f} s; {len(yard.faults)} failures')
-    print(f'soak: schedules: {yard.differ[True]} of {yard.pairs[True]} sessions with calls beside cycles gave another report the second time, {yard.differ[False]} of {yard.pairs[False]} without; {yard.lost} plays lost a block')
+    print(f'soak: schedules: {yard.differ[True]} of {yard.pairs[True]} sessions with calls beside cycles gave another report the second time, {yard.differ[False]} of {yard.pairs[False]} without; {yard.lost} plays lost a block, {yard.missed} missed one of a disk file')
     waited = sum(yard.waits.values())
     print(f'soak: schedules: {waited} calls of lanes waited for their cycle: half of them at most {share(yard.waits, 0.5)} cycles, 99 of 100 at most {share(yard.waits, 0.99)}, the longest {yard.longest[0]}'
           f' ({yard.longest[1]}); {yard.never} more were in no cycle of their segment')

@@ -117,6 +117,27 @@ def eventful(chance, mode):
     return [*heading(chance, 3, mode), *events_of(chance), *clients(chance, kinds, '0123'), *edges, 'do start', *segments(chance, KINDS + MIDI_KINDS, '0123')]
 
 
+def tracks(chance, mode):
+    """As the second, in version 3: players of one to four disk files, which are heard; the reader puts no block in some."""
+    disks = [chance.randrange(1, 4) for _ in range(chance.randrange(1, 5))]
+    players = [f'disk {disk}' for disk in range(len(disks))]
+    lines = head(3, 8, 2, chance.choice([8, 16, 24, 32]), mode, f'ring {chance.randrange(1, 9)}', f'fill {chance.choice([0, 0, 1, 2, 4])}',
+        'recorder 2 16', 'recorder 1 24', *(f'disk {channels}' for channels in disks))
+    kinds = [*players, *chance.choices(KINDS + players, k=10 - len(players))]
+    edges = [f'do connect c{k}:o{chance.randrange(2)} system:playback_{chance.randrange(1, 3)}' for k in range(len(players))]
+    body = [*clients(chance, kinds, '01'), *edges, *segments(chance, [*KINDS, *players])]
+    return [*lines, *(line for line in body if not line.startswith('period '))]
+
+
+def disk_files(chance, lines):
+    """A file for each disk of a script."""
+    files = []
+    for channels in (int(line.split()[1]) for line in lines if line.startswith('disk ')):
+        samples = [chance.randrange(-9999, 9999) * 65536 for _ in range(channels * chance.choice([0, 1, 8, 60, 200, 500, 2000]))]
+        files.append(explained.wave_of(8000, channels, chance.choice([8, 16, 24, 32]), samples))
+    return files
+
+
 def chains(mode, cycles=3):
     """Chains of gains, opened one after the other, in which each client hears all before it; a recorder, and events."""
     lines = head(3, 4096, 1, 24, mode, 'recorder 1 24', *(f'event 0 {100 * n} 90{n:02x}40' for n in range(120)))

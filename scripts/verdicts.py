@@ -158,6 +158,8 @@ class Checker:
 
     def __init__(self, script, capture):
         self.script, self.capture = explained.Script(script), explained.samples_of(capture)
+        if self.script.disks:
+            raise ValueError('it has disk files')
         # Each lane's calls, with their stages and the cycles that they ask for; and of each cycle its segment and phase.
         self.planned, self.turns, self.phase_of = {lane: [] for lane in range(5)}, [], []
         for phase, (calls, segment) in enumerate(self.script.phases):

@@ -6,6 +6,7 @@ use Rattle.std.proofs.Common.{◌≡◌, ◌≢◌, ◌∙◌, ◌⊎◌, ℕ, L
 use Rattle.std.specs.Prelude.{⊤, Option}
 use Rattle.check_sights.specs.declared.sights.Sight.{Sight}
 use Rattle.jack_types.specs.declared.replies.Row.{Row}
+use Rattle.jack_types.specs.declared.scripts.ScriptFault.{ScriptFault}
 use Rattle.jack_host.specs.Bytes.{Gains}
 use Rattle.check_model.specs.Checking.{IsFirstWrong}
 use Rattle.session_model.specs.Explanations.{Explained, Given, Printed, Written}
@@ -18,14 +19,15 @@ use Rattle.play_words.specs.Words.{Play}
 use Rattle.play_inputs.specs.declared.status.Status.{Status}
 use Rattle.play_inputs.specs.declared.status.Status.TheVariants.{Ok, NoMemory, Words, ReadFault, BadWave, BadScript, WriteFault, Differs, Wrong}
 use Rattle.play_inputs.specs.Answers.{HasLine, HasOwnFault, HasRefusal, IfInput, IsDoneOrNoMemory, LacksInput, PlayStatus}
-use Rattle.play_inputs.specs.Inputs.{Files}
-use Rattle.play_inputs.specs.Openings.{OpeningStatus}
+use Rattle.play_inputs.specs.Inputs.{Files, IfBytes}
 use Rattle.play_inputs.proofs.ExactLemmas.{complete-err, exact-err, input-fits, refused-fits}
-use Rattle.check_command.specs.Answers.{CheckStatus, IsDecided, IsVerdictCut, IsWrongAt, PutsVerdict}
+use Rattle.check_command.specs.Answers.{CheckStatus, HasCheckRefusal, IsDecided, IsVerdictCut, IsWrongAt, PutsVerdict}
 use Rattle.check_command.specs.Cases.{HasCase, IfCase, IsCase, LacksCase, LacksOne, OfCase, checked_names}
 use Rattle.check_command.specs.Lines.{IsExplained, IsVerdictLine}
+use Rattle.check_command.specs.Scripts.{CheckOpening, IsRefusedScript, IsUndecided, IsWithoutDisks, LacksPlay}
 use Rattle.check_command.specs.Verdicts.{IsVerdict, line_of, status_of}
-use Rattle.check_command.proofs.CaseLemmas.{case-map, case-of, has-case, input-of, there-none}
+use Rattle.check_command.proofs.CaseLemmas.{case-map, case-of, case-without, has-case, input-of, there-none}
+use Rattle.check_command.proofs.ScriptLemmas.{undecided-or, undecided-same, without-good}
 
 -- ---- a verdict was put
 
@@ -139,18 +141,19 @@ module _ (scores : List Sound) (check : Check) where
       → OfCase files scores check (λ given written. IsExplained given written → ¬ read → ¬ rose → IsDoneOrNoMemory result)
   put-decides None verdict result same rose read law told put = tt
   put-decides (Some files) verdict result same rose read law told put = λ given written is explained no_read no_put.
-      done given written is.input.script.spelled.1 law verdict result same rose put no_put (case-of files scores check (IsVerdict verdict) told given written is) explained
+      done given written is.input.script.1 law verdict result same rose put no_put (case-of files scores check (IsVerdict verdict) told given written is) explained
 
   pub put-names : (files : Option Files) (verdict : Verdict) (result : Status) (same rose read : Type 0) → Unexplained → OneWrong → IfCase files scores check (IsVerdict verdict) → IsPut verdict result same rose
       → OfCase files scores check (λ given written. (row : Row) → IsFirstWrong given written row → ¬ read → ¬ rose → IsWrongAt row result ⊎ (result ≡ NoMemory))
   put-names None verdict result same rose read law one told put = tt
   put-names (Some files) verdict result same rose read law one told put = λ given written is row first no_read no_put.
-      named given written is.input.script.spelled.1 law one verdict result same rose put no_put (case-of files scores check (IsVerdict verdict) told given written is) row first
+      named given written is.input.script.1 law one verdict result same rose put no_put (case-of files scores check (IsVerdict verdict) told given written is) row first
 
-  pub put-exact : (files : Option Files) (verdict : Verdict) (status : Status) → IfCase files scores check (IsVerdict verdict) → HasRefusal files scores check.play status → ⊥
+  pub put-exact : (files : Option Files) (verdict : Verdict) (status : Status) → IfCase files scores check (IsVerdict verdict) → HasCheckRefusal files scores check status → ⊥
   put-exact None verdict status told refused = refused
-  put-exact (Some files) verdict status told refused =
-      refused-fits files scores check.play status refused (input-fits files scores check.play (input-of (Some files) scores check (has-case files scores check (IsVerdict verdict) told)))
+  put-exact (Some files) verdict status told (inl refused) =
+      refused-fits files scores check.play status refused.0 (input-fits files scores check.play (input-of (Some files) scores check (has-case files scores check (IsVerdict verdict) told)))
+  put-exact (Some files) verdict status told (inr (fault, e, undecided)) = undecided-or files check.play fault undecided (case-without files scores check (has-case files scores check (IsVerdict verdict) told))
 
   line-is : (verdict : Verdict) (given : Given) (written : Written) → IsVerdict verdict given written → IsVerdictLine given written (line_of verdict)
   line-is IsRight given written is = inl (is, refl)
@@ -165,7 +168,7 @@ module _ (scores : List Sound) (check : Check) where
 -- ---- there was none
 
 module _ (scores : List Sound) (check : Check) where
-  pub early-fault : (files : Option Files) (status : Status) → OpeningStatus files scores check.play status → CheckStatus files scores check status
+  pub early-fault : (files : Option Files) (status : Status) → CheckOpening files scores check.play status → CheckStatus files scores check status
   early-fault files Ok is = is
   early-fault files NoMemory is = tt
   early-fault files Words is = is
@@ -176,21 +179,21 @@ module _ (scores : List Sound) (check : Check) where
   early-fault files (Differs difference) is = is
   early-fault files (Wrong row sight) is = absurd is
 
-  early-play : (files : Option Files) (play : Play) (status : Status) → OpeningStatus files scores play status → PlayStatus files scores play status
-  early-play files play Ok is = is
-  early-play files play NoMemory is = tt
-  early-play files play Words is = is
-  early-play files play ReadFault is = tt
-  early-play files play (BadWave fault) is = is
-  early-play files play (BadScript fault) is = is
-  early-play files play WriteFault is = tt
-  early-play files play (Differs difference) is = is
-  early-play files play (Wrong row sight) is = is
+  early-play : (files : Option Files) (status : Status) → IsWithoutDisks files check.play → CheckOpening files scores check.play status → PlayStatus files scores check.play status
+  early-play files Ok without is = is
+  early-play files NoMemory without is = tt
+  early-play files Words without is = is
+  early-play files ReadFault without is = tt
+  early-play files (BadWave fault) without is = is.1
+  early-play files (BadScript fault) without is = without-good files check.play fault without is
+  early-play files WriteFault without is = absurd is
+  early-play files (Differs difference) without is = is.1
+  early-play files (Wrong row sight) without is = is
 
-  pub early-never : (files : Option Files) (status other : Status) → OpeningStatus files scores check.play status → status ≡ other → OpeningStatus files scores check.play other
-  early-never files status other is e = subst (OpeningStatus files scores check.play) e is
+  pub early-never : (files : Option Files) (status other : Status) → CheckOpening files scores check.play status → status ≡ other → CheckOpening files scores check.play other
+  early-never files status other is e = subst (CheckOpening files scores check.play) e is
 
-  pub early-verdict : (files : Option Files) (status : Status) (out out_after : Option (List ℕ)) → OpeningStatus files scores check.play status → PutsVerdict out out_after status
+  pub early-verdict : (files : Option Files) (status : Status) (out out_after : Option (List ℕ)) → CheckOpening files scores check.play status → PutsVerdict out out_after status
   early-verdict files Ok out out_after is = absurd is
   early-verdict files NoMemory out out_after is = tt
   early-verdict files Words out out_after is = tt
@@ -201,55 +204,80 @@ module _ (scores : List Sound) (check : Check) where
   early-verdict files (Differs difference) out out_after is = tt
   early-verdict files (Wrong row sight) out out_after is = absurd is
 
+  -- the play lacks what the check lacks, but for what is compared
+  play-lacks : (files : Option Files) → LacksPlay files scores check.play → LacksInput files scores check.play
+  play-lacks files (inl none) = inl none
+  play-lacks files (inr lacks) = lacks.1
+
   -- with a case, and no read that failed, it is want of memory
-  early-memory : (files : Option Files) (status : Status) (read : Type 0) → HasCase files scores check → OpeningStatus files scores check.play status → (status ≡ ReadFault → read ⊎ LacksCase files scores check) → ¬ read
+  early-memory : (files : Option Files) (status : Status) (read : Type 0) → HasCase files scores check → CheckOpening files scores check.play status → (status ≡ ReadFault → read ⊎ LacksCase files scores check) → ¬ read
       → status ≡ NoMemory
-  early-memory files status read has is why none =
-      only (complete-err files scores check.play status (read ⊎ LacksOne files (checked_names check)) ⊥ ⊥ (input-of files scores check has) (early-play files check.play status is)
-      (λ e. or (why e)) (λ e. absurd (early-never files status WriteFault is e)) no_read (λ no. no) (λ no. no))
+  early-memory None status read has is why none = absurd has
+  early-memory (Some files) status read has is why none =
+      only (complete-err (Some files) scores check.play status (read ⊎ LacksOne (Some files) (checked_names check)) ⊥ ⊥ (input-of (Some files) scores check has)
+      (early-play (Some files) status (case-without files scores check has) is)
+      (λ e. or (why e)) (λ e. absurd (early-never (Some files) status WriteFault is e)) no_read (λ no. no) (λ no. no))
     where
-      or : read ⊎ LacksCase files scores check → (read ⊎ LacksOne files (checked_names check)) ⊎ LacksInput files scores check.play
+      or : read ⊎ LacksCase (Some files) scores check → (read ⊎ LacksOne (Some files) (checked_names check)) ⊎ LacksInput (Some files) scores check.play
       or (inl rose) = inl (inl rose)
-      or (inr (inl lacks)) = inr lacks
+      or (inr (inl lacks)) = inr (play-lacks (Some files) lacks)
       or (inr (inr lacks)) = inl (inr lacks.1)
 
-      no_read : read ⊎ LacksOne files (checked_names check) → ⊥
+      no_read : read ⊎ LacksOne (Some files) (checked_names check) → ⊥
       no_read (inl rose) = none rose
-      no_read (inr lacks) = there-none files scores check has lacks
+      no_read (inr lacks) = there-none (Some files) scores check has lacks
 
       only : (status ≡ Ok) ⊎ (status ≡ NoMemory) → status ≡ NoMemory
-      only (inl e) = absurd (early-never files status Ok is e)
+      only (inl e) = absurd (early-never (Some files) status Ok is e)
       only (inr e) = e
 
-  pub early-decided : (files : Option Files) (status : Status) (read : Type 0) → OpeningStatus files scores check.play status → (status ≡ ReadFault → read ⊎ LacksCase files scores check)
+  pub early-decided : (files : Option Files) (status : Status) (read : Type 0) → CheckOpening files scores check.play status → (status ≡ ReadFault → read ⊎ LacksCase files scores check)
       → HasCase files scores check → ¬ read → IsDecided status
   early-decided files status read is why has none = subst IsDecided (sym (early-memory files status read has is why none)) tt
 
-  pub early-decides : (files : Option Files) (status : Status) (read rose : Type 0) → OpeningStatus files scores check.play status → (status ≡ ReadFault → read ⊎ LacksCase files scores check)
+  pub early-decides : (files : Option Files) (status : Status) (read rose : Type 0) → CheckOpening files scores check.play status → (status ≡ ReadFault → read ⊎ LacksCase files scores check)
       → OfCase files scores check (λ given written. IsExplained given written → ¬ read → ¬ rose → IsDoneOrNoMemory status)
   early-decides None status read rose is why = tt
   early-decides (Some files) status read rose is why = λ given written case explained no_read no_put. inr (early-memory (Some files) status read (given, written, case) is why no_read)
 
-  pub early-names : (files : Option Files) (status : Status) (read rose : Type 0) → OpeningStatus files scores check.play status → (status ≡ ReadFault → read ⊎ LacksCase files scores check)
+  pub early-names : (files : Option Files) (status : Status) (read rose : Type 0) → CheckOpening files scores check.play status → (status ≡ ReadFault → read ⊎ LacksCase files scores check)
       → OfCase files scores check (λ given written. (row : Row) → IsFirstWrong given written row → ¬ read → ¬ rose → IsWrongAt row status ⊎ (status ≡ NoMemory))
   early-names None status read rose is why = tt
   early-names (Some files) status read rose is why = λ given written case row first no_read no_put. inr (early-memory (Some files) status read (given, written, case) is why no_read)
 
-  pub early-exact : (files : Option Files) (fault status : Status) (read : Type 0) → OpeningStatus files scores check.play status → (status ≡ ReadFault → read ⊎ LacksCase files scores check)
-      → HasRefusal files scores check.play fault → ¬ read → (status ≡ fault) ⊎ (status ≡ NoMemory)
-  early-exact files fault status read is why refused none =
-      exact-err files scores check.play fault status (read ⊎ IfInput files scores check.play) refused (early-play files check.play status is) (λ e. or (why e))
-      (λ e. absurd (early-never files status WriteFault is e)) no_read
+  -- a script with a disk is refused by its fault
+  undecided-exact : (files : Files) (fault : ScriptFault) (status : Status) (read : Type 0) → CheckOpening (Some files) scores check.play status → (status ≡ ReadFault → read ⊎ LacksCase (Some files) scores check)
+      → IfBytes (Some files) check.play.script (λ bytes. IsUndecided bytes fault) → ¬ read → (status ≡ BadScript fault) ⊎ (status ≡ NoMemory)
+  undecided-exact files fault Ok read is why has none = absurd is
+  undecided-exact files fault NoMemory read is why has none = inr refl
+  undecided-exact files fault Words read is why has none = absurd is
+  undecided-exact files fault ReadFault read is why has none = absurd (or (why refl))
     where
-      or : read ⊎ LacksCase files scores check → (read ⊎ IfInput files scores check.play) ⊎ LacksInput files scores check.play
+      or : read ⊎ LacksCase (Some files) scores check → ⊥
+      or (inl rose) = none rose
+      or (inr (inl (inl missing))) = missing (rw has.1 refl)
+      or (inr (inl (inr lacks))) = undecided-or files check.play fault has lacks.0
+      or (inr (inr lacks)) = undecided-or files check.play fault has lacks.0.0
+  undecided-exact files fault (BadWave bad) read is why has none = absurd (undecided-or files check.play fault has is.0)
+  undecided-exact files fault (BadScript other) read is why has none = inl (ap BadScript (undecided-same files check.play fault other has is))
+  undecided-exact files fault WriteFault read is why has none = absurd is
+  undecided-exact files fault (Differs difference) read is why has none = absurd (undecided-or files check.play fault has is.0)
+  undecided-exact files fault (Wrong row sight) read is why has none = absurd is
+
+  pub early-exact : (files : Option Files) (fault status : Status) (read : Type 0) → CheckOpening files scores check.play status → (status ≡ ReadFault → read ⊎ LacksCase files scores check)
+      → HasCheckRefusal files scores check fault → ¬ read → (status ≡ fault) ⊎ (status ≡ NoMemory)
+  early-exact None fault status read is why refused none = absurd refused
+  early-exact (Some files) fault status read is why (inr (told, e, has)) none =
+      subst (λ (s : Status). (status ≡ s) ⊎ (status ≡ NoMemory)) (sym e) (undecided-exact files told status read is why has none)
+  early-exact (Some files) fault status read is why (inl (refused, without)) none =
+      exact-err (Some files) scores check.play fault status (read ⊎ IfInput (Some files) scores check.play) refused (early-play (Some files) status without is) (λ e. or (why e))
+      (λ e. absurd (early-never (Some files) status WriteFault is e)) no_read
+    where
+      or : read ⊎ LacksCase (Some files) scores check → (read ⊎ IfInput (Some files) scores check.play) ⊎ LacksInput (Some files) scores check.play
       or (inl rose) = inl (inl rose)
-      or (inr (inl lacks)) = inr lacks
-      or (inr (inr lacks)) = inl (inr lacks.0)
+      or (inr (inl lacks)) = inr (play-lacks (Some files) lacks)
+      or (inr (inr lacks)) = inl (inr lacks.0.1)
 
-      fits-none : (own : Option Files) → HasRefusal own scores check.play fault → IfInput own scores check.play → ⊥
-      fits-none None r input = r
-      fits-none (Some own) r input = refused-fits own scores check.play fault r (input-fits own scores check.play input)
-
-      no_read : read ⊎ IfInput files scores check.play → ⊥
+      no_read : read ⊎ IfInput (Some files) scores check.play → ⊥
       no_read (inl rose) = none rose
-      no_read (inr input) = fits-none files refused input
+      no_read (inr input) = refused-fits files scores check.play fault refused (input-fits files scores check.play input)

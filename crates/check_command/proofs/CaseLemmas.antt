@@ -2,9 +2,10 @@
 --     one-case, case-of      two cases are the same, and so of each holds what holds of one
 --     case-map, case-told      what holds of it, and what the opened files tell of it
 --     input-of, input-named, gives-named      and the input of a play in it
+--     case-without, without-named      whose script has no disk
 --     there-none      its names are there
 --     read-of, kept-of, verdict-told      and the verdict on it
-use Rattle.std.proofs.Common.{◌≡◌, ◌∙◌, ℕ, zero, suc, ◌<◌, ℤ, List, [], ◌∷◌, Some, None, Ok, Err, ap, arith, length, map, refl, sym, subst, true}
+use Rattle.std.proofs.Common.{◌≡◌, ◌∙◌, ℕ, zero, suc, ◌<◌, ℤ, List, [], ◌∷◌, Some, None, Ok, Err, ap, arith, length, map, refl, sym, subst, take, true}
 use Rattle.std.specs.Prelude.{Contains, IfOk, OnOk, Option, Result, is_some}
 use Rattle.std.proofs.lemmas.Option.{none-some}
 use Rattle.check_sights.specs.declared.sights.Sight.{Sight}
@@ -24,14 +25,15 @@ use Rattle.play_words.specs.Words.{Play}
 use Rattle.play_inputs.specs.declared.status.Status.{Status}
 use Rattle.play_inputs.specs.declared.status.Status.TheVariants.{ReadFault}
 use Rattle.play_inputs.specs.Answers.{HasInput, IfInput}
-use Rattle.play_inputs.specs.Inputs.{Files, IfBytes, IsInput}
-use Rattle.play_inputs.specs.Openings.{GivesInput}
-use Rattle.play_inputs.proofs.ExactLemmas.{one_input}
+use Rattle.play_inputs.specs.Inputs.{Files, IfBytes, IfBytesAll, IsInput, IsScriptOf}
+use Rattle.play_inputs.proofs.ExactLemmas.{one_input, one_script}
 use Rattle.play_inputs.proofs.InputLemmas.{if_bytes_map}
 use Rattle.check_command.specs.Cases.{HasCase, IfCase, IsCase, LacksOne, OfCase, checked_names}
 use Rattle.check_command.specs.Files.{GivesWritten}
 use Rattle.check_command.specs.Lines.{IsExplained}
+use Rattle.check_command.specs.Scripts.{AreWithoutDisks, GivesCheck, HasNoDisk, IsWithoutDisks}
 use Rattle.check_command.specs.Verdicts.{IsVerdict, answer_of}
+use Rattle.check_command.proofs.ScriptLemmas.{all-none, no-names, none-given, without-input}
 
 some-same : (xs ys : List (List ℕ)) → map Some xs ≡ map Some ys → xs ≡ ys
 some-same [] [] e = refl
@@ -48,8 +50,8 @@ module _ (files : Files) (scores : List Sound) (check : Check) where
   one-given given other written more a b =
       let scripts : b.script_bytes ≡ a.script_bytes = cc (a.script_is, b.script_is) in
       let captures : b.capture_bytes ≡ a.capture_bytes = cc (a.capture_is, b.capture_is) in
-      one_input a.script_bytes a.capture_bytes scores check.play given other a.input
-      (subst (λ (bytes : List ℕ). IsInput bytes a.capture_bytes scores check.play other) scripts (subst (λ (bytes : List ℕ). IsInput b.script_bytes bytes scores check.play other) captures b.input))
+      one_input a.script_bytes a.capture_bytes [] scores check.play given other a.input
+      (subst (λ (bytes : List ℕ). IsInput bytes a.capture_bytes [] scores check.play other) scripts (subst (λ (bytes : List ℕ). IsInput b.script_bytes bytes [] scores check.play other) captures b.input))
 
   one-written : (given other : Given) (written more : Written) → IsCase files scores check given written → IsCase files scores check other more → written ≡ more
   one-written given other written more a b =
@@ -70,7 +72,7 @@ case-map (Some files) scores check P Q f has = (has.0, has.1, has.2, f has.0 has
 
 -- the sources that were opened tell a case of the files
 pub case-told : (files : Option Files) (scores : List Sound) (check : Check) (script : Script) (left : Option (List ℤ)) (report playback : Option (List ℕ)) (records : List (Option (List ℕ)))
-    (P : Given → Written → Type 0) → GivesInput files scores check.play script left → GivesWritten files check.report check.play report playback records
+    (P : Given → Written → Type 0) → GivesCheck files scores check.play script left → GivesWritten files check.report check.play report playback records
     → ((given : Given) (written : Written) → IsGivenCase script left scores report playback records given written → P given written) → IfCase files scores check P
 case-told None scores check script left report playback records P gives tells f = tt
 case-told (Some files) scores check script left report playback records P (script_bytes, script_is, (capture_bytes, capture_is, (given, input, of, samples))) tells f = (
@@ -87,36 +89,65 @@ case-told (Some files) scores check script left report playback records P (scrip
     records_are = tells.records_there;
   },
   f given tells.written (record {
-    input = record { script_is = of; capture_is = samples; scores_are = input.scores_are; no_disks = input.no_disk };
+    input = record { script_is = of; capture_is = samples; scores_are = input.scores_are; no_disks = (none-given given.script.header.rate given.script.header.disks given.disks input.disks).1 };
     report_is = tells.report_is;
     playback_is = tells.playback_is;
     records_are = tells.records_are;
   }),
 )
 
--- what a play is given is told by what was opened
-input-told : (files : Option Files) (scores : List Sound) (play : Play) (script : Script) (left : Option (List ℤ)) → GivesInput files scores play script left → IfInput files scores play
+-- what a play is given, and that it has no disk, is told by what was opened
+input-told : (files : Option Files) (scores : List Sound) (play : Play) (script : Script) (left : Option (List ℤ)) → GivesCheck files scores play script left → IfInput files scores play
 input-told files scores play script left =
     if_bytes_map files play.script (λ script_bytes. IfBytes files play.capture (Reads script_bytes)) (λ script_bytes. IfBytes files play.capture (Has script_bytes))
-    (λ script_bytes. if_bytes_map files play.capture (Reads script_bytes) (Has script_bytes) (λ capture_bytes has. (has.0, has.1)))
+    (λ script_bytes. if_bytes_map files play.capture (Reads script_bytes) (Has script_bytes)
+    (λ capture_bytes has. all-none files play.disks (Fits script_bytes capture_bytes) (no-names script_bytes capture_bytes scores play has.0 has.1) (has.0, has.1)))
   where
     Reads : List ℕ → List ℕ → Type 0
-    Reads script_bytes capture_bytes = (given : Given) × IsInput script_bytes capture_bytes scores play given × (given.script ≡ script) × (left ≡ Some given.capture)
+    Reads script_bytes capture_bytes = (given : Given) × IsInput script_bytes capture_bytes [] scores play given × (given.script ≡ script) × (left ≡ Some given.capture)
+
+    Fits : List ℕ → List ℕ → List (List ℕ) → Type 0
+    Fits script_bytes capture_bytes disk_bytes = (given : Given) × IsInput script_bytes capture_bytes disk_bytes scores play given
 
     Has : List ℕ → List ℕ → Type 0
-    Has script_bytes capture_bytes = (given : Given) × IsInput script_bytes capture_bytes scores play given
+    Has script_bytes capture_bytes = IfBytesAll files play.disks (Fits script_bytes capture_bytes)
 
-pub input-named : (files : Option Files) (scores : List Sound) (check : Check) (play : Play) (script : Script) (left : Option (List ℤ)) → play ≡ check.play → GivesInput files scores play script left → IfInput files scores check.play
+without-of : (script_bytes capture_bytes : List ℕ) (scores : List Sound) (play : Play) (given : Given) → IsInput script_bytes capture_bytes [] scores play given → AreWithoutDisks script_bytes
+without-of script_bytes capture_bytes scores play given input = λ other of.
+    subst HasNoDisk (one_script (take 1048577 script_bytes) given.script other input.script of) (without-input script_bytes capture_bytes scores play given input)
+
+without-told : (files : Option Files) (scores : List Sound) (play : Play) (script : Script) (left : Option (List ℤ)) → GivesCheck files scores play script left → IsWithoutDisks files play
+without-told None scores play script left gives = tt
+without-told (Some files) scores play script left (script_bytes, script_is, (capture_bytes, capture_is, (given, input, of, samples))) = (script_bytes, script_is, without-of script_bytes capture_bytes scores play given input)
+
+pub without-named : (files : Option Files) (scores : List Sound) (check : Check) (play : Play) (script : Script) (left : Option (List ℤ)) → play ≡ check.play → GivesCheck files scores play script left → IsWithoutDisks files check.play
+without-named files scores check play script left are gives = subst (λ (p : Play). IsWithoutDisks files p) are (without-told files scores play script left gives)
+
+pub input-named : (files : Option Files) (scores : List Sound) (check : Check) (play : Play) (script : Script) (left : Option (List ℤ)) → play ≡ check.play → GivesCheck files scores play script left → IfInput files scores check.play
 input-named files scores check play script left are gives = subst (λ (p : Play). IfInput files scores p) are (input-told files scores play script left gives)
 
-pub gives-named : (files : Option Files) (scores : List Sound) (check : Check) (play : Play) (script : Script) (left : Option (List ℤ)) → play ≡ check.play → GivesInput files scores play script left
-    → GivesInput files scores check.play script left
-gives-named files scores check play script left are gives = subst (λ (p : Play). GivesInput files scores p script left) are gives
+pub gives-named : (files : Option Files) (scores : List Sound) (check : Check) (play : Play) (script : Script) (left : Option (List ℤ)) → play ≡ check.play → GivesCheck files scores play script left
+    → GivesCheck files scores check.play script left
+gives-named files scores check play script left are gives = subst (λ (p : Play). GivesCheck files scores p script left) are gives
 
 -- and is there where a case is
 pub input-of : (files : Option Files) (scores : List Sound) (check : Check) → HasCase files scores check → HasInput files scores check.play
 input-of None scores check has = has
-input-of (Some files) scores check has = (has.2.script_bytes, has.2.script_is, (has.2.capture_bytes, has.2.capture_is, (has.0, has.2.input)))
+input-of (Some files) scores check has =
+    let is = has.2 in (
+      is.script_bytes,
+      is.script_is,
+      (
+        is.capture_bytes,
+        is.capture_is,
+        all-none (Some files) check.play.disks (λ disk_bytes. (given : Given) × IsInput is.script_bytes is.capture_bytes disk_bytes scores check.play given)
+            (no-names is.script_bytes is.capture_bytes scores check.play has.0 is.input) (has.0, is.input),
+      ),
+    )
+
+-- its script has no disk
+pub case-without : (files : Files) (scores : List Sound) (check : Check) → HasCase (Some files) scores check → IsWithoutDisks (Some files) check.play
+case-without files scores check has = (has.2.script_bytes, has.2.script_is, without-of has.2.script_bytes has.2.capture_bytes scores check.play has.0 has.2.input)
 
 pub has-case : (files : Files) (scores : List Sound) (check : Check) (P : Given → Written → Type 0) → IfCase (Some files) scores check P → HasCase (Some files) scores check
 has-case files scores check P has = (has.0, has.1, has.2)
@@ -153,7 +184,7 @@ kept-of verdict result a b n is same kept = subst (λ (r : Result Verdict Status
     go (Err Memory) same = tt
 
 module _ (files : Option Files) (scores : List Sound) (check : Check) (script : Script) (left : Option (List ℤ)) (report playback : Option (List ℕ)) (records : List (Option (List ℕ)))
-    (gives : GivesInput files scores check.play script left) (tells : GivesWritten files check.report check.play report playback records) where
+    (gives : GivesCheck files scores check.play script left) (tells : GivesWritten files check.report check.play report playback records) where
   abbrev Case : Given → Written → Type 0
   Case given written = IsGivenCase script left scores report playback records given written
 

@@ -1,4 +1,5 @@
 mod OpenedLemmas
 mod CountLemmas
+mod ScriptLemmas
 mod CaseLemmas
 mod AnswerLemmas

@@ -5,21 +5,22 @@
 --     HasCase files scores check      they are told, and there is one
 --     LacksOne files names      one of these names is not there
 --     LacksCase files scores check      a name that a step opens is not there
-use Rattle.std.specs.Prelude.{◌≡◌, ◌⊎◌, ℕ, List, ◌∷◌, map, ⊤, Contains, Option, Some, None}
+use Rattle.std.specs.Prelude.{◌≡◌, ◌⊎◌, ℕ, List, [], ◌∷◌, map, ⊤, Contains, Option, Some, None}
 use Rattle.jack_host.specs.Files.{bytes_under, IsThere}
 use Rattle.session_model.specs.Explanations.{Given, Written}
 use Rattle.session_model.specs.Kinds.{Sound}
 use Rattle.play_words.specs.Checks.{Check}
-use Rattle.play_inputs.specs.Answers.{IfInput, LacksInput}
+use Rattle.play_inputs.specs.Answers.{IfInput}
 use Rattle.play_inputs.specs.Inputs.{Files, IsInput}
+use Rattle.check_command.specs.Scripts.{IsWithoutDisks, LacksPlay}
 
--- what a play of the names would be given, and the bytes that are checked
+-- what a play of the names would be given, without a disk, and the bytes that are checked
 pub record IsCase (files : Files) (scores : List Sound) (check : Check) (given : Given) (written : Written) : Type 0 where
   pub script_bytes : List ℕ
   pub capture_bytes : List ℕ
   pub script_is : bytes_under files check.play.script ≡ Some script_bytes
   pub capture_is : bytes_under files check.play.capture ≡ Some capture_bytes
-  pub input : IsInput script_bytes capture_bytes scores check.play given
+  pub input : IsInput script_bytes capture_bytes [] scores check.play given
   pub report_is : bytes_under files check.report ≡ Some written.report
   pub playback_is : bytes_under files check.play.playback ≡ Some written.playback
   pub records_are : map (bytes_under files) check.play.records ≡ map Some written.records
@@ -43,8 +44,8 @@ checked_names check = check.report ∷ check.play.playback ∷ check.play.record
 abbrev pub LacksOne : Option Files → List (List ℕ) → Type 0
 LacksOne files names = (name : List ℕ) × Contains names name × (¬ IsThere files name)
 
--- a file that a play of the names would read is not there; or they fit, and one that is compared is not there
+-- a file that a play of the names would read is not there; or they fit, without a disk, and one that is compared is not there
 abbrev pub LacksCase : Option Files → List Sound → Check → Type 0
 LacksCase files scores check =
-    LacksInput files scores check.play
-    ⊎ (IfInput files scores check.play × LacksOne files (checked_names check))
+    LacksPlay files scores check.play
+    ⊎ ((IsWithoutDisks files check.play × IfInput files scores check.play) × LacksOne files (checked_names check))

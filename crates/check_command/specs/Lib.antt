@@ -1,3 +1,4 @@
+pub mod Scripts
 pub mod Cases
 pub mod Lines
 pub mod Answers

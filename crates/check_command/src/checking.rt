@@ -4,15 +4,16 @@ ghost use Rattle.std.specs.Prelude.{◌≡◌, ◌+◌, ◌<◌, ◌≤◌, ◌�
 ghost use Rattle.jack_host.specs.Causes.{Adds, Rose};
 ghost use Rattle.jack_host.specs.Files.{SameFiles};
 ghost use Rattle.play_inputs.specs.Answers.{HasOwnFault};
-ghost use Rattle.play_inputs.specs.Openings.{OpeningStatus};
 ghost use Rattle.check_command.specs.Cases.{IfCase, LacksCase};
 ghost use Rattle.check_command.specs.Files.{faults_of};
+ghost use Rattle.check_command.specs.Scripts.{CheckOpening};
 ghost use Rattle.check_command.specs.Verdicts.{IsVerdict, answer_of as answer};
 
 use crate::files::{WrittenFiles, back_records, open_written};
+use crate::opening::{CheckInputs, open_checked};
 use client_kinds::Guest;
 use jack_host::{Gate, Host};
-use play_inputs::{Inputs, Status, open_inputs};
+use play_inputs::Status;
 use play_words::CheckNames;
 use session_check::{CheckFault, Checked, Verdict, check};
 use std::alloc::Global;
@@ -66,7 +67,7 @@ pub(crate) fn decide<T: Threads + Sync, H: Host, G: Guest + Send, A: Gate>(
     ensures verdict { IfOk result (λ verdict.
         IfCase (H.files host.old) (map G.sound (map G.score guests.items)) names.now (IsVerdict verdict)) }
     ensures fault { IfErr result
-        (OpeningStatus (H.files host.old) (map G.sound (map G.score guests.items)) names.now.play) }
+        (CheckOpening (H.files host.old) (map G.sound (map G.score guests.items)) names.now.play) }
     ensures own { IfErr result HasOwnFault }
     ensures read { IsErrOf result Status.ReadFault →
         Rose (H.read_faults host.old) (H.read_faults host.new)
@@ -78,7 +79,7 @@ pub(crate) fn decide<T: Threads + Sync, H: Host, G: Guest + Send, A: Gate>(
     ensures files { SameFiles (H.files host.old) (H.files host.new) }
     ensures lent { H.lent host.new ≡ H.lent host.old }
 {
-    let Inputs { script, capture } = open_inputs(alloc, host, &names.play, guests.len())?;
+    let CheckInputs { script, capture } = open_checked(alloc, host, &names.play, guests.len())?;
     let written = match open_written(alloc, host, names.report, &names.play) {
         Ok(written) => written,
         Err(status) => {

@@ -3,6 +3,7 @@
 
 mod checking;
 mod files;
+mod opening;
 mod top;
 mod verdicts;
 

@@ -7,9 +7,9 @@ ghost use Rattle.jack_types.specs.declared.replies.Row.{Row as RowValue};
 ghost use Rattle.check_sights.specs.declared.sights.Sight.{Sight as SightValue};
 ghost use Rattle.check_model.specs.Checking.{IsFirstWrong};
 ghost use Rattle.play_inputs.specs.declared.status.Status.{Status as StatusValue};
-ghost use Rattle.play_inputs.specs.Answers.{HasLine, HasOwnFault, HasRefusal, IsDoneOrNoMemory};
+ghost use Rattle.play_inputs.specs.Answers.{HasLine, HasOwnFault, IsDoneOrNoMemory};
 ghost use Rattle.play_inputs.specs.FaultLines.{PutsFault};
-ghost use Rattle.check_command.specs.Answers.{CheckStatus, IsDecided, IsVerdictCut, IsWrongAt, PutsVerdict};
+ghost use Rattle.check_command.specs.Answers.{CheckStatus, HasCheckRefusal, IsDecided, IsVerdictCut, IsWrongAt, PutsVerdict};
 ghost use Rattle.check_command.specs.Cases.{HasCase, IfCase, LacksCase, OfCase};
 ghost use Rattle.check_command.specs.Lines.{IsExplained};
 
@@ -64,7 +64,7 @@ pub fn check_named<T: Threads + Sync, H: Host, K: Sink, G: Guest + Send, A: Gate
         × IsVerdictCut (H.files host.old) (map G.sound (map G.score guests.items)) names.now
         (K.content out.old) (K.content out.new) }
     ensures exact { (status : StatusValue) →
-        HasRefusal (H.files host.old) (map G.sound (map G.score guests.items)) names.now.play status →
+        HasCheckRefusal (H.files host.old) (map G.sound (map G.score guests.items)) names.now status →
         ¬ Rose (H.read_faults host.old) (H.read_faults host.new) → (result ≡ status) ⊎ (result ≡ Status.NoMemory) }
 
     ensures verdict { PutsVerdict (K.content out.old) (K.content out.new) result }

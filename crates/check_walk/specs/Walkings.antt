@@ -21,7 +21,7 @@ use Rattle.session_model.specs.Scripts.{Script, turns}
 use Rattle.client_kinds.specs.Scores.{Score}
 use Rattle.graph_word.specs.Publications.{IsFront, Publishing}
 use Rattle.driver_words.specs.Rings.{Getting, Sending}
-use Rattle.control_desk.specs.Desks.{base_of}
+use Rattle.run_laws.specs.control_desk.specs.Desks.{base_of}
 use Rattle.driver_words.specs.Tapes.{Tape}
 use Rattle.driver_laws.specs.Drivers.{Driver, HasOwnRings, HasOwnRows, run, turn_of}
 use Rattle.driver_laws.specs.Keeping.{AreOfCalls}

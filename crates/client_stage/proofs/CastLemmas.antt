@@ -21,18 +21,18 @@ use Rattle.session_model.specs.State.{OpenClient}
 use Rattle.client_kinds.specs.Scores.{Score}
 use Rattle.port_registry.specs.Registered.{open_clients}
 use Rattle.port_registry.proofs.PlaceLemmas.{find-none}
-use Rattle.stage_laws.specs.cycle_plan.specs.Plans.{IsPlanned, Planned, state_of_plan}
+use Rattle.cycle_plan.specs.Plans.{IsPlanned, Planned, state_of_plan}
 use Rattle.client_kinds.specs.Standings.{Standing}
-use Rattle.stage_laws.specs.client_benches.specs.Seen.{Remembered as Kept, Seen, cleared, new_bench}
-use Rattle.stage_laws.specs.bench_rack.specs.Racks.{Racked, bench_at}
-use Rattle.stage_laws.specs.driver_laws.specs.Drivers.{Remembered}
-use Rattle.stage_laws.specs.client_seats.specs.Owners.{Owned, owner_at}
-use Rattle.stage_laws.specs.client_seats.specs.Moves.{LostGuest, kinds_of}
+use Rattle.client_benches.specs.Seen.{Remembered as Kept, Seen, cleared, new_bench}
+use Rattle.bench_rack.specs.Racks.{Racked, bench_at}
+use Rattle.driver_laws.specs.Drivers.{Remembered}
+use Rattle.client_seats.specs.Owners.{Owned, owner_at}
+use Rattle.client_seats.specs.Moves.{LostGuest, kinds_of}
 use Rattle.stage_laws.specs.Known.{SeatsPlan}
-use Rattle.stage_laws.specs.client_seats.specs.Seatings.{AreApart, HasBench, HasNoPast, HavePeriod, IsNobodys, IsSeating, kind_at, memory_of, standing_at}
-use Rattle.stage_laws.specs.client_seats.proofs.MemoryLemmas.{found_past, memory-owned, owned_or_not}
-use Rattle.stage_laws.specs.client_seats.proofs.PlayLemmas.{IsSeating-played}
-use Rattle.stage_laws.specs.client_seats.proofs.SeatLemmas.{bench-within}
+use Rattle.client_seats.specs.Seatings.{AreApart, HasBench, HasNoPast, HavePeriod, IsNobodys, IsSeating, kind_at, memory_of, standing_at}
+use Rattle.client_seats.proofs.MemoryLemmas.{found_past, memory-owned, owned_or_not}
+use Rattle.client_seats.proofs.PlayLemmas.{IsSeating-played}
+use Rattle.client_seats.proofs.SeatLemmas.{bench-within}
 use Rattle.stage_laws.proofs.GoingLemmas.{memory-same}
 use Rattle.stage_laws.proofs.WholeLemmas.{same-bench-of}
 

@@ -4,7 +4,7 @@
 use Rattle.std.proofs.Common.{◌≡◌, ◌≤◌, List, [], ◌∷◌, length, sym, ap, subst, ◌∙◌}
 use Rattle.std.specs.Vec.{vec_capacity}
 use Rattle.session_model.specs.Samples.{silence}
-use Rattle.stage_laws.specs.cycle_plan.specs.Plans.{Planned}
+use Rattle.cycle_plan.specs.Plans.{Planned}
 use Rattle.client_stage.specs.Insides.{IsWhole, plan_in, staged_by}
 use Rattle.stage_laws.specs.Standing.{StandsOn}
 use Rattle.client_stage.specs.declared.stage.Stage.TheInside.{Inside}

@@ -13,12 +13,12 @@ use Rattle.jack_types.specs.declared.moments.TransportState.TheVariants.{Stopped
 use Rattle.session_model.specs.Activation.{no_link}
 use Rattle.session_model.specs.Commands.{replay}
 use Rattle.port_registry.specs.Registered.{open_client, open_clients}
-use Rattle.stage_laws.specs.cycle_plan.specs.Plans.{IsPlanned, Planned, nodes_of, opening_of, state_of_plan}
-use Rattle.stage_laws.specs.client_benches.specs.Seen.{Seen, cleared, new_bench}
-use Rattle.stage_laws.specs.client_wiring.specs.Wirings.{Wired, wired, wired_of}
-use Rattle.stage_laws.specs.bench_rack.specs.Racks.{bench_at}
-use Rattle.stage_laws.specs.client_tasks.specs.Fillings.{AreJoints}
-use Rattle.stage_laws.specs.client_seats.specs.Seatings.{IsSeating}
+use Rattle.cycle_plan.specs.Plans.{IsPlanned, Planned, nodes_of, opening_of, state_of_plan}
+use Rattle.client_benches.specs.Seen.{Seen, cleared, new_bench}
+use Rattle.client_wiring.specs.Wirings.{Wired, wired, wired_of}
+use Rattle.bench_rack.specs.Racks.{bench_at}
+use Rattle.client_tasks.specs.Fillings.{AreJoints}
+use Rattle.client_seats.specs.Seatings.{IsSeating}
 use Rattle.stage_laws.specs.Known.{AreKnown}
 use Rattle.stage_laws.specs.Stages.{Staged}
 use Rattle.stage_laws.specs.Standing.{EnoughLinks, StandsOn}

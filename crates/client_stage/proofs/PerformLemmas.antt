@@ -7,13 +7,13 @@ use Rattle.std.specs.Prelude.{List}
 use Rattle.jack_types.specs.declared.ports.Client.{Client}
 use Rattle.jack_types.specs.declared.ports.Link.{Link}
 use Rattle.session_model.specs.Activation.{AreLinks, link_at, place_among}
-use Rattle.stage_laws.specs.cycle_plan.specs.Plans.{Planned}
+use Rattle.cycle_plan.specs.Plans.{Planned}
 use Rattle.driver_words.specs.Feeding.{Fed}
-use Rattle.stage_laws.specs.client_benches.specs.Seen.{Seen, has_room_at}
-use Rattle.stage_laws.specs.bench_rack.specs.Racks.{Racked, bench_at}
-use Rattle.stage_laws.specs.client_tasks.specs.Fillings.{with_wires}
-use Rattle.stage_laws.specs.client_tasks.specs.Tasks.{HasRooms}
-use Rattle.stage_laws.specs.stage_feeds.specs.Feeding.{Feeds, fed_from}
+use Rattle.client_benches.specs.Seen.{Seen, has_room_at}
+use Rattle.bench_rack.specs.Racks.{Racked, bench_at}
+use Rattle.client_tasks.specs.Fillings.{with_wires}
+use Rattle.client_tasks.specs.Tasks.{HasRooms}
+use Rattle.stage_feeds.specs.Feeding.{Feeds, fed_from}
 
 pub more-nodes : (few many : ℕ) (links : List Link) → few ≤ many → AreLinks few links → AreLinks many links
 more-nodes few many links h are = record {

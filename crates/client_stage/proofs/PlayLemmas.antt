@@ -11,16 +11,16 @@ use Rattle.session_model.specs.Kinds.{Sound}
 use Rattle.client_kinds.specs.Scores.{Score}
 use Rattle.session_laws.proofs.ListLemmas.{Each-below, filter-none}
 use Rattle.port_registry.specs.Registered.{open_clients}
-use Rattle.stage_laws.specs.cycle_plan.specs.Plans.{Planned}
-use Rattle.stage_laws.specs.client_benches.specs.Seen.{Seen, cleared}
-use Rattle.stage_laws.specs.client_wiring.specs.declared.joints.Joint.{Joint}
-use Rattle.stage_laws.specs.client_wiring.specs.declared.joints.Origin.TheVariants.{Captured}
-use Rattle.stage_laws.specs.bench_rack.specs.Racks.{Racked, bench_at}
-use Rattle.stage_laws.specs.client_tasks.specs.Fillings.{AreJoints, with_wires}
-use Rattle.stage_laws.specs.client_tasks.specs.Tasks.{HasRooms, joint_at, wire_by, wires_of}
-use Rattle.stage_laws.specs.client_seats.specs.Seatings.{HavePeriod, IsRefused, IsSeating, standing_at}
+use Rattle.cycle_plan.specs.Plans.{Planned}
+use Rattle.client_benches.specs.Seen.{Seen, cleared}
+use Rattle.client_wiring.specs.declared.joints.Joint.{Joint}
+use Rattle.client_wiring.specs.declared.joints.Origin.TheVariants.{Captured}
+use Rattle.bench_rack.specs.Racks.{Racked, bench_at}
+use Rattle.client_tasks.specs.Fillings.{AreJoints, with_wires}
+use Rattle.client_tasks.specs.Tasks.{HasRooms, joint_at, wire_by, wires_of}
+use Rattle.client_seats.specs.Seatings.{HavePeriod, IsRefused, IsSeating, standing_at}
 use Rattle.driver_words.specs.Feeding.{Fed}
-use Rattle.stage_laws.specs.stage_feeds.specs.Feeding.{Feeds}
+use Rattle.stage_feeds.specs.Feeding.{Feeds}
 use Rattle.stage_laws.specs.Known.{AreKnown}
 use Rattle.stage_laws.specs.Casts.{ArePlaces, Casts, Fills, Performs}
 use Rattle.stage_laws.specs.Stages.{Staged}

@@ -9,13 +9,13 @@ use Rattle.session_model.specs.Kinds.{Memory, Sound, first}
 use Rattle.session_model.specs.State.{OpenClient}
 use Rattle.client_kinds.specs.Scores.{Score}
 use Rattle.port_registry.specs.Registered.{open_clients}
-use Rattle.stage_laws.specs.cycle_plan.specs.Plans.{Planned}
+use Rattle.cycle_plan.specs.Plans.{Planned}
 use Rattle.client_kinds.specs.Standings.{Standing}
-use Rattle.stage_laws.specs.client_benches.specs.Seen.{Seen, cleared, rested}
-use Rattle.stage_laws.specs.bench_rack.specs.Racks.{Racked, bench_at}
-use Rattle.stage_laws.specs.client_seats.specs.Owners.{Owned}
-use Rattle.stage_laws.specs.client_seats.specs.Seatings.{IsRefused, IsSeating, OtherKind, NoBench, NoGuest, GuestPlays, kind_at, memory_of, standing_at}
-use Rattle.stage_laws.specs.client_seats.proofs.PlaceLemmas.{within_open}
+use Rattle.client_benches.specs.Seen.{Seen, cleared, rested}
+use Rattle.bench_rack.specs.Racks.{Racked, bench_at}
+use Rattle.client_seats.specs.Owners.{Owned}
+use Rattle.client_seats.specs.Seatings.{IsRefused, IsSeating, OtherKind, NoBench, NoGuest, GuestPlays, kind_at, memory_of, standing_at}
+use Rattle.client_seats.proofs.PlaceLemmas.{within_open}
 use Rattle.stage_laws.specs.Known.{AreKnown}
 use Rattle.stage_laws.specs.Stages.{Staged}
 use Rattle.stage_laws.specs.Standing.{EnoughLinks, StandsBy}

@@ -8,14 +8,14 @@ use Rattle.std.specs.List.Sorted.{IsPermutation}
 use Rattle.jack_types.specs.declared.moments.Moment.{Moment}
 use Rattle.session_model.specs.Kinds.{Sound}
 use Rattle.client_kinds.specs.Scores.{Score}
-use Rattle.stage_laws.specs.cycle_plan.specs.Plans.{Planned}
-use Rattle.stage_laws.specs.client_wiring.specs.Wirings.{Wired, wired_of}
-use Rattle.stage_laws.specs.bench_rack.specs.Racks.{Racked, bench_at}
-use Rattle.stage_laws.specs.client_tasks.specs.Tasks.{AreSet, HasRooms}
-use Rattle.stage_laws.specs.client_seats.specs.Moves.{kinds_of}
-use Rattle.stage_laws.specs.client_seats.specs.Seatings.{HavePeriod, standing_at}
+use Rattle.cycle_plan.specs.Plans.{Planned}
+use Rattle.client_wiring.specs.Wirings.{Wired, wired_of}
+use Rattle.bench_rack.specs.Racks.{Racked, bench_at}
+use Rattle.client_tasks.specs.Tasks.{AreSet, HasRooms}
+use Rattle.client_seats.specs.Moves.{kinds_of}
+use Rattle.client_seats.specs.Seatings.{HavePeriod, standing_at}
 use Rattle.driver_words.specs.Feeding.{Fed}
-use Rattle.stage_laws.specs.stage_feeds.specs.Feeding.{Feeds}
+use Rattle.stage_feeds.specs.Feeding.{Feeds}
 use Rattle.stage_laws.specs.Known.{AreKnown}
 use Rattle.stage_laws.specs.Casts.{ArePlaces, Casts, Fills, Performs}
 use Rattle.stage_laws.specs.Stages.{Staged}

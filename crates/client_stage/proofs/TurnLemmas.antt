@@ -16,16 +16,16 @@ use Rattle.session_model.specs.Kinds.{Sound}
 use Rattle.client_kinds.specs.Scores.{Score}
 use Rattle.graph_word.specs.Publications.{IsFront}
 use Rattle.port_registry.specs.Registered.{open_client, open_clients}
-use Rattle.stage_laws.specs.cycle_plan.specs.Plans.{IsPlanned, Planned}
-use Rattle.stage_laws.specs.client_benches.specs.Seen.{MayPlay, Seen, cleared, moved_to}
-use Rattle.stage_laws.specs.client_benches.specs.declared.benches.Stint.{Stint}
-use Rattle.stage_laws.specs.client_wiring.specs.Keeping.{GoesOn}
-use Rattle.stage_laws.specs.client_wiring.specs.Wirings.{Wired, wired_of}
-use Rattle.stage_laws.specs.bench_rack.specs.Racks.{Racked, bench_at, moved}
-use Rattle.stage_laws.specs.client_tasks.specs.Tasks.{turn_of, widths_at}
-use Rattle.stage_laws.specs.client_tasks.proofs.PlanLemmas.{few-inputs, few-links, few-nodes, few-outputs}
-use Rattle.stage_laws.specs.client_seats.specs.Owners.{Owned}
-use Rattle.stage_laws.specs.client_seats.specs.Seatings.{HasBench, HavePeriod, IsIdle, IsRefused, IsSeating, standing_at}
+use Rattle.cycle_plan.specs.Plans.{IsPlanned, Planned}
+use Rattle.client_benches.specs.Seen.{MayPlay, Seen, cleared, moved_to}
+use Rattle.client_benches.specs.declared.benches.Stint.{Stint}
+use Rattle.client_wiring.specs.Keeping.{GoesOn}
+use Rattle.client_wiring.specs.Wirings.{Wired, wired_of}
+use Rattle.bench_rack.specs.Racks.{Racked, bench_at, moved}
+use Rattle.client_tasks.specs.Tasks.{turn_of, widths_at}
+use Rattle.client_tasks.proofs.PlanLemmas.{few-inputs, few-links, few-nodes, few-outputs}
+use Rattle.client_seats.specs.Owners.{Owned}
+use Rattle.client_seats.specs.Seatings.{HasBench, HavePeriod, IsIdle, IsRefused, IsSeating, standing_at}
 use Rattle.stage_laws.specs.Known.{AreKnown}
 use Rattle.stage_laws.specs.Casts.{Casts, GoesOnIn}
 use Rattle.stage_laws.specs.Stages.{Staged}

@@ -6,14 +6,14 @@ use Rattle.session_model.specs.Benches.{node_at}
 use Rattle.session_model.specs.Kinds.{Sound, first}
 use Rattle.client_kinds.specs.Scores.{Score}
 use Rattle.port_registry.specs.Registered.{open_clients}
-use Rattle.stage_laws.specs.cycle_plan.specs.Plans.{Planned}
-use Rattle.stage_laws.specs.client_benches.specs.Seen.{cleared}
-use Rattle.stage_laws.specs.client_wiring.specs.Wirings.{wired_of}
-use Rattle.stage_laws.specs.bench_rack.specs.Racks.{Racked, bench_at}
-use Rattle.stage_laws.specs.client_tasks.specs.Fillings.{AreJoints}
-use Rattle.stage_laws.specs.client_tasks.specs.Tasks.{AreSet, HasRooms}
-use Rattle.stage_laws.specs.client_seats.specs.Owners.{Owned, owner_at}
-use Rattle.stage_laws.specs.client_seats.specs.Seatings.{HasBench, IsNobodys, memory_of, standing_at}
+use Rattle.cycle_plan.specs.Plans.{Planned}
+use Rattle.client_benches.specs.Seen.{cleared}
+use Rattle.client_wiring.specs.Wirings.{wired_of}
+use Rattle.bench_rack.specs.Racks.{Racked, bench_at}
+use Rattle.client_tasks.specs.Fillings.{AreJoints}
+use Rattle.client_tasks.specs.Tasks.{AreSet, HasRooms}
+use Rattle.client_seats.specs.Owners.{Owned, owner_at}
+use Rattle.client_seats.specs.Seatings.{HasBench, IsNobodys, memory_of, standing_at}
 
 -- `Casts` of `stage_laws`, over the rack and its owners alone
 pub record HasCast (sounding : Score → Sound) (rack : Racked) (owned : Owned) (after : Racked) (owned_after : Owned) (plan : Planned) (moment : Moment) (period : ℕ) : Type 0 where

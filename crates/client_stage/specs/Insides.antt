@@ -7,7 +7,7 @@
 use Rattle.std.specs.Prelude.{◌≡◌, ℕ, ◌≤◌, ⊤, List, [], length, slice_index_or, vec_capacity, None}
 use Rattle.jack_types.specs.declared.ports.Client.{Client}
 use Rattle.session_model.specs.Samples.{silence}
-use Rattle.stage_laws.specs.cycle_plan.specs.Plans.{Planned}
+use Rattle.cycle_plan.specs.Plans.{Planned}
 use Rattle.stage_laws.specs.Stages.{Staged}
 use Rattle.stage_laws.specs.Standing.{OnStage, StandsOn}
 use Rattle.client_stage.specs.declared.parts.Parts.{Parts}

@@ -8,11 +8,11 @@ use Rattle.session_model.specs.Benches.{node_at}
 use Rattle.session_model.specs.Kinds.{Memory, Sound, first}
 use Rattle.client_kinds.specs.Scores.{Score}
 use Rattle.port_registry.specs.Registered.{open_clients}
-use Rattle.stage_laws.specs.cycle_plan.specs.Plans.{Planned}
-use Rattle.stage_laws.specs.client_benches.specs.Seen.{rested}
-use Rattle.stage_laws.specs.bench_rack.specs.Racks.{Racked, bench_at}
-use Rattle.stage_laws.specs.client_seats.specs.Owners.{Owned}
-use Rattle.stage_laws.specs.client_seats.specs.Seatings.{memory_of}
+use Rattle.cycle_plan.specs.Plans.{Planned}
+use Rattle.client_benches.specs.Seen.{rested}
+use Rattle.bench_rack.specs.Racks.{Racked, bench_at}
+use Rattle.client_seats.specs.Owners.{Owned}
+use Rattle.client_seats.specs.Seatings.{memory_of}
 use Rattle.stage_laws.specs.Stages.{Staged}
 
 -- the client of this birth is one of the plan's, and the memory is the first of its kind

@@ -4,22 +4,22 @@ ghost use Rattle.std.specs.Prelude.{◌≡◌, ◌<◌, ◌≤◌, ◌+◌, ◌^
 ghost use Rattle.std.specs.List.Sorted.{IsPermutation};
 ghost use Rattle.session_model.specs.Kinds.{Memory as MemoryValue};
 ghost use Rattle.port_registry.specs.Registered.{open_clients};
-ghost use Rattle.stage_laws.specs.client_benches.specs.Seen.{cleared};
-ghost use Rattle.stage_laws.specs.client_wiring.specs.Wirings.{wired_of};
-ghost use Rattle.stage_laws.specs.bench_rack.specs.Racks.{bench_at};
-ghost use Rattle.stage_laws.specs.client_seats.specs.Moves.{kinds_of};
-ghost use Rattle.stage_laws.specs.client_seats.specs.Seatings.{HasNoPast, HavePeriod, IsIdle, IsRefused, IsSeating, memory_of, standing_at};
+ghost use Rattle.client_benches.specs.Seen.{cleared};
+ghost use Rattle.client_wiring.specs.Wirings.{wired_of};
+ghost use Rattle.bench_rack.specs.Racks.{bench_at};
+ghost use Rattle.client_seats.specs.Moves.{kinds_of};
+ghost use Rattle.client_seats.specs.Seatings.{HasNoPast, HavePeriod, IsIdle, IsRefused, IsSeating, memory_of, standing_at};
 ghost use Rattle.stage_laws.specs.Known.{SeatsPlan};
 ghost use Rattle.client_stage.specs.Casting.{HasCast};
 ghost use Rattle.client_stage.specs.Resting.{Recalls};
 
+use bench_rack::Rack;
 use client_kinds::Guest;
+use client_seats::{Owners, seat};
+use client_tasks::{clear_all, set_tasks};
+use client_wiring::Wiring;
+use cycle_plan::Plan;
 use jack_types::Moment;
-use stage_laws::bench_rack::Rack;
-use stage_laws::client_seats::{Owners, seat};
-use stage_laws::client_tasks::{clear_all, set_tasks};
-use stage_laws::client_wiring::Wiring;
-use stage_laws::cycle_plan::Plan;
 
 /// Gives each client of a plan its bench, at its node's place, and sets what it does in the next cycle. The first `count`
 /// benches played last. Answers whether each client has a bench; where one can have none, all benches are idle, and whoever

@@ -11,7 +11,8 @@ mod stage;
 mod turning;
 
 pub use casting::cast;
+pub use device_periods;
+pub use disk_feeds;
 pub use laws::a_cast_is_the_stages;
 pub use performing::perform;
 pub use stage::Stage;
-pub use stage_laws::{device_periods, disk_feeds};

@@ -1,9 +1,9 @@
 //! What a stage is made of.
 
+use bench_rack::Rack;
 use client_kinds::Guest;
-use stage_laws::bench_rack::Rack;
-use stage_laws::client_seats::Owners;
-use stage_laws::client_wiring::Wiring;
+use client_seats::Owners;
+use client_wiring::Wiring;
 
 /// The benches of a session and who owns them; how the clients of the last plan are wired, and those of the one before it;
 /// where kept outputs stood in the cycle before the last; the greatest period, and the last one, in frames; the number of the

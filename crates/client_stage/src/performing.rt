@@ -4,25 +4,25 @@
 ghost use Rattle.std.specs.Prelude.{◌≡◌, ◌<◌, ◌≤◌, ◌+◌, ◌*◌, [], ℕ, List, None, ℤ, length};
 ghost use Rattle.jack_types.specs.declared.moments.Moment.{Moment as MomentValue};
 ghost use Rattle.session_model.specs.Samples.{silence as silent};
-ghost use Rattle.stage_laws.specs.client_wiring.specs.Wirings.{wired_of};
-ghost use Rattle.stage_laws.specs.bench_rack.specs.Racks.{Racked, bench_at};
-ghost use Rattle.stage_laws.specs.client_tasks.specs.Fillings.{AreJoints};
-ghost use Rattle.stage_laws.specs.client_tasks.specs.Tasks.{AreSet, HasRooms};
-ghost use Rattle.stage_laws.specs.client_seats.specs.Seatings.{standing_at};
-ghost use Rattle.stage_laws.specs.stage_feeds.specs.Feeding.{Feeds};
+ghost use Rattle.client_wiring.specs.Wirings.{wired_of};
+ghost use Rattle.bench_rack.specs.Racks.{Racked, bench_at};
+ghost use Rattle.client_tasks.specs.Fillings.{AreJoints};
+ghost use Rattle.client_tasks.specs.Tasks.{AreSet, HasRooms};
+ghost use Rattle.client_seats.specs.Seatings.{standing_at};
+ghost use Rattle.stage_feeds.specs.Feeding.{Feeds};
 ghost use Rattle.stage_laws.specs.Casts.{Fills, Performs};
 ghost use Rattle.stage_laws.specs.Stages.{Staged};
 
+use bench_crew::{Ensemble, Load};
+use bench_rack::Rack;
 use client_kinds::Guest;
+use client_tasks::fill_wires;
+use client_wiring::Wiring;
+use cycle_plan::Plan;
+use device_periods::Capture;
+use disk_feeds::DiskFeeds;
 use jack_host::{Gate, Source};
-use stage_laws::bench_crew::{Ensemble, Load};
-use stage_laws::bench_rack::Rack;
-use stage_laws::client_tasks::fill_wires;
-use stage_laws::client_wiring::Wiring;
-use stage_laws::cycle_plan::Plan;
-use stage_laws::device_periods::Capture;
-use stage_laws::disk_feeds::DiskFeeds;
-use stage_laws::stage_feeds::feed_all;
+use stage_feeds::feed_all;
 use std::thread::Threads;
 
 /// What a cycle of so many frames has to play. What its guests have beyond other clients, the crew adds.

@@ -1,15 +1,15 @@
 //! What is read of a stage between two cycles.
 
 use crate::stage::Stage;
+use bench_rack::Rack;
 use client_kinds::Guest;
-use stage_laws::bench_rack::Rack;
-use stage_laws::client_seats::peak;
-use stage_laws::client_wiring::Heard;
+use client_seats::peak;
+use client_wiring::Heard;
 
 impl<G: Guest> Stage<G> {
     ghost use Rattle.std.specs.Prelude.{◌≡◌, ◌≤◌, length};
     ghost use Rattle.std.specs.Option.{option_map_or};
-    ghost use Rattle.stage_laws.specs.client_seats.specs.Seatings.{memory_of};
+    ghost use Rattle.client_seats.specs.Seatings.{memory_of};
     ghost use Rattle.stage_laws.specs.Standing.{StandsOn};
 
     /// Whether each client of the plan that was played last has a bench.

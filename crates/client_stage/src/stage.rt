@@ -3,20 +3,20 @@
 ghost use Rattle.std.specs.Prelude.{◌≡◌, ◌*◌, ◌+◌, ◌-◌, ◌/◌, ◌≤◌, ◌<◌, All, IfOk, None, Some, [], ◌∷◌, length, map, min, replicate, true};
 ghost use Rattle.std.specs.Vec.{vec_capacity};
 ghost use Rattle.session_model.specs.Samples.{silence};
-ghost use Rattle.stage_laws.specs.client_benches.specs.Seen.{new_bench};
+ghost use Rattle.client_benches.specs.Seen.{new_bench};
 ghost use Rattle.client_kinds.specs.Standings.{IsPlayable};
-ghost use Rattle.stage_laws.specs.client_wiring.specs.Wirings.{wired_of};
+ghost use Rattle.client_wiring.specs.Wirings.{wired_of};
 ghost use Rattle.stage_laws.specs.Standing.{EnoughLinks, StandsOn};
 
 use crate::parts::Parts;
+use bench_crew::Ensemble;
+use bench_rack::Rack;
 use client_kinds::Guest;
+use client_seats::Owners;
+use client_wiring::Wiring;
+use cycle_plan::Plan;
 use jack_types::{Kind, Memory};
 use proof_notes::Log;
-use stage_laws::bench_crew::Ensemble;
-use stage_laws::bench_rack::Rack;
-use stage_laws::client_seats::Owners;
-use stage_laws::client_wiring::Wiring;
-use stage_laws::cycle_plan::Plan;
 use stage_laws::owning::nobody_is_known_at_first;
 use std::alloc::Global;
 use std::marker::Model;

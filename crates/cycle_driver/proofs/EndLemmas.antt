@@ -5,7 +5,7 @@
 --     ends-next, ends-all      one more, and all
 use Rattle.std.proofs.Common.{◌≡◌, ℕ, zero, suc, ◌+◌, ◌<◌, false, List, [], ◌∷◌, length, map, All, get_or, slice_set, refl, sym, ap, ◌∙◌, subst, arith}
 use Rattle.driver_words.specs.Rings.{Sending}
-use Rattle.cycle_works.specs.recorder_rings.specs.Sending.{no_ring, ring_at}
+use Rattle.recorder_rings.specs.Sending.{no_ring, ring_at}
 use Rattle.cycle_driver.specs.Gears.{Gear}
 use Rattle.cycle_driver.specs.Runs.{with_end}
 

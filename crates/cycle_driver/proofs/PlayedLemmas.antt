@@ -12,8 +12,8 @@ use Rattle.session_model.specs.Kinds.{Sound}
 use Rattle.client_kinds.specs.Scores.{Score}
 use Rattle.wave_laws.proofs.WaveSamples.{by_width}
 use Rattle.driver_words.specs.Tapes.{SameFile, Tape}
-use Rattle.cycle_works.specs.driver_laws.specs.Cycling.{MayCycle, WritesOnce}
-use Rattle.cycle_works.specs.driver_laws.specs.Drivers.{frames_run}
+use Rattle.driver_laws.specs.Cycling.{MayCycle, WritesOnce}
+use Rattle.driver_laws.specs.Drivers.{frames_run}
 use Rattle.cycle_works.specs.Gears.{Gear, driver_of}
 use Rattle.cycle_works.proofs.CycleLemmas.{later, samples-next}
 use Rattle.cycle_driver.specs.Insides.{IsOwnFile}

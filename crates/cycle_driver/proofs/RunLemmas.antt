@@ -18,9 +18,9 @@ use Rattle.driver_words.specs.Tapes.{SameFile, Tape}
 use Rattle.wave_write.proofs.TapeLemmas.{same_file-trans}
 use Rattle.cycle_driver.specs.declared.faults.CycleFault.{CycleFault as Fault}
 use Rattle.cycle_driver.specs.declared.faults.CycleFault.TheVariants.{Read, Write}
-use Rattle.cycle_works.specs.driver_laws.specs.Cycling.{CyclesOnce, FailsAtRead, FailsAtWrite, MayCycle, PutsOne, StepsOnce}
-use Rattle.cycle_works.specs.driver_laws.specs.Cycling.PutsOne.{Idle, Went, Lacked}
-use Rattle.cycle_works.specs.driver_laws.specs.Drivers.{Driver, run, turn_of}
+use Rattle.driver_laws.specs.Cycling.{CyclesOnce, FailsAtRead, FailsAtWrite, MayCycle, PutsOne, StepsOnce}
+use Rattle.driver_laws.specs.Cycling.PutsOne.{Idle, Went, Lacked}
+use Rattle.driver_laws.specs.Drivers.{Driver, run, turn_of}
 use Rattle.cycle_driver.specs.Runs.{AreNext, IsGoing, KeepsRings, SameRing, StaysInRun}
 
 put-end : {k recorder : ℕ} {active : Bool} {samples : List ℤ} (before after : Sending) (losses losses_after : List Overrun) → PutsOne k recorder active samples before after losses losses_after → before.ended ≡ false → after.ended ≡ false

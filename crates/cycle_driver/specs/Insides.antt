@@ -8,7 +8,7 @@ use Rattle.session_model.specs.Samples.{width}
 use Rattle.session_model.specs.Kinds.{Sound}
 use Rattle.client_kinds.specs.Scores.{Score}
 use Rattle.driver_words.specs.Tapes.{Tape}
-use Rattle.cycle_works.specs.driver_laws.specs.Drivers.{frames_run, greatest_period}
+use Rattle.driver_laws.specs.Drivers.{frames_run, greatest_period}
 use Rattle.cycle_works.specs.Gears.{Gear, driver_of, with_playback}
 use Rattle.cycle_driver.specs.Openings.{playback_format}
 use Rattle.cycle_driver.specs.declared.driver.Driver.TheInside.{Inside}

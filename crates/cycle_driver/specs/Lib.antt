@@ -2,4 +2,4 @@ pub mod Gears
 pub mod Openings
 pub mod Insides
 pub mod Runs
-pub use Rattle.cycle_works.specs.recorder_rings
+pub use Rattle.recorder_rings

@@ -20,7 +20,7 @@ impl<S: Source, W: Store, G: Guest + Send> Driver<S, W, G> {
     ghost use Rattle.jack_host.specs.Causes.{Rose};
     ghost use Rattle.wave_pcm.specs.Readings.{SameReading};
     ghost use Rattle.driver_words.specs.Tapes.{SameFile, Tape};
-    ghost use Rattle.cycle_works.specs.driver_laws.specs.Cycling.{CyclesOnce, FailsAtRead, FailsAtWrite, MayCycle};
+    ghost use Rattle.driver_laws.specs.Cycling.{CyclesOnce, FailsAtRead, FailsAtWrite, MayCycle};
     ghost use Rattle.cycle_works.specs.Gears.{driver_of};
 
     /// Runs the next cycle of the script: takes the newest plan and begins, steps the transport, captures, lets the clients of

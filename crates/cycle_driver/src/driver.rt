@@ -2,9 +2,9 @@
 
 use client_kinds::Guest;
 use cycle_works::Works;
-use cycle_works::playback_mix::Playback;
 use jack_host::{Source, Store};
 use jack_types::Format;
+use playback_mix::Playback;
 use std::marker::Model;
 use wave_write::WaveOut;
 

@@ -18,15 +18,15 @@ impl<S: Source, W: Store, G: Guest> Driver<S, W, G> {
     ghost use Rattle.cycle_plan.specs.Plans.{Planned};
     ghost use Rattle.record_ring.specs.contracts.consumer.Consumer.{the_row as the_consumer};
     ghost use Rattle.record_ring.specs.contracts.producer.Producer.{the_row as the_producer};
-    ghost use Rattle.cycle_works.specs.recorder_rings.specs.Sending.{consumer_at, ring_at};
+    ghost use Rattle.recorder_rings.specs.Sending.{consumer_at, ring_at};
     ghost use Rattle.cycle_driver.specs.contracts.driver.Driver.{the_row};
     ghost use Rattle.std.specs.Option.{ForSome};
     ghost use Rattle.jack_host.specs.Causes.{Rose};
     ghost use Rattle.driver_words.specs.Tapes.{HasSamples, IsCut, Tape};
     ghost use Rattle.driver_words.specs.Feeding.{disk_at, played_at, producer_at};
     ghost use Rattle.midi_player.specs.Standings.{IsLawful};
-    ghost use Rattle.cycle_works.specs.driver_laws.specs.Drivers.{log_in, peak_in};
-    ghost use Rattle.cycle_works.specs.driver_laws.specs.Keeping.{AreOfCalls};
+    ghost use Rattle.driver_laws.specs.Drivers.{log_in, peak_in};
+    ghost use Rattle.driver_laws.specs.Keeping.{AreOfCalls};
     ghost use Rattle.cycle_works.specs.Gears.{driver_of};
     ghost use Rattle.cycle_driver.specs.Openings.{playback_format};
 

@@ -1,4 +1,4 @@
-//! How the driver gives way where a ring is full.
+//! How the driver gives way where a recorder's ring is full, or a disk's ring empty.
 
 ghost use Rattle.std.specs.Prelude.{◌≡◌, length};
 
@@ -7,10 +7,10 @@ use client_kinds::Guest;
 use jack_host::{Source, Store};
 use std::{hint, thread};
 
-// How often the driver lets another thread run at most until each ring has room. With its looks in between that takes some 25 to
+// How often the driver lets another thread run at most until each ring goes on. With its looks in between that takes some 25 to
 // 200 ms on an idle machine, by how long its processor pauses.
 const PATIENCE: u32 = 200;
-// For how many of these it looks once behind each, so that a recorder on the same processor goes on at once.
+// For how many of these it looks once behind each, so that a file on the same processor goes on at once.
 const EAGER: u32 = 100;
 // How often it looks behind each later one.
 const LOOKS: u32 = 32_000;
@@ -30,18 +30,52 @@ fn has_full_ring<S: Source, W: Store, G: Guest>(driver: &mut Driver<S, W, G>, re
     false
 }
 
-/// Looks at most so many times until the ring of each recorder has room, and answers whether it has.
-fn has_room_soon<S: Source, W: Store, G: Guest>(
+/// Whether the ring of a disk has no block, and its file is not over. There are so many disks.
+///
+/// A file that is over holds nobody up, since its ring's end stands, nor does a disk that nobody plays, since its ring stays full.
+fn has_empty_ring<S: Source, W: Store, G: Guest>(driver: &mut Driver<S, W, G>, disks: u8) -> bool
+    requires all { length driver.old.disks.disks ≡ disks }
+    ensures { driver.new ≡ driver.old }
+{
+    for disk in 0..disks {
+        if driver.disk_consumer(disk).is_empty() {
+            return true;
+        }
+    }
+    false
+}
+
+/// Whether a recorder or a disk is behind the cycles, so that the next one may lose a block or lack one.
+fn is_held_up<S: Source, W: Store, G: Guest>(
     driver: &mut Driver<S, W, G>,
     recorders: u8,
+    disks: u8,
+) -> bool
+    requires all { length driver.old.rings.rings ≡ recorders }
+    requires all_disks { length driver.old.disks.disks ≡ disks }
+    ensures { driver.new ≡ driver.old }
+{
+    let is_full = has_full_ring(driver, recorders);
+    if is_full {
+        return true;
+    }
+    has_empty_ring(driver, disks)
+}
+
+/// Looks at most so many times until no ring holds the driver up, and answers whether it goes on.
+fn goes_on_soon<S: Source, W: Store, G: Guest>(
+    driver: &mut Driver<S, W, G>,
+    recorders: u8,
+    disks: u8,
     looks: u32,
 ) -> bool
     requires all { length driver.old.rings.rings ≡ recorders }
+    requires all_disks { length driver.old.disks.disks ≡ disks }
     ensures { driver.new ≡ driver.old }
 {
     for _ in 0..looks {
-        let is_full = has_full_ring(driver, recorders);
-        if !is_full {
+        let is_held = is_held_up(driver, recorders, disks);
+        if !is_held {
             return true;
         }
         hint::spin_loop();
@@ -54,18 +88,20 @@ fn looks_in(turn: u32) -> u32 {
     if turn < EAGER { 1 } else { LOOKS }
 }
 
-/// Gives way until the ring of each recorder has room, but only so often, and not while the driver rests from giving way. Answers
-/// for how many cycles it rests from now on: for none, where the rings have room.
+/// Gives way until the ring of each recorder has room and that of each disk a block or its end, but only so often, and not while
+/// the driver rests from giving way. Answers for how many cycles it rests from now on: for none, where no ring holds it up.
 pub(crate) fn give_way<S: Source, W: Store, G: Guest>(
     driver: &mut Driver<S, W, G>,
     recorders: u8,
+    disks: u8,
     rest: u32,
 ) -> u32
     requires all { length driver.old.rings.rings ≡ recorders }
+    requires all_disks { length driver.old.disks.disks ≡ disks }
     ensures { driver.new ≡ driver.old }
 {
-    let is_full = has_full_ring(driver, recorders);
-    if !is_full {
+    let is_held = is_held_up(driver, recorders, disks);
+    if !is_held {
         return 0;
     }
     if rest > 0 {
@@ -73,8 +109,8 @@ pub(crate) fn give_way<S: Source, W: Store, G: Guest>(
     }
     for turn in 0..PATIENCE {
         thread::yield_now();
-        let has_room = has_room_soon(driver, recorders, looks_in(turn));
-        if has_room {
+        let goes_on = goes_on_soon(driver, recorders, disks, looks_in(turn));
+        if goes_on {
             return 0;
         }
     }

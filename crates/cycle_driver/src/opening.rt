@@ -1,19 +1,19 @@
 //! How a driver is made.
 
 ghost use Rattle.std.specs.Prelude.{◌≡◌, ◌<◌, ◌≤◌, IfOk, None};
-ghost use Rattle.cycle_works.specs.driver_laws.specs.Drivers.{greatest_period};
+ghost use Rattle.driver_laws.specs.Drivers.{greatest_period};
 ghost use Rattle.session_model.specs.Grammar.{IsScript};
 
 use crate::driver::Driver;
 use client_kinds::Guest;
 use cycle_plan::Plan;
 use cycle_works::Works;
-use cycle_works::playback_mix::Playback;
 use cycle_works::script_needs::greatest_period;
 use cycle_works::session_script::Script;
 use graph_word::Reader;
 use jack_host::{Source, Store};
 use jack_types::{Format, Memory};
+use playback_mix::Playback;
 use std::alloc::Global;
 use wave_pcm::Wave;
 
@@ -62,12 +62,12 @@ fn around<S: Source, W: Store, G: Guest>(
 impl<S: Source, W: Store, G: Guest> Driver<S, W, G> {
     ghost use Rattle.std.specs.Prelude.{◌≡◌, ◌*◌, ◌≤◌, [], IfErr, IfOk, false, length, map};
     ghost use Rattle.session_model.specs.Scripts.{turns};
-    ghost use Rattle.cycle_works.specs.driver_laws.specs.Drivers.{greatest_period};
-    ghost use Rattle.cycle_works.specs.driver_laws.specs.Openings.{IsNew};
-    ghost use Rattle.cycle_works.specs.recorder_rings.specs.Openings.{IsNew as AreNew};
-    ghost use Rattle.cycle_works.specs.task_laws.specs.Calls.{guests_needed};
+    ghost use Rattle.driver_laws.specs.Drivers.{greatest_period};
+    ghost use Rattle.driver_laws.specs.Openings.{IsNew};
+    ghost use Rattle.recorder_rings.specs.Openings.{IsNew as AreNew};
+    ghost use Rattle.task_laws.specs.Calls.{guests_needed};
     ghost use Rattle.cycle_works.specs.Gears.{driver_of};
-    ghost use Rattle.cycle_works.specs.disk_feeds.specs.Openings.{IsNew as AreNewFeeds};
+    ghost use Rattle.disk_feeds.specs.Openings.{IsNew as AreNewFeeds};
     ghost use Rattle.session_model.specs.Grammar.{IsScript};
 
     /// The driver of a script's cycles, with these guests, over a capture of the script's channels of which nothing was read.

@@ -6,7 +6,7 @@ ghost use Rattle.wave_pcm.specs.Readings.{SameReading};
 ghost use Rattle.driver_words.specs.Tapes.{Tape};
 ghost use Rattle.cycle_driver.specs.declared.faults.CycleFault.{CycleFault as Fault};
 ghost use Rattle.cycle_driver.specs.Gears.{driver_of};
-ghost use Rattle.cycle_works.specs.driver_laws.specs.Cycling.{CyclesMany, FailsAtRead};
+ghost use Rattle.driver_laws.specs.Cycling.{CyclesMany, FailsAtRead};
 ghost use Rattle.cycle_driver.specs.Runs.{AreNext, BreaksAtWrite, IsGoing, RunsInto, StaysInRun};
 
 use crate::giving::give_way;
@@ -17,17 +17,19 @@ use std::thread::Threads;
 
 /// Runs so many cycles, one after another, until one fails. Before each it calls the gate, with the cycle's number.
 ///
-/// Where a ring is full before a cycle, it gives way for a bounded time, so that the recorder may take a block. It waits for
-/// nobody, and takes no memory.
+/// Where a recorder's ring is full before a cycle, or a disk's ring is empty before its file's end, it gives way for a bounded time,
+/// so that the file may go on. It waits for nobody, and takes no memory.
 pub fn run_cycles<S: Source, W: Store, G: Guest + Send, T: Threads + Sync, K: Gate>(
     driver: &mut Driver<S, W, G>,
     threads: &T,
     gate: &K,
     recorders: u8,
+    disks: u8,
     cycles: u32,
     freewheel: bool,
 ) -> Result<(), CycleFault>
     requires many { length driver.old.rings.rings ≡ recorders }
+    requires many_disks { length driver.old.disks.disks ≡ disks }
     requires next { AreNext cycles freewheel (driver_of G.sound driver.old) }
     requires going { IsGoing (driver_of G.sound driver.old) }
     ensures ok { OnOk result (CyclesMany cycles (driver_of G.sound driver.old) (driver_of G.sound driver.new)) }
@@ -41,7 +43,7 @@ pub fn run_cycles<S: Source, W: Store, G: Guest + Send, T: Threads + Sync, K: Ga
 {
     let mut rest = 0;
     for cycle in 0..cycles {
-        rest = give_way(driver, recorders, rest);
+        rest = give_way(driver, recorders, disks, rest);
         let number = u32::try_from(driver.numbers().len()).unwrap_or(u32::MAX);
         gate.before_cycle(number.saturating_add(1));
         match driver.cycle(threads, gate, freewheel) {

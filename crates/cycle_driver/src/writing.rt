@@ -8,8 +8,8 @@ ghost use Rattle.driver_words.specs.Tapes.{HasSamples, HasUnfinished, SameFile};
 
 use client_kinds::Guest;
 use cycle_works::Works;
-use cycle_works::playback_mix::Playback;
 use jack_host::{Source, Store, WriteFailed};
+use playback_mix::Playback;
 use wave_write::WaveOut;
 
 /// Mixes a period and appends it to the file.

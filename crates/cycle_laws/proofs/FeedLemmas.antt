@@ -24,7 +24,7 @@ use Rattle.plan_transport.specs.driver_laws.specs.Cycling.{MayCycle}
 use Rattle.plan_transport.specs.driver_laws.specs.Drivers.{Driver, run, turn_of}
 use Rattle.plan_transport.specs.driver_laws.specs.Keeping.{AreOfCalls}
 use Rattle.plan_transport.specs.driver_laws.specs.Playing.{fed_now, with_fed}
-use Rattle.play_laws.specs.disk_feeds.specs.Cycling.{GetsAll, HasFeeds, is_fed}
+use Rattle.disk_feeds.specs.Cycling.{GetsAll, HasFeeds, is_fed}
 use Rattle.script_needs.specs.task_laws.specs.Calls.{HasOpened}
 use Rattle.script_needs.specs.task_laws.proofs.CallLemmas.{changes-all, planned-lawful}
 use Rattle.script_needs.specs.task_laws.proofs.KindLemmas.{opened-kind}

@@ -24,9 +24,9 @@ use Rattle.plan_transport.specs.driver_laws.specs.Drivers.{greatest_period, over
 use Rattle.plan_transport.specs.driver_laws.specs.Keeping.{AreOfCalls}
 use Rattle.driver_words.specs.Feeding.{AreUpTo, Fed}
 use Rattle.driver_words.specs.Hearings.{log_at}
-use Rattle.play_laws.specs.midi_wiring.specs.Hearings.{AreCarried}
-use Rattle.play_laws.specs.client_seats.specs.Moves.{kinds_of}
-use Rattle.play_laws.specs.client_seats.specs.Seatings.{IsRefused, memory_of}
+use Rattle.midi_wiring.specs.Hearings.{AreCarried}
+use Rattle.client_seats.specs.Moves.{kinds_of}
+use Rattle.client_seats.specs.Seatings.{IsRefused, memory_of}
 use Rattle.cycle_blocks.specs.recorder_rings.specs.Sending.{Sent, channels_at, no_ring, ring_at}
 use Rattle.script_needs.specs.task_laws.specs.Calls.{guests_needed, open_kinds}
 use Rattle.play_laws.specs.Plays.{PerformsPlan, StandsOn}

@@ -22,8 +22,8 @@ use Rattle.plan_transport.specs.driver_laws.specs.Cycling.{MayCycle, StepsOnce}
 use Rattle.plan_transport.specs.driver_laws.specs.Drivers.{Driver, bench_at, content_now, memory_in}
 use Rattle.plan_transport.specs.driver_laws.specs.Keeping.{AreOfCalls}
 use Rattle.plan_transport.specs.driver_laws.specs.Playing.{PlaysOwn, own_course, settled_now}
-use Rattle.play_laws.specs.midi_wiring.specs.Hearings.{HearsPlan}
-use Rattle.play_laws.specs.client_seats.proofs.SeatLemmas.{bench-within}
+use Rattle.midi_wiring.specs.Hearings.{HearsPlan}
+use Rattle.client_seats.proofs.SeatLemmas.{bench-within}
 use Rattle.play_laws.specs.Plays.{PlaysPlan, bench_on, with_log}
 use Rattle.cycle_laws.specs.Gears.{Gear, IsGear, driver_of}
 use Rattle.cycle_laws.specs.Turnings.{Turns}

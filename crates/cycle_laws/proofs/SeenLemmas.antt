@@ -23,7 +23,7 @@ use Rattle.session_laws.proofs.ActivationLemmas.{get_or-map_below, length-map_be
 use Rattle.plan_transport.specs.client_benches.specs.Seen.{Seen, bench_in, new_bench}
 use Rattle.driver_words.specs.Hearings.{Heard, log_at}
 use Rattle.plan_transport.specs.driver_laws.specs.Drivers.{Remembered, bench_at, memory_in}
-use Rattle.play_laws.specs.client_seats.specs.Seatings.{memories, memory_of}
+use Rattle.client_seats.specs.Seatings.{memories, memory_of}
 use Rattle.play_laws.specs.Plays.{bench_of, bench_on, with_log}
 use Rattle.cycle_laws.specs.Gears.{Gear, driver_of}
 

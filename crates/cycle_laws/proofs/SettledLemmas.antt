@@ -31,10 +31,10 @@ use Rattle.plan_transport.specs.driver_laws.specs.Drivers.{Driver, bench_at, con
 use Rattle.plan_transport.specs.driver_laws.specs.Keeping.{AreOfCalls}
 use Rattle.plan_transport.specs.driver_laws.specs.Playing.{capture_now, fed_now, kept_now, moment_now, settled_last, settled_now, with_fed}
 use Rattle.playback_laws.specs.client_wiring.specs.Keeping.{GoesOn}
-use Rattle.play_laws.specs.midi_wiring.specs.Keeping.{BringsCarried, Gave}
-use Rattle.play_laws.specs.client_seats.specs.Seatings.{memory_of}
-use Rattle.play_laws.specs.client_seats.proofs.SeatLemmas.{bench-within}
-use Rattle.play_laws.specs.event_laws.specs.Machine.{BringsEvents}
+use Rattle.midi_wiring.specs.Keeping.{BringsCarried, Gave}
+use Rattle.client_seats.specs.Seatings.{memory_of}
+use Rattle.client_seats.proofs.SeatLemmas.{bench-within}
+use Rattle.event_laws.specs.Machine.{BringsEvents}
 use Rattle.play_laws.specs.Plays.{IsSettledOn, bench_of, with_log}
 use Rattle.cycle_laws.specs.Gears.{Gear, IsGear, IsInStep, driver_of}
 use Rattle.cycle_laws.specs.Turnings.{Turns}

@@ -27,7 +27,7 @@ use Rattle.plan_transport.specs.driver_laws.specs.Keeping.{AreOfCalls}
 use Rattle.plan_transport.specs.driver_laws.specs.Playing.{adopted_now, last_number, moment_now}
 use Rattle.cycle_blocks.specs.recorder_rings.specs.Sending.{channels_at, no_ring, ring_at}
 use Rattle.cycle_blocks.specs.Blocks.{block_by, is_taped}
-use Rattle.play_laws.specs.disk_feeds.specs.Cycling.{is_fed}
+use Rattle.disk_feeds.specs.Cycling.{is_fed}
 use Rattle.cycle_laws.specs.Gears.{Gear, IsGear, driver_of}
 use Rattle.cycle_laws.specs.Turnings.{Turns}
 use Rattle.cycle_laws.proofs.BlockLemmas.{block-same, frames-of_freewheel, frames-of_run, left-read, left-rest}

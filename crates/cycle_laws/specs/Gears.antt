@@ -20,14 +20,14 @@ use Rattle.driver_words.specs.Tapes.{Tape}
 use Rattle.playback_laws.specs.device_periods.specs.Captures.{Captured}
 use Rattle.plan_transport.specs.driver_laws.specs.Drivers.{Driver, Remembered, frames_run, greatest_period, turn_of}
 use Rattle.plan_transport.specs.driver_laws.specs.Keeping.{AreOfCalls}
-use Rattle.play_laws.specs.client_seats.specs.Moves.{kinds_of}
-use Rattle.play_laws.specs.client_seats.specs.Seatings.{memories, memory_of}
+use Rattle.client_seats.specs.Moves.{kinds_of}
+use Rattle.client_seats.specs.Seatings.{memories, memory_of}
 use Rattle.cycle_blocks.specs.recorder_rings.specs.Sending.{Sent}
 use Rattle.script_needs.specs.task_laws.specs.Calls.{guests_needed, open_kinds}
 use Rattle.play_laws.specs.Plays.{bench_on, with_log}
 use Rattle.driver_words.specs.Hearings.{Heard, log_at}
 use Rattle.driver_words.specs.Feeding.{AreUpTo, Fed}
-use Rattle.play_laws.specs.midi_wiring.specs.Hearings.{AreCarried}
+use Rattle.midi_wiring.specs.Hearings.{AreCarried}
 pub use Rattle.play_laws.specs.Plays.{OnStage, StandsOn}
 
 pub record Gear : Type 0 where

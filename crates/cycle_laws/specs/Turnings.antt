@@ -15,9 +15,9 @@ use Rattle.wave_pcm.specs.Readings.{SameReading}
 use Rattle.playback_laws.specs.device_periods.specs.Captures.{Reads}
 use Rattle.plan_transport.specs.driver_laws.specs.Keeping.{AreOfCalls}
 use Rattle.plan_transport.specs.driver_laws.specs.Playing.{last_number}
-use Rattle.play_laws.specs.disk_feeds.specs.Cycling.{GetsAll}
-use Rattle.play_laws.specs.midi_wiring.specs.Hearings.{AreCarried, HearsPlan}
-use Rattle.play_laws.specs.client_seats.specs.Moves.{kinds_of}
+use Rattle.disk_feeds.specs.Cycling.{GetsAll}
+use Rattle.midi_wiring.specs.Hearings.{AreCarried, HearsPlan}
+use Rattle.client_seats.specs.Moves.{kinds_of}
 use Rattle.play_laws.specs.Plays.{PerformsPlan, StandsOn}
 use Rattle.cycle_blocks.specs.Blocks.{Sends}
 use Rattle.cycle_laws.specs.Gears.{Gear, driver_of}

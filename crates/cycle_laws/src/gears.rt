@@ -16,16 +16,16 @@ ghost use Rattle.cycle_blocks.specs.Blocks.{MaySend};
 ghost use Rattle.cycle_laws.specs.Gears.{Gear, IsGear, driver_of};
 ghost use Rattle.cycle_laws.specs.Turnings.{Turns};
 
+use disk_feeds::{
+    a_cycle_gets_one_block_of_each_ring, a_cycle_leaves_the_disks_ready,
+    a_player_is_given_what_was_got,
+};
+use midi_wiring::laws::a_feedback_edge_brings_what_was_carried;
 use plan_transport::calls_have_targets;
 use plan_transport::driver_laws::courses::a_script_with_disks_keeps_its_period;
 use plan_transport::driver_laws::cycling::content_is_of_calls;
 use play_laws::a_plan_of_a_scripts_calls_is_not_refused;
-use play_laws::disk_feeds::{
-    a_cycle_gets_one_block_of_each_ring, a_cycle_leaves_the_disks_ready,
-    a_player_is_given_what_was_got,
-};
 use play_laws::laws::{a_stage_plays_its_plan, memories_never_go};
-use play_laws::midi_wiring::laws::a_feedback_edge_brings_what_was_carried;
 use playback_laws::client_wiring::laws::the_device_has_its_ports;
 use playback_laws::mixes::the_mix_is_played;
 use playback_laws::periods::a_period_is_what_the_capture_has;

@@ -2,8 +2,3 @@
 #![tactic(auto)]
 
 pub mod gears;
-
-pub use cycle_blocks;
-pub use cycle_blocks::recorder_rings;
-pub use plan_transport;
-pub use playback_laws::playback_mix;

@@ -35,7 +35,7 @@ use Rattle.client_stage.specs.client_seats.specs.Seatings.{memories, owned_memor
 use Rattle.client_stage.specs.device_periods.specs.Captures.{Captured}
 use Rattle.midi_stage.specs.driver_laws.specs.Drivers.{IsOwnDisk, IsOwnRing, Remembered, frames_run, channels_on, greatest_period, turn_of}
 use Rattle.midi_stage.specs.driver_laws.specs.Openings.{IsNew}
-use Rattle.cycle_laws.specs.recorder_rings.specs.Sending.{no_ring}
+use Rattle.recorder_rings.specs.Sending.{no_ring}
 use Rattle.midi_stage.specs.task_laws.specs.Calls.{guests_needed, open_kinds}
 use Rattle.driver_words.specs.Feeding.{AreForPeriods, no_ring as no_disk}
 use Rattle.driver_words.specs.Hearings.{Heard, log_at}

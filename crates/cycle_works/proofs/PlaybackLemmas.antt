@@ -11,7 +11,7 @@ use Rattle.session_model.specs.Kinds.{Sound}
 use Rattle.client_kinds.specs.Scores.{Score}
 use Rattle.session_laws.proofs.SequentialLemmas.{length-below}
 use Rattle.midi_stage.specs.cycle_plan.specs.Plans.{Planned}
-use Rattle.cycle_laws.specs.playback_mix.specs.Mixes.{channel_mix}
+use Rattle.playback_mix.specs.Mixes.{channel_mix}
 use Rattle.driver_words.specs.Tapes.{Tape}
 use Rattle.cycle_laws.specs.Gears.{Gear, IsGear}
 use Rattle.cycle_laws.specs.Turnings.{Turns}

@@ -11,7 +11,7 @@ use Rattle.std.specs.Prelude.{◌≡◌, ℕ, ◌+◌, ◌++◌, ◌∷◌, true
 use Rattle.session_model.specs.Samples.{below, interleaved}
 use Rattle.graph_word.specs.Publications.{Begins, Reading, Takes}
 use Rattle.driver_words.specs.Tapes.{Tape}
-use Rattle.cycle_laws.specs.playback_mix.specs.Mixes.{channel_mix}
+use Rattle.playback_mix.specs.Mixes.{channel_mix}
 pub use Rattle.cycle_laws.specs.Gears.{Gear, IsGear, IsServed, driver_of}
 pub use Rattle.cycle_laws.specs.Turnings.{Turns}
 

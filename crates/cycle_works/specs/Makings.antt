@@ -23,8 +23,8 @@ use Rattle.driver_words.specs.Feeding.{Fed}
 use Rattle.midi_stage.specs.Standing.{OnMidi, quiet_heard}
 use Rattle.client_stage.specs.device_periods.specs.Captures.{Captured}
 use Rattle.midi_stage.specs.driver_laws.specs.Drivers.{greatest_period}
-use Rattle.cycle_laws.specs.recorder_rings.specs.Openings.{IsNew}
-use Rattle.cycle_laws.specs.recorder_rings.specs.Sending.{Sent}
+use Rattle.recorder_rings.specs.Openings.{IsNew}
+use Rattle.recorder_rings.specs.Sending.{Sent}
 use Rattle.midi_stage.specs.task_laws.specs.Calls.{open_kinds}
 use Rattle.cycle_laws.specs.Gears.{OnStage, StandsOn}
 use Rattle.cycle_works.specs.declared.opening.Lists.{Lists}

@@ -17,7 +17,7 @@ impl<S: Source, G: Guest> Works<S, G> {
     ghost use Rattle.midi_stage.specs.cycle_plan.specs.Plans.{Planned};
     ghost use Rattle.record_ring.specs.contracts.consumer.Consumer.{the_row as the_consumer};
     ghost use Rattle.record_ring.specs.contracts.producer.Producer.{the_row as the_producer};
-    ghost use Rattle.cycle_laws.specs.recorder_rings.specs.Sending.{consumer_at, ring_at};
+    ghost use Rattle.recorder_rings.specs.Sending.{consumer_at, ring_at};
     ghost use Rattle.cycle_works.specs.contracts.works.Works.{the_row};
     ghost use Rattle.driver_words.specs.Feeding.{disk_at, played_at, producer_at};
     ghost use Rattle.midi_player.specs.Standings.{IsLawful};

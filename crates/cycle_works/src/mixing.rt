@@ -2,8 +2,8 @@
 
 use crate::works::Works;
 use client_kinds::Guest;
-use cycle_laws::playback_mix::Playback;
 use jack_host::Source;
+use playback_mix::Playback;
 
 impl<S: Source, G: Guest> Works<S, G> {
     ghost use Rattle.std.specs.Prelude.{◌≡◌, ◌≤◌, true};

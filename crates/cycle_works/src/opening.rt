@@ -14,8 +14,6 @@ use client_kinds::Guest;
 use client_stage::Stage;
 use client_stage::device_periods::Capture;
 use client_stage::disk_feeds::{DiskFeeds, new_disks_are_ready};
-use cycle_laws::plan_transport::PlanTransport;
-use cycle_laws::recorder_rings::RecorderRings;
 use graph_word::Reader;
 use jack_host::Source;
 use jack_types::{Memory, Moment};
@@ -25,7 +23,9 @@ use midi_stage::laws::what_is_carried;
 use midi_stage::script_needs::{cycles, greatest_period, open_kinds};
 use midi_stage::session_script::Script;
 use midi_stage::task_laws::scripts::kinds_are_of_the_script;
+use plan_transport::PlanTransport;
 use proof_notes::Log;
+use recorder_rings::RecorderRings;
 use std::alloc::Global;
 use wave_pcm::Wave;
 
@@ -280,7 +280,7 @@ impl<S: Source, G: Guest> Works<S, G> {
     ghost use Rattle.session_model.specs.Scripts.{turns};
     ghost use Rattle.midi_stage.specs.driver_laws.specs.Drivers.{greatest_period};
     ghost use Rattle.midi_stage.specs.driver_laws.specs.Openings.{IsNew};
-    ghost use Rattle.cycle_laws.specs.recorder_rings.specs.Openings.{IsNew as AreNew};
+    ghost use Rattle.recorder_rings.specs.Openings.{IsNew as AreNew};
     ghost use Rattle.midi_stage.specs.task_laws.specs.Calls.{guests_needed};
     ghost use Rattle.cycle_laws.specs.Gears.{driver_of};
     ghost use Rattle.client_stage.specs.disk_feeds.specs.Openings.{IsNew as AreNewFeeds};

@@ -4,13 +4,13 @@ use client_kinds::Guest;
 use client_stage::Stage;
 use client_stage::device_periods::Capture;
 use client_stage::disk_feeds::DiskFeeds;
-use cycle_laws::plan_transport::PlanTransport;
-use cycle_laws::recorder_rings::RecorderRings;
 use graph_word::Reader;
 use jack_host::Source;
 use jack_types::Moment;
 use midi_stage::MidiStage;
 use midi_stage::cycle_plan::Plan;
+use plan_transport::PlanTransport;
+use recorder_rings::RecorderRings;
 use wave_pcm::Wave;
 
 /// The end of the publication that reads plans; the stage on which their clients play, and beside it what they play of MIDI; the

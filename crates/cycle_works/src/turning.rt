@@ -21,13 +21,13 @@ use crate::parts::Parts;
 use crate::works::Works;
 use client_kinds::Guest;
 use client_stage::device_periods::Capture;
-use cycle_laws::cycle_blocks::send_blocks;
+use cycle_blocks::send_blocks;
 use cycle_laws::gears::{a_cycle_leaves_the_parts, a_cycle_may_be_played};
-use cycle_laws::plan_transport::step_by_plan;
 use graph_word::Reader;
 use jack_host::{Gate, ReadFailed, Source};
 use midi_stage::cycle_plan::Plan;
 use midi_stage::laws::what_is_carried;
+use plan_transport::step_by_plan;
 use std::thread::Threads;
 
 /// The number that the last cycle took, 0 before the first.

@@ -1,6 +1,8 @@
 -- A turn of the player, and the meeting behind it.
 --     turns-pair, breaks-pair, either-pair      and behind a turn
+--     when-ok, when-err      what an answer says that is known
 --     reads-ahead, breaks-ahead      both together
+--     tells-format, ahead-format, breaks-format      the file's format stays
 use Rattle.std.proofs.Common.{◌≡◌, ℕ, true, false, Bool, List, [], ◌∷◌, length, Result, Ok, Err, refl, sym, ◌∙◌, ap, subst}
 use Rattle.std.specs.Prelude.{IfOk, OnErr}
 use Rattle.session_model.specs.Courses.{DiskFile}
@@ -69,6 +71,12 @@ pub either-pair : {E : Type 0} (result : Result TurnEnd E) (most : ℕ) (before 
 either-pair (Ok turn) most before after getting turns breaks pair = turns-pair most before after turn getting turns pair
 either-pair (Err error) most before after getting turns breaks pair = breaks-pair most before after getting breaks pair
 
+pub when-ok : {T E : Type 0} (result : Result T E) (value : T) (P : T → Type 0) → result ≡ Ok value → IfOk result P → P value
+when-ok {T} {E} result value P is holds = subst (λ (r : Result T E). IfOk r P) is holds
+
+pub when-err : {T E : Type 0} (result : Result T E) (error : E) (P : Type 0) → result ≡ Err error → OnErr result P → P
+when-err {T} {E} result error P is holds = subst (λ (r : Result T E). OnErr r P) is holds
+
 -- ---- the file
 
 -- the ring is as before, but for what its end knows
@@ -111,3 +119,20 @@ breaks-ahead most before got broken after got_after breaks tells = record {
       let there : HasPut file period broken.sending = broken-put file period before plays most broken breaks in
       subst (λ (p : Playing). HasPut file period p.sending) (sym (told tells)) record { blocks = there.blocks; within = there.within; whole = there.whole };
 }
+
+-- ---- the format
+
+pub tells-format : (before after : Playing) (got got_after : Getting) → TellsAhead before got after got_after → after.format ≡ before.format
+tells-format before after got got_after tells = ap (λ (p : Playing). p.format) tells.same
+
+how-format : (most count : ℕ) (passed after : Playing) (turn : TurnEnd) → HowEnds most count passed after turn → after.format ≡ passed.format
+how-format most count passed after (Put n) how = ap (λ (p : Playing). p.format) how.3
+how-format most count passed after Ended how = ap (λ (p : Playing). p.format) how.2
+how-format most count passed after (Full sent taken) how = ap (λ (p : Playing). p.format) how.4
+
+pub ahead-format : (most : ℕ) (before after : Playing) (got got_after : Getting) → ReadsAhead most before got after got_after → after.format ≡ before.format
+ahead-format most before after got got_after reads =
+    tells-format reads.turned after got got_after reads.tells ∙ how-format most reads.turns.count reads.turns.passed reads.turned reads.turn reads.turns.ends ∙ reads.turns.puts.format
+
+pub breaks-format : (most : ℕ) (before after : Playing) (got got_after : Getting) → BreaksAhead most before got after got_after → after.format ≡ before.format
+breaks-format most before after got got_after breaks = tells-format breaks.turned after got got_after breaks.tells ∙ breaks.breaks.format

@@ -2,5 +2,7 @@
 #![tactic(auto)]
 
 mod reader;
+mod serving;
 
 pub use reader::DiskReader;
+pub use serving::{has_failed, read_all};

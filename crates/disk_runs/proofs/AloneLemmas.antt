@@ -12,9 +12,8 @@ use Rattle.disk_turns.specs.Segments.{IsFilled}
 use Rattle.disk_turns.specs.Standing.{StandsAt}
 use Rattle.driver_laws.specs.Drivers.{underruns_on}
 use Rattle.run_laws.specs.Runs.{PlaysAll}
-use Rattle.run_laws.specs.Sessions.{Session}
-use Rattle.disk_runs.specs.Counts.{DiskSerial, DisksSerial}
-use Rattle.disk_runs.specs.Readings.{IsDisk}
+use Rattle.run_laws.specs.Sessions.{IsDisk, Session}
+use Rattle.run_laws.specs.SerialRuns.{DiskSerial, DisksSerial}
 use Rattle.disk_runs.specs.Rests.{AreFilled, DisksHaveRoom, DisksTell}
 
 module _ (session after : Session) where

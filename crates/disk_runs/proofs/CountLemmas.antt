@@ -22,9 +22,9 @@ use Rattle.driver_laws.specs.Drivers.{Driver, graph_now, has_disk, run, underrun
 use Rattle.driver_laws.specs.Keeping.{Fits}
 use Rattle.driver_laws.proofs.PlaceLemmas.{there_too}
 use Rattle.driver_laws.proofs.StepLemmas.{ran}
-use Rattle.run_laws.specs.Sessions.{IsFor, IsOne, Session}
-use Rattle.disk_runs.specs.Counts.{DiskSerial, DisksSerial, IsSerialSoFar, TurnsDisks}
-use Rattle.disk_runs.specs.Readings.{IsDisk}
+use Rattle.run_laws.specs.Sessions.{IsDisk, IsFor, IsOne, Session}
+use Rattle.run_laws.specs.SerialRuns.{DiskSerial, DisksSerial}
+use Rattle.disk_runs.specs.Counts.{IsSerialSoFar, TurnsDisks}
 use Rattle.disk_runs.proofs.FileLemmas.{fits-put}
 use Rattle.disk_runs.proofs.MissLemmas.{own-more}
 use Rattle.disk_runs.proofs.PlaceLemmas.{Stepped, as-many, long, long-after, stepped}

@@ -18,9 +18,9 @@ use Rattle.disk_files.specs.Readers.{ReadsAhead, TellsAhead}
 use Rattle.disk_turns.proofs.TurnLemmas.{plays-told}
 use Rattle.driver_laws.specs.Keeping.{FitsDisk, file_block}
 use Rattle.run_laws.specs.Runs.{DisksAtRest, PlaysAll, PutsFile}
-use Rattle.run_laws.specs.Sessions.{IsOne, IsOver, Session}
+use Rattle.run_laws.specs.Sessions.{IsDisk, IsOne, IsOver, Session}
 use Rattle.run_laws.proofs.PlaceLemmas.{front_there, mapped_there}
-use Rattle.disk_runs.specs.Readings.{DisksBroke, DisksRead, DisksServed, DisksTold, IsDisk, NoneFailed, ServedDisk, ServedOff, ServedOn, TriedDisk}
+use Rattle.disk_runs.specs.Readings.{DisksBroke, DisksRead, DisksServed, DisksTold, NoneFailed, ServedDisk, ServedOff, ServedOn, TriedDisk}
 use Rattle.disk_runs.specs.Rests.{DiskTells, DisksTell, PutsAll}
 use Rattle.disk_runs.proofs.PlaceLemmas.{Stepped, both-by, both-of, long, long-after, stepped}
 use Rattle.disk_runs.proofs.StepLemmas.{met-tried}

@@ -3,6 +3,7 @@ pub mod StepLemmas
 pub mod PartLemmas
 pub mod FileLemmas
 pub mod RoomLemmas
+pub mod GoingLemmas
 pub mod MissLemmas
 pub mod NewLemmas
 pub mod AloneLemmas

@@ -1,4 +1,5 @@
 -- What a cycle leaves of the disks, and what it misses.
+--     same-end      a get leaves the ring the same one
 --     pairs-stepped      the ends are of one ring
 --     own-stepped      its underruns are of the script's disks
 --     in-run      and of a `run` cycle, where the rings are filled before a freewheel cycle
@@ -24,7 +25,7 @@ pub record IsSameEnd (before after : Getting) : Type 0 where
   pub samples : after.samples ≡ before.samples
   pub most : after.most ≡ before.most
 
-same-end : (k disk : ℕ) (active : Bool) (got after : Getting) (misses misses_after : List Underrun) → GetsOne k disk active got after misses misses_after → IsSameEnd got after
+pub same-end : (k disk : ℕ) (active : Bool) (got after : Getting) (misses misses_after : List Underrun) → GetsOne k disk active got after misses misses_after → IsSameEnd got after
 same-end k disk active got after misses misses_after (Silent idle same none) = record {
   table = ap (λ (g : Getting). g.table) same;
   samples = ap (λ (g : Getting). g.samples) same;

@@ -12,10 +12,9 @@ use Rattle.disk_turns.specs.Standing.{StandsAt}
 use Rattle.driver_laws.specs.Drivers.{run, underruns_on}
 use Rattle.driver_laws.specs.Openings.{IsEmptyDisk}
 use Rattle.run_laws.specs.Runs.{PlaysAll}
-use Rattle.run_laws.specs.Sessions.{IsGiven, Session}
+use Rattle.run_laws.specs.Sessions.{IsDisk, IsGiven, Session}
 use Rattle.run_laws.specs.Told.{IsNew, IsNewPlayer}
-use Rattle.disk_runs.specs.Counts.{DisksSerial}
-use Rattle.disk_runs.specs.Readings.{IsDisk}
+use Rattle.run_laws.specs.SerialRuns.{DisksSerial}
 use Rattle.disk_runs.specs.Rests.{DiskTells, DisksFresh, DisksHaveRoom, DisksTell}
 use Rattle.disk_runs.proofs.PlaceLemmas.{at-place}
 

@@ -13,8 +13,8 @@ use Rattle.driver_laws.specs.Drivers.{Driver, HasOwnRings, IsOwnRing}
 use Rattle.driver_laws.specs.Keeping.{Fits, Keeps}
 use Rattle.driver_laws.proofs.PlaceLemmas.{there_too}
 use Rattle.run_laws.specs.Runs.{HasFiles, MissesInRun}
-use Rattle.run_laws.specs.Sessions.{IsFor, IsMet, IsOne, KeepsAny, Session}
-use Rattle.disk_runs.specs.Readings.{DisksBroke, DisksServed, IsDisk, ServedDisk, ServedOff, ServedOn, TriedDisk}
+use Rattle.run_laws.specs.Sessions.{IsDisk, IsFor, IsMet, IsOne, KeepsAny, Session}
+use Rattle.disk_runs.specs.Readings.{DisksBroke, DisksServed, ServedDisk, ServedOff, ServedOn, TriedDisk}
 use Rattle.disk_runs.specs.Rests.{DisksHaveRoom}
 use Rattle.disk_runs.proofs.PlaceLemmas.{Stepped, both-by, both-of, long, long-after, map-places, stepped}
 use Rattle.disk_runs.proofs.StepLemmas.{DiskMet, met-tried, pair-met}

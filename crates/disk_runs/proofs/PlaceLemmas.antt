@@ -10,8 +10,8 @@ use Rattle.session_model.specs.Scripts.{Script}
 use Rattle.driver_words.specs.Rings.{Getting}
 use Rattle.disk_player.specs.Playing.{Playing}
 use Rattle.driver_laws.proofs.PlaceLemmas.{there_too}
-use Rattle.run_laws.specs.Sessions.{IsOne, Session}
-use Rattle.disk_runs.specs.Readings.{EachDisk, IsDisk}
+use Rattle.run_laws.specs.Sessions.{IsDisk, IsOne, Session}
+use Rattle.disk_runs.specs.Readings.{EachDisk}
 
 pub All-places : {X : Type 0} (P : X → Type 0) (xs : List X) → ((k : ℕ) (x : X) → slice_get xs k ≡ Some x → P x) → All P xs
 All-places P xs each k d low = each k (get_or xs k d) (slice_get-get_or xs k d low)

@@ -10,8 +10,8 @@ use Rattle.disk_files.specs.Readers.{ReadsAhead}
 use Rattle.disk_turns.specs.Segments.{IsFilled}
 use Rattle.disk_turns.proofs.SegmentLemmas.{filled-behind, room-goes-on}
 use Rattle.run_laws.specs.Runs.{PlaysAll}
-use Rattle.run_laws.specs.Sessions.{IsOne, Session}
-use Rattle.disk_runs.specs.Readings.{DisksRead, IsDisk}
+use Rattle.run_laws.specs.Sessions.{IsDisk, IsOne, Session}
+use Rattle.disk_runs.specs.Readings.{DisksRead}
 use Rattle.disk_runs.specs.Rests.{AreFilled, DiskTells, DisksFilled, DisksHaveRoom, DisksTell}
 use Rattle.disk_runs.proofs.PlaceLemmas.{Stepped, both-by, long, long-after, stepped}
 

@@ -2,7 +2,7 @@
 --     underruns-same      a list of each disk's underruns has those of the driver
 --     Fits-serial      the course fits, where it misses what the driver missed
 --     Fits-whole      with the stated underruns
---     IsSerial-own      the session's own course has these
+--     IsSerial-own, printed-own      the session's own course has these, and so has its report
 use Rattle.std.proofs.Common.{◌≡◌, ℕ, ◌<◌, ◌≤◌, ◌==◌, ◌⊎◌, inl, inr, Bool, true, false, cond, List, [], ◌∷◌, length, map, min, take, get_or, slice_get, slice_index_or, All, Some, refl, sym, ◌∙◌, ap, ap₂, subst, arith, eqb-true}
 use Rattle.std.specs.List.{list_any}
 use Rattle.std.proofs.Math.Nat.{min-le_right}
@@ -32,11 +32,11 @@ use Rattle.control_desk.specs.Laws.{OfCallsAccepted}
 use Rattle.driver_laws.specs.Drivers.{Driver, HasOwnRows, run, underruns_on}
 use Rattle.driver_laws.specs.Keeping.{Fits, FitsDisk}
 use Rattle.disk_player.specs.Playing.{Playing}
-use Rattle.run_laws.specs.Sessions.{IsFor, IsOne, Session, course_in}
+use Rattle.run_laws.specs.Sessions.{IsDisk, IsFor, IsOne, Session, course_in, printed_of}
 use Rattle.run_laws.proofs.CourseLemmas.{AreOfCalls-kept}
-use Rattle.run_laws.proofs.PlaceLemmas.{front_there, mapped_there, some_at}
-use Rattle.disk_runs.specs.Counts.{DisksSerial, IsSerialSoFar}
-use Rattle.disk_runs.specs.Readings.{IsDisk}
+use Rattle.run_laws.proofs.PlaceLemmas.{front_there, map-below, mapped_there, some_at}
+use Rattle.run_laws.specs.SerialRuns.{DisksSerial}
+use Rattle.disk_runs.specs.Counts.{IsSerialSoFar}
 use Rattle.disk_runs.proofs.FileLemmas.{fits-put}
 use Rattle.disk_runs.proofs.PlaceLemmas.{both-by, both-of, long}
 
@@ -156,6 +156,12 @@ module _ (given : Given) (session : Session) (one : IsOne session) (own : IsFor 
             let size : run session.driver ≡ min (run session.driver) (length (serial_numbers given.script)) = ap length so_far.numbers ∙ length-take (run session.driver) (serial_numbers given.script) in
             let low : min (run session.driver) (length (serial_numbers given.script)) ≤ length (serial_numbers given.script) = min-le_right (run session.driver) (length (serial_numbers given.script)) in
             omega (arith, each, size, low)
+
+    pub printed-own : run session.driver ≡ length (turns session.script) → (printed_of session).underruns ≡ serial_underruns given
+    printed-own whole =
+        map-below (underruns_on session.driver.underruns) (turned_underruns (course_before given)) (length session.script.header.disks)
+        (λ disk low. missed-at disk low ∙ ap (missed_up_to (course_before given) disk) (whole ∙ ap (λ (s : Script). length (turns s)) (sym own.script)))
+        ∙ ap (λ n. map (turned_underruns (course_before given)) (below n)) count-given
 
     pub IsSerial-own : session.desk.history ≡ (serial session.script).history → session.driver.numbers ≡ (serial session.script).numbers → run session.driver ≡ length (turns session.script)
         → (disk : ℕ) → disk < length session.script.header.disks → IsSerial (course_in given session) disk

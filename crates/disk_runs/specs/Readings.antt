@@ -1,5 +1,4 @@
 -- What a session's steps at its disks leave.
---     IsDisk session disk player got      a disk's player, and the end of its ring that gets
 --     EachDisk Step session after      each disk made such a step, and nothing else changed
 --     DisksRead, DisksTold, DisksBroke      the readers read on, the ends of the rings met, a read failed
 --     DisksServed session after      the readers read in threads of their own
@@ -8,11 +7,7 @@ use Rattle.driver_words.specs.Rings.{Getting}
 use Rattle.disk_player.specs.Playing.{Playing}
 use Rattle.disk_files.specs.Readers.{BreaksAhead, ReadsAhead, TellsAhead}
 use Rattle.disk_serving.specs.Serving.{ReadsOff, ReadsOn}
-use Rattle.run_laws.specs.Sessions.{Session}
-
-pub record IsDisk (session : Session) (disk : ℕ) (player : Playing) (got : Getting) : Type 0 where
-  pub player_is : slice_get session.players disk ≡ Some player
-  pub got_is : slice_get session.driver.disks disk ≡ Some got
+use Rattle.run_laws.specs.Sessions.{IsDisk, Session}
 
 pub record EachDisk (Step : Playing → Getting → Playing → Getting → Type 0) (session after : Session) : Type 0 where
   pub each : (disk : ℕ) (player player_after : Playing) (got got_after : Getting) → IsDisk session disk player got → IsDisk after disk player_after got_after → Step player got player_after got_after

@@ -12,8 +12,7 @@ use Rattle.driver_words.specs.Rings.{Getting, Sending}
 use Rattle.disk_player.specs.Playing.{Playing}
 use Rattle.disk_turns.specs.Segments.{IsFilled}
 use Rattle.run_laws.specs.Runs.{PutsFile}
-use Rattle.run_laws.specs.Sessions.{IsOver, Session}
-use Rattle.disk_runs.specs.Readings.{IsDisk}
+use Rattle.run_laws.specs.Sessions.{IsDisk, IsOver, Session}
 
 -- no step changes that, so it holds in the middle of a cycle too
 abbrev pub DisksHaveRoom : Session → Type 0

@@ -9,7 +9,8 @@ ghost use Rattle.driver_laws.specs.Cycling.{StepsOnce};
 ghost use Rattle.driver_laws.specs.Drivers.{Driver, run, turn_of};
 ghost use Rattle.run_laws.specs.Runs.{MissesInRun, PlaysAll};
 ghost use Rattle.run_laws.specs.Sessions.{IsOne, Session};
-ghost use Rattle.disk_runs.specs.Counts.{DisksSerial};
+ghost use Rattle.run_laws.specs.SerialRuns.{DisksSerial};
+ghost use Rattle.disk_runs.specs.Readings.{NoneFailed};
 ghost use Rattle.disk_runs.specs.Rests.{AreFilled, DisksHaveRoom, DisksTell};
 
 /// A cycle leaves each player's ring the same one, and its underruns are of the script's disks.
@@ -30,6 +31,7 @@ pub fn underruns_come_in_run_cycles()
 /// What rests on players, on the ends that get, and on what was counted stays where these do.
 pub fn what_is_left_alone_stays()
     ensures room { (session after : Session) → after.script ≡ session.script → after.players ≡ session.players → DisksHaveRoom session → DisksHaveRoom after }
+    ensures going { (session after : Session) → after.players ≡ session.players → NoneFailed session → NoneFailed after }
     ensures plays { (session after : Session) (given : Given) → after.players ≡ session.players → PlaysAll given session → PlaysAll given after }
     ensures tell { (session after : Session) → after.players ≡ session.players → after.driver.disks ≡ session.driver.disks → DisksTell session → DisksTell after }
     ensures filled { (session after : Session) → after.script ≡ session.script → after.driver.disks ≡ session.driver.disks → AreFilled session → AreFilled after }

@@ -6,3 +6,5 @@ pub mod cycles;
 pub mod readings;
 pub mod segments;
 pub mod serial;
+
+pub use disk_files;

@@ -96,8 +96,15 @@ pub fn long_readings_fill_the_rings()
         → DisksFilled given after }
 {}
 
-/// The rings of a new session have room, and their ends tell that nothing was put.
+/// Where the readers read on no read failed, and none fails in a meeting.
+pub fn no_reading_failed()
+    ensures read { (most : ℕ) (session after : Session) → IsOne session → DisksRead most session after → NoneFailed after }
+    ensures told { (session after : Session) → IsOne session → DisksTold session after → NoneFailed session → NoneFailed after }
+{}
+
+/// The rings of a new session have room, their ends tell that nothing was put, and no read failed.
 pub fn new_rings_tell()
     ensures room { (session : Session) → IsNew session → DisksHaveRoom session }
     ensures tell { (session : Session) → IsNew session → DisksFresh session → DisksTell session }
+    ensures going { (session : Session) → IsNew session → NoneFailed session }
 {}

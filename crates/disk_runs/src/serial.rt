@@ -4,12 +4,13 @@ ghost use Rattle.std.specs.Prelude.{◌≡◌, ◌<◌, ℕ, length};
 ghost use Rattle.session_model.specs.Disks.{IsSerial};
 ghost use Rattle.session_model.specs.Explanations.{Given, course_of};
 ghost use Rattle.session_model.specs.Scripts.{turns};
-ghost use Rattle.session_model.specs.Serial.{serial, serial_printed};
+ghost use Rattle.session_model.specs.Serial.{serial, serial_printed, serial_underruns};
 ghost use Rattle.driver_laws.specs.Drivers.{run};
 ghost use Rattle.driver_laws.specs.Keeping.{Fits};
-ghost use Rattle.run_laws.specs.Sessions.{IsFor, IsGiven, IsOne, Session, course_in};
+ghost use Rattle.run_laws.specs.Sessions.{IsFor, IsGiven, IsOne, Session, course_in, printed_of};
 ghost use Rattle.run_laws.specs.Told.{IsNew};
-ghost use Rattle.disk_runs.specs.Counts.{DisksSerial, IsSerialSoFar, TurnsDisks};
+ghost use Rattle.run_laws.specs.SerialRuns.{DisksSerial};
+ghost use Rattle.disk_runs.specs.Counts.{IsSerialSoFar, TurnsDisks};
 ghost use Rattle.disk_runs.specs.Rests.{DisksFresh};
 
 use control_desk::laws::accepted_of_legal;
@@ -44,8 +45,11 @@ pub fn the_serial_course_fits()
     serial_meaning_is_legal();
 }
 
-/// Behind all cycles the underruns of the session's own course are those of the stated turns.
+/// Behind all cycles the underruns of the session's own course are those of the stated turns, and so are those that its report
+/// prints.
 pub fn underruns_are_the_stated()
-    ensures { (given : Given) (session : Session) → IsOne session → IsFor session given → session.desk.history ≡ (serial session.script).history → session.driver.numbers ≡ (serial session.script).numbers
+    ensures serial { (given : Given) (session : Session) → IsOne session → IsFor session given → session.desk.history ≡ (serial session.script).history → session.driver.numbers ≡ (serial session.script).numbers
         → run session.driver ≡ length (turns session.script) → DisksSerial given session → (disk : ℕ) → disk < length session.script.header.disks → IsSerial (course_in given session) disk }
+    ensures printed { (given : Given) (session : Session) → IsOne session → IsFor session given → run session.driver ≡ length (turns session.script) → DisksSerial given session
+        → (printed_of session).underruns ≡ serial_underruns given }
 {}

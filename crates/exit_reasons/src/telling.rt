@@ -3,7 +3,7 @@
 use crate::checks::{hint_of_wrong, reason_of_wrong};
 use host_files::{FailureKind, FileHost, WriterSink};
 use host_listener::ListeningHost;
-use lost_blocks::Losses;
+use lost_blocks::{Losses, Owner};
 use play_inputs::{Difference, Status, What};
 use play_words::{CheckNames, Names, check_names, play_names, rehearsal_number};
 use refused_calls::Notes;
@@ -14,10 +14,10 @@ use std::fs::{File, Files};
 use std::os::unix::fs::MetadataExt;
 use std::{fs, io};
 use told_reasons::{
-    Capture, Reason, of_capture, of_channels, of_closing, of_disks, of_foreign_word, of_graph,
-    of_guests, of_input, of_lost_blocks, of_making, of_open_output, of_rate, of_records,
-    of_refusals, of_report, of_rings, of_script, of_summary, of_verdict, of_wave, of_words,
-    of_writing, of_wrong, read_again, standing_in,
+    Capture, Reason, of_capture, of_channels, of_closing, of_disk_channels, of_disks, of_fills,
+    of_foreign_word, of_graph, of_guests, of_input, of_lost_blocks, of_making, of_open_output,
+    of_rate, of_records, of_refusals, of_report, of_rings, of_script, of_summary, of_underruns,
+    of_verdict, of_wave, of_words, of_writing, of_wrong, read_again, standing_in,
 };
 
 /// The reason of exit code 1.
@@ -38,10 +38,13 @@ pub const MOST_OF_CAPTURE: usize = 65_536;
 /// The bytes of the header of a file that is made.
 pub(crate) const HEADER: usize = 44;
 
-// The places of the script and of the capture among the files that a command opens.
+// The places of the script and of the capture among the files that a command opens. Behind them a play opens its disk files.
 const OF_SCRIPT: usize = 0;
 
 const OF_CAPTURE: usize = 1;
+
+// How many first bytes tell what a file is that is no WAVE file.
+const MARK: usize = 4;
 
 // The most bytes of a word that is no UTF-8 that are told.
 const MOST_OF_WORD: usize = 4096;
@@ -50,7 +53,7 @@ const MOST_OF_WORD: usize = 4096;
 pub type Told = Result<Option<Reason>, AllocError>;
 
 /// Tells on standard error why a call ended as it did, and of a play that ended well which calls were refused, which blocks
-/// were lost, and whether its capture fits. The host has heard the script and the capture.
+/// were lost, which disks had underruns, and whether its capture fits. The host has heard the script and the capture.
 pub fn tell<R: Files<File = File> + Env + AllocGlobal + Eprint, W>(
     rt: &R,
     words: &[String],
@@ -62,6 +65,7 @@ pub fn tell<R: Files<File = File> + Env + AllocGlobal + Eprint, W>(
     print_told(rt, &hint_of(rt, words, front_of(host, OF_SCRIPT), status));
     if let (Status::Ok, Some(names)) = (status, play_names(words)) {
         tell_losses(rt, &names, front_of(host, OF_SCRIPT), out.losses());
+        tell_underruns(rt, &names, front_of(host, OF_SCRIPT), out.losses());
         print_told(rt, &reason_of_capture(rt, &names, host));
     }
 }
@@ -76,27 +80,44 @@ fn front_of<H>(host: &ListeningHost<H>, place: usize) -> &[u8] {
 
 // Tells of each recorder that lost blocks, and how none is lost.
 fn tell_losses<R: AllocGlobal + Eprint>(rt: &R, names: &Names<'_>, script: &[u8], losses: &Losses) {
-    if !losses.has_any() {
-        return;
-    }
+    let mut are_lost = false;
     for place in 0..names.records() {
-        print_told(
-            rt,
-            &reason_of_tape(rt.alloc(), names.record(place), script, losses, place),
-        );
+        let stream = losses.of(Owner::Recorder(place));
+        if stream.missed > 0 {
+            are_lost = true;
+            let reason = of_lost_blocks(rt.alloc(), names.record(place), script, stream);
+            print_told(rt, &told(reason));
+        }
     }
-    print_told(rt, &reason_of_rings(rt.alloc(), script));
-}
-
-fn reason_of_tape(alloc: Global, file: &str, script: &[u8], losses: &Losses, place: usize) -> Told {
-    match losses.tapes().get(place) {
-        Some(tape) if tape.lost > 0 => Ok(Some(of_lost_blocks(alloc, file, script, *tape)?)),
-        _ => Ok(None),
+    if are_lost {
+        print_told(rt, &told(of_rings(rt.alloc(), script)));
     }
 }
 
-fn reason_of_rings(alloc: Global, script: &[u8]) -> Told {
-    Ok(Some(of_rings(alloc, script)?))
+// Tells of each disk that had underruns, and how there is none.
+fn tell_underruns<R: AllocGlobal + Eprint>(
+    rt: &R,
+    names: &Names<'_>,
+    script: &[u8],
+    losses: &Losses,
+) {
+    let mut are_late = false;
+    for place in 0..names.disks() {
+        let stream = losses.of(Owner::Disk(place));
+        if stream.missed > 0 {
+            are_late = true;
+            let reason = of_underruns(rt.alloc(), names.disk(place), script, stream);
+            print_told(rt, &told(reason));
+        }
+    }
+    if are_late {
+        print_told(rt, &told(of_fills(rt.alloc(), script)));
+    }
+}
+
+// A reason that there is in any case, unless no memory is left for it.
+fn told(reason: Result<Reason, AllocError>) -> Told {
+    Ok(Some(reason?))
 }
 
 fn reason_of_capture<R: Files<File = File> + AllocGlobal>(
@@ -183,7 +204,7 @@ fn reason_of<R: Files<File = File> + Env + AllocGlobal + Eprint, W>(
         Status::Ok => reason_of_refusals(alloc, &names, front_of(host, OF_SCRIPT), out.notes()),
         Status::ReadFault => reason_of_reading(alloc, host.inner()),
         Status::WriteFault => reason_of_output(rt, alloc, &names, host.inner(), out.inner()),
-        _ => reason_of_given(alloc, &names, host, status),
+        _ => reason_of_given(rt, alloc, &names, host, status),
     }
 }
 
@@ -204,25 +225,44 @@ fn reason_of_check<R: Files<File = File> + AllocGlobal, W>(
             Some(error) => Ok(Some(of_verdict(alloc, error)?)),
             None => Ok(None),
         },
-        _ => reason_of_given(alloc, &names.play, host, status),
+        _ => reason_of_given(rt, alloc, &names.play, host, status),
     }
 }
 
 // What is wrong of the script and of what it is played with.
-fn reason_of_given<H>(
+fn reason_of_given<R: Files<File = File>, H>(
+    rt: &R,
     alloc: Global,
     names: &Names<'_>,
     host: &ListeningHost<H>,
     status: Status,
 ) -> Told {
     let script = front_of(host, OF_SCRIPT);
-    let reason = match status {
-        Status::BadWave(fault) => of_wave(alloc, names.capture, fault, front_of(host, OF_CAPTURE))?,
-        Status::BadScript(fault) => of_script(alloc, names.script, script, fault)?,
-        Status::Differs(difference) => reason_of_difference(alloc, names, script, difference)?,
+    let reason = match (status, disk_at_fault(names, host)) {
+        (Status::BadWave(fault), Some(disk)) => {
+            of_wave(alloc, disk, fault, &read_again(alloc, rt, disk, MARK))?
+        }
+        (Status::BadWave(fault), None) => {
+            of_wave(alloc, names.capture, fault, front_of(host, OF_CAPTURE))?
+        }
+        (Status::BadScript(fault), _) => of_script(alloc, names.script, script, fault)?,
+        (Status::Differs(difference), disk) => {
+            reason_of_difference(alloc, names, disk, script, difference)?
+        }
         _ => return Ok(None),
     };
     Ok(Some(reason))
+}
+
+// The disk file that was opened last: a fault that comes before a file is made is of that one.
+fn disk_at_fault<'a, H>(names: &Names<'a>, host: &ListeningHost<H>) -> Option<&'a str> {
+    let opened = host.opened();
+    let behind = OF_CAPTURE + 1;
+    if opened > behind && opened - behind <= names.disks() {
+        Some(names.disk(opened - behind - 1))
+    } else {
+        None
+    }
 }
 
 fn reason_of_graph<R: Files<File = File> + Env + AllocGlobal + Eprint, W>(
@@ -279,6 +319,7 @@ fn reason_of_refusals(alloc: Global, names: &Names<'_>, script: &[u8], notes: &N
 fn reason_of_difference(
     alloc: Global,
     names: &Names<'_>,
+    disk: Option<&str>,
     text: &[u8],
     difference: Difference,
 ) -> Result<Reason, AllocError> {
@@ -291,8 +332,13 @@ fn reason_of_difference(
         What::Guests => of_guests(alloc, names.script, text, script, given),
         What::Records => of_records(alloc, script, given),
         What::Disks => of_disks(alloc, script, given),
-        What::Rate | What::DiskRate => of_rate(alloc, names.capture, script, given),
-        What::Channels | What::DiskChannels => of_channels(alloc, names.capture, script, given),
+        What::Rate | What::DiskRate => {
+            of_rate(alloc, disk.unwrap_or(names.capture), script, given)
+        }
+        What::Channels => of_channels(alloc, names.capture, script, given),
+        What::DiskChannels => {
+            of_disk_channels(alloc, disk.unwrap_or(names.capture), script, given)
+        }
     }
 }
 
@@ -392,6 +438,12 @@ fn reason_of_open<R: Files<File = File>>(
         let record = names.record(place);
         if record != name && is_one_file(rt, name, record) {
             return Ok(Some(of_open_output(alloc, name, "record", record)?));
+        }
+    }
+    for place in 0..names.disks() {
+        let disk = names.disk(place);
+        if is_one_file(rt, name, disk) {
+            return Ok(Some(of_open_output(alloc, name, "disk file", disk)?));
         }
     }
     Ok(None)

@@ -49,6 +49,13 @@ impl<H> ListeningHost<H> {
         &self.inner
     }
 
+    /// How many files were opened.
+    pub fn opened(&self) -> usize
+        ensures { result ≡ self.now.opened }
+    {
+        self.opened
+    }
+
     /// The front of the first or the second file, counted from 0, which is not out.
     pub fn front(&self, place: usize) -> Option<&Front> {
         if place >= LISTENED {

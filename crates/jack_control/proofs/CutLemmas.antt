@@ -33,7 +33,7 @@ use Rattle.jack_control.specs.Files.{AllStand, AreApart, AreOut, IsHeld, IsPart,
 use Rattle.play_inputs.specs.Inputs.{Files}
 use Rattle.jack_control.specs.Openings.{IsSessionOf}
 use Rattle.jack_control.specs.Performances.{Explain, HaveCut, HaveCutSoFar, HaveFronts, MadeSome, front_at, front_so_far}
-use Rattle.jack_control.specs.Plays.{AreMadeInOrder, Cuts, IsExplained, IsMadeOrKept, IsPlayCut, Plays, TouchesOnly, made_by}
+use Rattle.jack_control.specs.Plays.{Cuts, IsExplained, IsMadeOrKept, IsPlayCut, Plays, TouchesOnly, made_by}
 use Rattle.jack_control.proofs.FileLemmas.{some-told, touches-after, touches_same}
 use Rattle.jack_control.proofs.MadeLemmas.{made-touches}
 
@@ -91,10 +91,10 @@ others-of a b rest others same = cc
 
 -- whatever is given, what is printed explains what the stores have and this report, and in serial mode it is the history of that
 abbrev pub ExplainsAll : (Score → Sound) → Parts → Printed → List Stored → List ℕ → Type 0
-ExplainsAll sounding parts printed stores report = (given : Given) → IsGiven (session_of sounding parts) given → given.disks ≡ [] → Explain given printed stores report
+ExplainsAll sounding parts printed stores report = (given : Given) → IsGiven (session_of sounding parts) given → Explain given printed stores report
 
 abbrev pub IsSerialOf : (Score → Sound) → Parts → Printed → Type 0
-IsSerialOf sounding parts printed = (given : Given) → IsGiven (session_of sounding parts) given → given.disks ≡ [] → IsNone given.script.header.threads → printed ≡ serial_printed given
+IsSerialOf sounding parts printed = (given : Given) → IsGiven (session_of sounding parts) given → IsNone given.script.header.threads → printed ≡ serial_printed given
 
 module _ (sounding : Score → Sound) (scores : List Sound) (play : Play) (parts : Parts) (printed : Printed) (stores : List Stored) where
   plays : (files made behind new : Files) (out out_after : Option (List ℕ)) (report : List ℕ) → IsSessionOf sounding (Some files) scores play parts → AreOut (Some made) (made_by play) stores
@@ -112,14 +112,16 @@ module _ (sounding : Score → Sound) (scores : List Sound) (play : Play) (parts
       go (text ∷ texts) are = record {
         script_bytes = is.given.0;
         capture_bytes = is.given.2.0;
+        disk_bytes = is.given.2.2.0;
         script_is = is.given.1;
         capture_is = is.given.2.1;
-        given = is.given.2.2.0;
-        input = is.given.2.2.1;
+        disks_are = is.given.2.2.1;
+        given = is.given.2.2.2.0;
+        input = is.given.2.2.2.1;
         printed = printed;
-        serial = serial is.given.2.2.0 is.given.2.2.2 is.given.2.2.1.no_disk;
+        serial = serial is.given.2.2.2.0 is.given.2.2.2.2;
         written = record { playback = text; records = texts; report = report };
-        explained = explains is.given.2.2.0 is.given.2.2.2 is.given.2.2.1.no_disk text texts are;
+        explained = explains is.given.2.2.2.0 is.given.2.2.2.2 text texts are;
         playback_is = first-of (bytes_under new play.playback) (Some text) (map (bytes_under new) play.records) (map Some texts) (under ∙ are);
         records_are = others-of (bytes_under new play.playback) (Some text) (map (bytes_under new) play.records) (map Some texts) (under ∙ are);
         report_is = gains;
@@ -189,21 +191,23 @@ module _ (front : ℕ → Option (List ℕ) → Type 0) (names : List (List ℕ)
 
 module _ (sounding : Score → Sound) (scores : List Sound) (play : Play) (parts : Parts) (printed : Printed) (stores : List Stored) where
   cuts : (files old made behind new : Files) → SameFiles (Some files) (Some old) → AreApart (made_by play) → MadeSome (Some old) (Some made) (made_by play) stores → AllStand IsPart (Some made) (Some behind) stores → SameFiles (Some behind) (Some new)
-      → IsSessionOf sounding (Some files) scores play parts → ((given : Given) → IsGiven (session_of sounding parts) given → given.disks ≡ [] → HaveCut given printed stores) → Cuts files new scores play
+      → IsSessionOf sounding (Some files) scores play parts → ((given : Given) → IsGiven (session_of sounding parts) given → HaveCut given printed stores) → Cuts files new scores play
   cuts files old made behind new first apart some stand last is cut = record {
     script_bytes = is.given.0;
     capture_bytes = is.given.2.0;
+    disk_bytes = is.given.2.2.0;
     script_is = is.given.1;
     capture_is = is.given.2.1;
+    disks_are = is.given.2.2.1;
     given = given;
-    input = is.given.2.2.1;
+    input = is.given.2.2.2.1;
     serial = λ none. record {
       made = made_so_many;
-      playback = at (front_at given) (closed-at given) ((cut given is.given.2.2.2 is.given.2.2.1.no_disk).serial none) zero play.playback refl;
-      records = λ recorder name there. at (front_at given) (closed-at given) ((cut given is.given.2.2.2 is.given.2.2.1.no_disk).serial none) (suc recorder) name there;
+      playback = at (front_at given) (closed-at given) ((cut given is.given.2.2.2.2).serial none) zero play.playback refl;
+      records = λ recorder name there. at (front_at given) (closed-at given) ((cut given is.given.2.2.2.2).serial none) (suc recorder) name there;
     };
     so_far = λ threads.
-        let far : HaveCutSoFar given printed stores = (cut given is.given.2.2.2 is.given.2.2.1.no_disk).so_far threads in
+        let far : HaveCutSoFar given printed stores = (cut given is.given.2.2.2.2).so_far threads in
         record {
           printed = printed;
           kept = far.kept;
@@ -217,7 +221,7 @@ module _ (sounding : Score → Sound) (scores : List Sound) (play : Play) (parts
   }
     where
       given : Given
-      given = is.given.2.2.0
+      given = is.given.2.2.2.0
 
       made_so_many : ℕ
       made_so_many = length (take some.made (made_by play))
@@ -227,7 +231,7 @@ module _ (sounding : Score → Sound) (scores : List Sound) (play : Play) (parts
           cut-at front (made_by play) stores apart closed fronts files old made behind new first some (handed IsPart (Some old) (Some made) (Some behind) (made_by play) stores apart some stand) last place name there
 
   pub cut : (files old made behind new : Option Files) → SameFiles files old → AreApart (made_by play) → MadeSome old made (made_by play) stores → AllStand IsPart made behind stores → SameFiles behind new
-      → IsSessionOf sounding files scores play parts → ((given : Given) → IsGiven (session_of sounding parts) given → given.disks ≡ [] → HaveCut given printed stores) → IsPlayCut files new scores play
+      → IsSessionOf sounding files scores play parts → ((given : Given) → IsGiven (session_of sounding parts) given → HaveCut given printed stores) → IsPlayCut files new scores play
   cut None old made behind new first apart some stand last is fronts = tt
   cut (Some files) None made behind new first apart some stand last is fronts = absurd first
   cut (Some files) (Some old) None behind new first apart some stand last is fronts = absurd some.touches

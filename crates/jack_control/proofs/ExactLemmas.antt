@@ -14,4 +14,4 @@ pub exact-ok : (files new : Option Files) (out out_after : Option (List ℕ)) (s
 exact-ok None new out out_after scores play fault h is = h
 exact-ok (Some files) None out out_after scores play fault h is = is
 exact-ok (Some files) (Some new) out out_after scores play fault h is =
-    refused-fits files scores play fault h (input-fits files scores play (is.script_bytes, is.script_is, (is.capture_bytes, is.capture_is, (is.given, is.input))))
+    refused-fits files scores play fault h (input-fits files scores play (is.script_bytes, is.script_is, (is.capture_bytes, is.capture_is, (is.disk_bytes, is.disks_are, (is.given, is.input)))))

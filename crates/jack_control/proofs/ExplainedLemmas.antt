@@ -13,14 +13,13 @@ use Rattle.jack_types.specs.declared.files.Format.{Format}
 use Rattle.jack_types.specs.declared.replies.Entry.{Entry}
 use Rattle.jack_types.specs.declared.replies.Overrun.{Overrun}
 use Rattle.jack_types.specs.declared.replies.Underrun.{Underrun}
-use Rattle.session_model.specs.Courses.{Course, DiskFile}
-use Rattle.session_model.specs.Disks.{turned_underruns}
+use Rattle.session_model.specs.Courses.{Course}
 use Rattle.session_model.specs.Explanations.{Explained, Given, Printed, course_of, overruns_of, playback_text, record_text}
 use Rattle.session_model.specs.Playback.{playback_format, played_back}
 use Rattle.session_model.specs.Recorders.{recorded, recorder_format}
 use Rattle.session_model.specs.Samples.{below}
 use Rattle.session_model.specs.Scripts.{Script, turns}
-use Rattle.session_model.specs.Serial.{course_before, serial_history, serial_numbers, serial_overruns, serial_printed}
+use Rattle.session_model.specs.Serial.{serial_history, serial_numbers, serial_overruns, serial_printed}
 use Rattle.session_model.specs.WaveFiles.{wave_text}
 use Rattle.session_model.specs.Kinds.{Sound}
 use Rattle.client_kinds.specs.Scores.{Score}
@@ -28,13 +27,13 @@ use Rattle.session_laws.proofs.ActivationLemmas.{get_or-map_below}
 use Rattle.driver_words.specs.Tapes.{HasAnyFront, HasFront, IsCut}
 use Rattle.session_model.specs.Rings.{samples_of_blocks}
 use Rattle.front_laws.proofs.FrontLemmas.{any-front}
-use Rattle.driver_laws.specs.Drivers.{overruns_on, run, underruns_on}
+use Rattle.driver_laws.specs.Drivers.{overruns_on, run}
 use Rattle.driver_laws.specs.Keeping.{kept_blocks, played_so_far}
 use Rattle.recorder_files.specs.Recorders.{Recording, Stored, held_in, held_or}
 use Rattle.run_laws.proofs.PlaceLemmas.{mapped_there}
 use Rattle.run_laws.specs.Sessions.{IsGiven, Session, course_in, printed_of}
 use Rattle.run_laws.specs.Told.{Ends, Runs, StandsSoFar, text_in}
-use Rattle.serial_laws.specs.Faults.{StandsInSerial, playback_front, record_front, serial_course_of}
+use Rattle.serial_laws.specs.Faults.{StandsInSerial, serial_course_of}
 use Rattle.serial_laws.proofs.FrontLemmas.{HasFront-told, KeptAreAll, PlayedIsAll}
 use Rattle.session_run.specs.Seen.{Parts, bytes_of, session_of, stores_in, told_of}
 use Rattle.session_run.specs.Standings.{format_at}
@@ -73,23 +72,16 @@ told-stores sounding parts all =
 
 -- ---- what the report prints
 
-no-disks : (session : Session) (given : Given) → IsGiven session given → given.disks ≡ [] → length session.script.header.disks ≡ 0
-no-disks session given is none = sym (ap length is.own.channels) ∙ ap (λ (disks : List DiskFile). length (map (λ (file : DiskFile). file.channels) disks)) none
-
-pub printed-serial : (before between : Session) (given : Given) → Runs before between → IsNone before.script.header.threads → IsGiven before given → given.disks ≡ [] → printed_of between ≡ serial_printed given
-printed-serial before between given runs serial is none =
+pub printed-serial : (before between : Session) (given : Given) → Runs before between → IsNone before.script.header.threads → IsGiven before given → printed_of between ≡ serial_printed given
+printed-serial before between given runs serial is =
     ap₂ (λ (history : List Entry) (numbers : List ℕ). record (printed_of between) { history = history; numbers = numbers })
     (runs.serial_history serial ∙ ap serial_history script) (runs.serial_numbers serial ∙ ap serial_numbers script)
     ∙ ap₂ (λ (overruns : List (List Overrun)) (underruns : List (List Underrun)). record (serial_printed given) { overruns = overruns; underruns = underruns })
     (runs.serial_overruns serial given is ∙ ap (λ (s : Script). map (serial_overruns s) (below (length s.header.recorders))) script)
-    (ap (λ n. map (underruns_on between.driver.underruns) (below n)) (ap (λ (s : Script). length s.header.disks) runs.script ∙ few)
-    ∙ sym (ap (λ n. map (turned_underruns (course_before given)) (below n)) (ap (λ (s : Script). length s.header.disks) (sym script) ∙ few)))
+    (runs.serial_underruns serial given is)
   where
     script : before.script ≡ given.script
     script = sym is.own.script
-
-    few : length before.script.header.disks ≡ 0
-    few = no-disks before given is none
 
 -- ---- fronts
 

@@ -12,7 +12,7 @@ use Rattle.std.proofs.Math.Seq.{take-length}
 use Rattle.std.specs.Prelude.{IsSome, OnErr, OnOk, Result}
 use Rattle.std.proofs.lemmas.Option.{none-some, same_Some}
 use Rattle.std.specs.Str.{bytes_eq}
-use Rattle.jack_host.specs.Files.{bytes_under, IsFrontOf, IsNamedThere, Makes, Replaces, SameFiles, Stands, StandsInPart}
+use Rattle.jack_host.specs.Files.{bytes_under, IsNamedThere, Makes, Replaces, SameFiles, Stands, StandsInPart}
 use Rattle.jack_host.specs.Told.{TellsAs}
 use Rattle.host_memory.proofs.FilesLemmas.{bytes_eq-same}
 use Rattle.recorder_files.specs.Recorders.{Stored}

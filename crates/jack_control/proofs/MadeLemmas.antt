@@ -135,6 +135,7 @@ rest-then old parts after first second = record {
   desk = second.desk ∙ first.desk;
   gear = second.gear ∙ ap (λ (g : Gear). record g { playback = after.gear.playback }) first.gear;
   as_many = second.as_many ∙ first.as_many;
+  players = second.players ∙ first.players;
 }
 
 pub record HaveMade (sounding : Score → Sound) (files now : Option Files) (names : List (List ℕ)) (old parts : Parts) : Type 0 where
@@ -152,7 +153,7 @@ made-none sounding files old is first none = record {
   out = record { as_many = ap (λ stores. length stores) none; each = λ i name store n s. absurd (none-some name n) };
   others = touches_none files [];
   empties = empties-none files;
-  rest = record { desk = refl; gear = refl; as_many = refl };
+  rest = record { desk = refl; gear = refl; as_many = refl; players = refl };
 }
 
 pub made-more : (sounding : Score → Sound) (files a b : Option Files) (names : List (List ℕ)) (name : List ℕ) (old parts after : Parts) → HaveMade sounding files a names old parts

@@ -7,11 +7,12 @@
 --     come-none, come-ran, come-ended      how far it came
 --     cut-begun, cut-broken, cut-whole      of the stores, where making files failed, where the run or the end failed, and where neither did
 --     explain-whole, serial-whole      what is printed explains them, and in serial mode it is the history of that
-use Rattle.std.proofs.Common.{◌≡◌, ◌⊎◌, inl, inr, ℕ, suc, ◌<◌, ◌≤◌, List, [], length, map, take, Option, Some, None, IsNone, is_some, Result, Ok, Err, is_err, OnOk, false, sym, ◌∙◌, ap, subst, arith, true≢false}
+use Rattle.std.proofs.Common.{◌≡◌, ◌⊎◌, inl, inr, ℕ, suc, ◌<◌, ◌≤◌, List, [], length, map, slice_get, take, Option, Some, None, IsNone, is_some, Result, Ok, Err, is_err, OnOk, false, sym, ◌∙◌, ap, subst, arith, true≢false}
 use Rattle.std.specs.Prelude.{IsErrOf, IsSome}
 use Rattle.std.proofs.lemmas.List.{length-map, take_all}
 use Rattle.std.proofs.lemmas.Option.{slice_get_within}
 use Rattle.jack_types.specs.declared.replies.Entry.{Entry}
+use Rattle.jack_host.specs.Causes.{Rose}
 use Rattle.session_model.specs.Explanations.{Given, Printed}
 use Rattle.session_model.specs.Histories.{LegalSoFar}
 use Rattle.session_model.specs.Scripts.{Script, phases, turns}
@@ -30,7 +31,7 @@ use Rattle.run_laws.specs.Told.{Ends, HasLists, Runs, StandsSoFar, text_in}
 use Rattle.serial_laws.specs.Faults.{StandsInSerial}
 use Rattle.serial_laws.proofs.FrontLemmas.{KeptAreAll, PlayedIsAll}
 use Rattle.session_run.specs.Seen.{HasCome}
-use Rattle.session_run.specs.Seen.{AreLater, IsLater, OneRose, Parts, bytes_of, session_of, stores_in, told_of}
+use Rattle.session_run.specs.Seen.{AreLater, AreReadLater, IsLater, OfCapture, OfDisk, OneRose, Parts, Playing, SourceRose, bytes_of, session_of, stores_in, told_of}
 use Rattle.session_run.specs.Faults.{SessionFault}
 use Rattle.session_run.specs.Faults.{Read, Write}
 use Rattle.session_run.specs.Standings.{IsAttaching}
@@ -38,6 +39,7 @@ use Rattle.play_inputs.specs.declared.status.Status.{Status}
 use Rattle.play_inputs.specs.declared.status.Status.TheVariants.{ReadFault, WriteFault}
 use Rattle.jack_control.specs.Files.{AreFronts, AreOut, Empties, IsOut, OneFailed}
 use Rattle.play_inputs.specs.Inputs.{Files}
+use Rattle.jack_control.specs.Openings.{AreFaultless}
 use Rattle.jack_control.specs.Performances.{Explain, HaveCut, MadeSome, status_of_session}
 use Rattle.jack_control.specs.Plays.{TouchesOnly}
 use Rattle.jack_control.proofs.ExplainedLemmas.{AreHeld, IsExplainedEach, begun-so_far, ended-so_far, explain, fronts-begun, fronts-ended, fronts-so_far, fronts-told, printed-serial}
@@ -46,15 +48,16 @@ use Rattle.jack_control.proofs.ExplainedLemmas.{AreHeld, IsExplainedEach, begun-
 abbrev pub HasFiles : Parts → Parts → Type 0
 HasFiles before after = after.gear ≡ record before.gear { playback = after.gear.playback }
 
-pub given-made : (sounding : Score → Sound) (before after : Parts) → HasFiles before after → (given : Given) → IsGiven (session_of sounding before) given → IsGiven (session_of sounding after) given
-given-made sounding before after same given is = record {
+pub given-made : (sounding : Score → Sound) (before after : Parts) → HasFiles before after → after.players ≡ before.players → (given : Given) → IsGiven (session_of sounding before) given
+    → IsGiven (session_of sounding after) given
+given-made sounding before after same players given is = record {
   own = record {
     script = is.own.script ∙ sym script;
     scores = is.own.scores ∙ sym (ap (λ (g : Gear). map sounding g.stage.staged.owned.scores) same);
     channels = is.own.channels ∙ ap (λ (s : Script). s.header.disks) (sym script);
   };
   capture = ap (λ (g : Gear). g.capture.reading.left) same ∙ is.capture;
-  disks = is.disks;
+  disks = ap (λ (ps : List Playing). map (λ (p : Playing). p.left) ps) players ∙ is.disks;
 }
   where
     script : after.gear.script ≡ before.gear.script
@@ -130,6 +133,17 @@ was-write Write status r answer is of told e = is
 pub one-failed : (before after : List Stored) → OneRose before after → OneFailed after
 one-failed before after one = (one.place, one.new, one.is, let rose = one.rose in omega (arith, rose))
 
+-- the sources of a session whose files were made are those that it had
+pub source-made : (before after later : Parts) → HasFiles before after → after.players ≡ before.players → SourceRose after later → SourceRose before later
+source-made before after later same players (OfCapture rose) = OfCapture (subst (λ (n : ℕ). Rose n later.gear.capture.reading.faults) (ap (λ (g : Gear). g.capture.reading.faults) same) rose)
+source-made before after later same players (OfDisk disk old new was is rose) = OfDisk disk old new (subst (λ (ps : List Playing). slice_get ps disk ≡ Some old) players was) is rose
+
+-- where no read of the later ones failed, their counts stand
+pub faultless-later : (before after : List Playing) → AreReadLater before after → ((disk : ℕ) (player : Playing) → slice_get after disk ≡ Some player → player.failed ≡ false) → AreFaultless before → AreFaultless after
+faultless-later before after later going none disk player is =
+    let was = some_at before disk (subst (λ n. disk < n) later.as_many (slice_get_within after disk player is)) in
+    ((later.each disk was.0 player was.1 is).kept (going disk player is)).1 ∙ none disk was.0 was.1
+
 -- all files were made, of a session that had none
 pub record MadeAll (sounding : Score → Sound) (old new : Option Files) (names records : List (List ℕ)) (before after : Parts) : Type 0 where
   pub names_are : length names ≡ suc (length records)
@@ -185,7 +199,7 @@ module _ (sounding : Score → Sound) (old new : Option Files) (names records : 
     }
 
   -- the run and the end, both with Ok
-  module _ (same : HasFiles before after) (between ended : Parts) (runs : Runs (session_of sounding after) (session_of sounding between))
+  module _ (same : HasFiles before after) (players : after.players ≡ before.players) (between ended : Parts) (runs : Runs (session_of sounding after) (session_of sounding between))
       (ends : (given : Given) → AtPhase (session_of sounding between) given (length (phases between.gear.script)) → Ends given (session_of sounding between) (session_of sounding ended))
       (told : told_of sounding ended ≡ session_of sounding ended) (goes : AreLater (stores_in after) (stores_in ended)) (many : length ended.recorders ≡ length after.recorders) (script : ended.gear.script ≡ between.gear.script) where
     at-end : (given : Given) → IsGiven (session_of sounding after) given → AtPhase (session_of sounding between) given (length (phases between.gear.script))
@@ -194,15 +208,15 @@ module _ (sounding : Score → Sound) (old new : Option Files) (names records : 
     as-many : length (session_of sounding ended).record_files ≡ length after.gear.script.header.recorders
     as-many = sym (ap (λ (s : Session). length s.record_files) told) ∙ length-map ended.recorders (λ (r : Recording). bytes_of (held_in r)) ∙ many ∙ recorders-held
 
-    module _ (given : Given) (is : IsGiven (session_of sounding before) given) (none : given.disks ≡ []) where
+    module _ (given : Given) (is : IsGiven (session_of sounding before) given) where
       here : IsGiven (session_of sounding after) given
-      here = given-made sounding before after same given is
+      here = given-made sounding before after same players given is
 
       ends-here : Ends given (session_of sounding between) (session_of sounding ended)
       ends-here = ends given (at-end given here)
 
       serial-printed : IsNone given.script.header.threads → printed_of (session_of sounding between) ≡ serial_printed given
-      serial-printed serial = printed-serial (session_of sounding after) (session_of sounding between) given runs (subst (λ (s : Script). IsNone s.header.threads) here.own.script serial) here none
+      serial-printed serial = printed-serial (session_of sounding after) (session_of sounding between) given runs (subst (λ (s : Script). IsNone s.header.threads) here.own.script serial) here
 
       pub serial-whole : IsNone given.script.header.threads → printed_of (session_of sounding ended) ≡ serial_printed given
       serial-whole serial = ends-here.printed ∙ serial-printed serial

@@ -49,6 +49,7 @@ pub record KeepsRest (parts after : Parts) : Type 0 where
   pub desk : after.desk ≡ parts.desk
   pub gear : after.gear ≡ record parts.gear { playback = after.gear.playback }
   pub as_many : length after.recorders ≡ length parts.recorders
+  pub players : after.players ≡ parts.players
 
 -- the playback's is at place 0, and that of recorder i at place i + 1
 abbrev pub AreFronts : Parts → List Stored → Type 0

@@ -30,14 +30,16 @@ made_by play = play.playback ∷ play.records
 abbrev pub TouchesOnly : Option Files → Option Files → List (List ℕ) → Type 0
 TouchesOnly old new names = BothTold old new (λ before after. (name : List ℕ) → (Contains names name → ⊥) → bytes_under after name ≡ bytes_under before name)
 
--- what the two files spell, and what was written: the files and the report that the one history explains that is printed; in serial mode it is that of serial mode
+-- what the files spell, and what was written: the files and the report that the one history explains that is printed; in serial mode it is that of serial mode
 pub record Plays (files new : Files) (out out_after : Option (List ℕ)) (scores : List Sound) (play : Play) : Type 0 where
   pub script_bytes : List ℕ
   pub capture_bytes : List ℕ
+  pub disk_bytes : List (List ℕ)
   pub script_is : bytes_under files play.script ≡ Some script_bytes
   pub capture_is : bytes_under files play.capture ≡ Some capture_bytes
+  pub disks_are : map (bytes_under files) play.disks ≡ map Some disk_bytes
   pub given : Given
-  pub input : IsInput script_bytes capture_bytes scores play given
+  pub input : IsInput script_bytes capture_bytes disk_bytes scores play given
   pub printed : Printed
   pub serial : IsNone given.script.header.threads → printed ≡ serial_printed given
   pub written : Written
@@ -97,10 +99,12 @@ pub record CutsSoFar (given : Given) (files new : Files) (play : Play) : Type 0 
 pub record Cuts (files new : Files) (scores : List Sound) (play : Play) : Type 0 where
   pub script_bytes : List ℕ
   pub capture_bytes : List ℕ
+  pub disk_bytes : List (List ℕ)
   pub script_is : bytes_under files play.script ≡ Some script_bytes
   pub capture_is : bytes_under files play.capture ≡ Some capture_bytes
+  pub disks_are : map (bytes_under files) play.disks ≡ map Some disk_bytes
   pub given : Given
-  pub input : IsInput script_bytes capture_bytes scores play given
+  pub input : IsInput script_bytes capture_bytes disk_bytes scores play given
   pub serial : IsNone given.script.header.threads → AreMadeInOrder (PlaybackInSerial given) (RecordInSerial given) files new play
   pub so_far : IsSome given.script.header.threads → CutsSoFar given files new play
 

@@ -107,6 +107,7 @@ pub(crate) fn hand_back<H: Host, G: Guest>(
     ensures report { text_in (session_of G.sound session.new) ≡ text_in (session_of G.sound session.old) }
     ensures ended { HasEnded G.sound session.old → HasEnded G.sound session.new }
     ensures capture { session.new.gear.capture ≡ session.old.gear.capture }
+    ensures players { session.new.players ≡ session.old.players }
     ensures reads { H.read_faults host.new ≡ H.read_faults host.old }
     ensures lent { H.lent host.new + length (stores_in session.old) ≡ H.lent host.old }
 {

@@ -1,6 +1,7 @@
 //! The top call: all that the program does, over a host and a sink.
 #![tactic(auto)]
 
+mod disks;
 mod files;
 mod opening;
 mod playing;

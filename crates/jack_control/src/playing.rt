@@ -12,14 +12,15 @@ ghost use Rattle.run_laws.specs.Sessions.{IsGiven, printed_of};
 ghost use Rattle.wave_pcm.specs.Readings.{SameReading};
 ghost use Rattle.jack_control.specs.Files.{AreOut, OneFailed};
 ghost use Rattle.play_inputs.specs.Inputs.{Files as AllFiles};
-ghost use Rattle.jack_control.specs.Openings.{IsSessionOf};
+ghost use Rattle.jack_control.specs.Openings.{AreFaultless, IsSessionOf, NoFaults};
 ghost use Rattle.jack_control.specs.Performances.{CutsReport, Explain, HaveCut, MadeSome, status_of_session};
 ghost use Rattle.jack_control.specs.Plays.{IsExplained, IsOutCut, IsPlayCut, TouchesOnly, made_by};
 ghost use Rattle.play_words.specs.Words.{names_of};
 ghost use Rattle.run_laws.specs.Told.{text_in};
-ghost use Rattle.session_run.specs.Seen.{session_of, stores_in};
+ghost use Rattle.session_run.specs.Seen.{SourceRose, session_of, stores_in};
 ghost use Rattle.session_run.specs.Standings.{HasEnded, IsAttaching};
 
+use crate::disks::back_disks;
 use crate::files::{hand_back, make_files};
 use client_kinds::Guest;
 use driver_laws::endings::{all_is_played_back, blocks_kept_are_recorded};
@@ -57,19 +58,21 @@ pub(crate) fn perform<H: Host, G: Guest + Send, T: Threads + Sync, R: Wait + Syn
     requires apart { Apart (λ (name : List ℕ). name) (made_by names.now) }
     ensures ended { OnOk result.1 (HasEnded G.sound result.0) }
     ensures wanted { OnOk result.1 (IsTrue result.2) }
-    ensures explained { OnOk result.1 ((given : Given) → IsGiven (session_of G.sound session) given → given.disks ≡ [] → Explain given (printed_of (session_of G.sound result.0)) (stores_in result.0) (text_in (session_of G.sound result.0))) }
-    ensures serial { OnOk result.1 ((given : Given) → IsGiven (session_of G.sound session) given → given.disks ≡ [] → IsNone given.script.header.threads → printed_of (session_of G.sound result.0) ≡ serial_printed given) }
+    ensures explained { OnOk result.1 ((given : Given) → IsGiven (session_of G.sound session) given → Explain given (printed_of (session_of G.sound result.0)) (stores_in result.0) (text_in (session_of G.sound result.0))) }
+    ensures serial { OnOk result.1 ((given : Given) → IsGiven (session_of G.sound session) given → IsNone given.script.header.threads → printed_of (session_of G.sound result.0) ≡ serial_printed given) }
     ensures history { OnOk result.1 (IsNone session.gear.script.header.threads → result.0.desk.history ≡ (serial session.gear.script).history) }
     ensures whole { OnOk result.1 (AreOut (H.files host.new) (made_by names.now) (stores_in result.0)) }
-    ensures fronts { (given : Given) → IsGiven (session_of G.sound session) given → given.disks ≡ [] → HaveCut given (printed_of (session_of G.sound result.0)) (stores_in result.0) }
+    ensures fronts { (given : Given) → IsGiven (session_of G.sound session) given → HaveCut given (printed_of (session_of G.sound result.0)) (stores_in result.0) }
     ensures made { MadeSome (H.files host.old) (H.files host.new) (made_by names.now) (stores_in result.0) }
     ensures fault { IfErr result.1 (λ status. (status ≡ Status.ReadFault) ⊎ (status ≡ Status.WriteFault)) }
-    ensures read { IsErrOf result.1 Status.ReadFault → Rose session.gear.capture.reading.faults result.0.gear.capture.reading.faults }
+    ensures read { IsErrOf result.1 Status.ReadFault → SourceRose session result.0 }
     ensures write { IsErrOf result.1 Status.WriteFault → Rose (H.write_faults host.old) (H.write_faults host.new) ⊎ OneFailed (stores_in result.0) }
     ensures others { TouchesOnly (H.files host.old) (H.files host.new) (made_by names.now) }
     ensures later { H.write_faults host.old ≤ H.write_faults host.new }
     ensures kept { OnOk result.1 (H.write_faults host.new ≡ H.write_faults host.old) }
     ensures capture { OnOk result.1 (SameReading session.gear.capture.reading result.0.gear.capture.reading) }
+    ensures players { length result.0.players ≡ length session.players }
+    ensures disks { OnOk result.1 (AreFaultless session.players → AreFaultless result.0.players) }
     ensures reads { H.read_faults host.new ≡ H.read_faults host.old }
     ensures lent { H.lent host.new ≡ H.lent host.old + length (stores_in result.0) }
 {
@@ -135,8 +138,8 @@ fn conclude<K: Sink, S: Source, W: Store, G: Guest>(
     }
 }
 
-/// Plays a session: makes its files, runs it, hands the files back, and puts the report out. The capture goes back to the
-/// host last.
+/// Plays a session: makes its files, runs it, hands the files back, and puts the report out. The disk files and the capture go
+/// back to the host last.
 pub(crate) fn play_session<
     H: Host,
     K: Sink,
@@ -153,7 +156,7 @@ pub(crate) fn play_session<
     out: &mut K,
     session: Session<H::In, H::Out, G>,
 ) -> Result<(), Status>
-    requires out { (1 ≤ H.lent host.old) × (H.lent host.old < 950) }
+    requires out { (1 + length session.players ≤ H.lent host.old) × (H.lent host.old < 950) }
     requires attaching { IsAttaching G.sound session × (session.attached ≡ 0) × (stores_in session ≡ []) }
     requires recorders { length session.recorders ≡ length names.now.records }
     requires apart { Apart (λ (name : List ℕ). name) (names_of names.now) }
@@ -165,14 +168,15 @@ pub(crate) fn play_session<
     ensures out_cut { OnErr result ((files : Option AllFiles) (scores : List Sound) → SameFiles files (H.files host.old) → IsSessionOf G.sound files scores names.now session → IsOutCut files (H.files host.new) (K.content out.old) (K.content out.new) (K.faults out.old) (K.faults out.new) scores names.now) }
     ensures others { TouchesOnly (H.files host.old) (H.files host.new) (made_by names.now) }
     ensures later { (H.read_faults host.old ≤ H.read_faults host.new) × (H.write_faults host.old ≤ H.write_faults host.new) × (K.faults out.old ≤ K.faults out.new) }
-    ensures reads { OnOk result (session.gear.capture.reading.faults ≡ 0 → H.read_faults host.new ≡ H.read_faults host.old) }
+    ensures reads { OnOk result (NoFaults session → H.read_faults host.new ≡ H.read_faults host.old) }
     ensures writes { OnOk result (H.write_faults host.new ≡ H.write_faults host.old) }
     ensures puts { OnOk result (K.faults out.new ≡ K.faults out.old) }
-    ensures lent { H.lent host.new + 1 ≡ H.lent host.old }
+    ensures lent { H.lent host.new + 1 + length session.players ≡ H.lent host.old }
 {
     let (mut session, performed, wanted) = perform(threads, wait, gate, names, host, session);
     let handed = hand_back(host, &mut session, wanted);
     let reported = conclude(out, &session, performed, handed.is_ok());
+    back_disks(host, &mut session);
     host.back(session.into_capture().into_source());
     reported
 }

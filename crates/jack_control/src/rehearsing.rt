@@ -11,6 +11,7 @@ ghost use Rattle.jack_control.specs.Plays.{IsExplained};
 ghost use Rattle.jack_control.specs.Rehearsals.{IsRehearsed};
 ghost use Rattle.jack_control.specs.Rehearsing.{HasFiles, IsDone, rehearsal_play};
 
+use crate::disks::back_disks;
 use crate::files::hand_back;
 use crate::opening::open_session;
 use crate::playing::perform;
@@ -91,6 +92,7 @@ fn play_silently<T: Threads + Sync, R: Wait + Sync, H: Host, G: Guest + Send, A:
     let (mut session, performed, wanted) = perform(threads, wait, gate, names, host, session);
     let history = Vec::from_slice(alloc, session.desk().history());
     let handed = hand_back(host, &mut session, wanted);
+    back_disks(host, &mut session);
     host.back(session.into_capture().into_source());
     if let Err(status) = performed {
         return Err(status);

@@ -11,7 +11,7 @@ ghost use Rattle.play_words.specs.Checks.{Check, IsCheck};
 ghost use Rattle.play_words.specs.Commands.{IsCommand};
 ghost use Rattle.play_words.specs.Rehearsals.{IsRehearse};
 ghost use Rattle.play_words.specs.Words.{IsPlay, Play, names_of};
-ghost use Rattle.check_command.specs.Answers.{CheckStatus, IsDecided, IsVerdictCut, IsWrongAt, PutsVerdict};
+ghost use Rattle.check_command.specs.Answers.{CheckStatus, HasCheckRefusal, IsDecided, IsVerdictCut, IsWrongAt, PutsVerdict};
 ghost use Rattle.check_command.specs.Cases.{HasCase, IfCase, LacksCase, OfCase};
 ghost use Rattle.check_command.specs.Lines.{IsExplained as HasExplanation};
 ghost use Rattle.play_inputs.specs.Answers.{ForCheck, ForPlay, ForRehearsal, HasInput, HasLine, HasOwnFault, HasRefusal, IfInput, IsDoneOrNoMemory, IsEarly, IsLate, LacksInput, PlayStatus};
@@ -71,16 +71,17 @@ fn play<T: Threads + Sync, R: Wait + Sync, H: Host, K: Sink, G: Guest + Send, A:
 
 /// Does all that the program does, and answers how it ended. `words` are without the program's name.
 ///
-/// `play SCRIPT CAPTURE PLAYBACK`, with a pair `--record PATH` for each recorder of the script, plays a script over a capture,
-/// writes the playback file and the recorders', and puts the report out. The names differ, are not empty and do not begin with
-/// `-`. `guests` are the clients that a script opens by number. A fault of the words, the script or the capture, or of reading
-/// them, puts out one line that tells of it. With a script in threads mode it waits for threads, and all this holds if it
-/// returns.
+/// `play SCRIPT CAPTURE PLAYBACK`, with a pair `--record PATH` for each recorder of the script and a pair `--disk PATH` for each
+/// of its disks, plays a script over a capture and disk files, writes the playback file and the recorders', and puts the report
+/// out. The names differ, are not empty and do not begin with `-`. `guests` are the clients that a script opens by number. A fault
+/// of the words, the script, the capture or a disk file, or of reading them, puts out one line that tells of it. With a script in
+/// threads mode it waits for threads, and all this holds if it returns.
 ///
 /// `rehearse N` makes a session of 10,000 cycles from a number below 2^32, plays it in memory, and puts out six lines on it.
 ///
 /// `check SCRIPT CAPTURE REPORT PLAYBACK`, with the same pairs as a play, decides whether the report explains the playback and the
-/// records, and puts out one line: `check ok`, or the first wrong part. It makes no file, and waits for nothing.
+/// records, and puts out one line: `check ok`, or the first wrong part. It makes no file, and waits for nothing. It refuses a script
+/// with a disk.
 ///
 /// Any other words are refused.
 pub fn jackd<T: Threads + Sync, R: Wait + Sync, H: Host, K: Sink, G: Guest + Send, A: Gate>(
@@ -137,7 +138,7 @@ pub fn jackd<T: Threads + Sync, R: Wait + Sync, H: Host, K: Sink, G: Guest + Sen
     ensures unwritten { ForCheck (map string_bytes words.now) (λ check. SameFiles (H.files host.old) (H.files host.new)
         × (H.write_faults host.new ≡ H.write_faults host.old)) }
 
-    // A check refuses what a play refuses, and only that.
+    // A check refuses a script with a disk, and else what a play refuses, and only that.
     ensures check_fault { ForCheck (map string_bytes words.now) (λ check. result ≢ Status.Ok → CheckStatus
         (H.files host.old) (map G.sound (map G.score guests.items)) check result) }
     ensures check_read { result ≡ Status.ReadFault → ForCheck (map string_bytes words.now) (λ check.
@@ -148,7 +149,7 @@ pub fn jackd<T: Threads + Sync, R: Wait + Sync, H: Host, K: Sink, G: Guest + Sen
         (H.files host.old) (map G.sound (map G.score guests.items)) check
         (K.content out.old) (K.content out.new)) }
     ensures check_exact { ForCheck (map string_bytes words.now) (λ check. (status : StatusValue) →
-        HasRefusal (H.files host.old) (map G.sound (map G.score guests.items)) check.play status →
+        HasCheckRefusal (H.files host.old) (map G.sound (map G.score guests.items)) check status →
         ¬ Rose (H.read_faults host.old) (H.read_faults host.new) →
         (result ≡ status) ⊎ (result ≡ Status.NoMemory)) }
 
@@ -156,11 +157,11 @@ pub fn jackd<T: Threads + Sync, R: Wait + Sync, H: Host, K: Sink, G: Guest + Sen
     ensures uncalled { result ≡ Status.Words → host.new ≡ host.old }
     ensures lawful { result ≢ Status.Words → IsCommand (map string_bytes words.now) }
 
-    // A refusal of the script or of the capture is one that their bytes have.
+    // A refusal of the script, of the capture or of a disk file is one that their bytes have.
     ensures fault { ForPlay (map string_bytes words.now) (λ play. result ≢ Status.Ok → PlayStatus
         (H.files host.old) (map G.sound (map G.score guests.items)) play result) }
 
-    // Whatever the host tells, want of memory is no fault of a script, and a read that failed none of a capture.
+    // Whatever the host tells, want of memory is no fault of a script, and a read that failed none of a capture or a disk file.
     ensures own { HasOwnFault result }
 
     ensures read { result ≡ Status.ReadFault → ForPlay (map string_bytes words.now) (λ play.
@@ -170,7 +171,7 @@ pub fn jackd<T: Threads + Sync, R: Wait + Sync, H: Host, K: Sink, G: Guest + Sen
         Rose (H.write_faults host.old) (H.write_faults host.new)
         ⊎ Rose (K.faults out.old) (K.faults out.new) }
 
-    // A file or the report is written only where script, capture, guests and names fit one another.
+    // A file or the report is written only where script, capture, disk files, guests and names fit one another.
     ensures input { result ≡ Status.WriteFault → ForPlay (map string_bytes words.now) (λ play.
         IfInput (H.files host.old) (map G.sound (map G.score guests.items)) play) }
 
@@ -209,8 +210,7 @@ pub fn jackd<T: Threads + Sync, R: Wait + Sync, H: Host, K: Sink, G: Guest + Sen
         ¬ Rose (H.read_faults host.old) (H.read_faults host.new) →
         (result ≡ status) ⊎ (result ≡ Status.NoMemory)) }
 
-    // A script that is played, and a capture, guests and names that fit it, are played, if nothing outside fails and memory
-    // is found.
+    // A script, and a capture, disk files, guests and names that fit it, are played, if nothing outside fails and memory is found.
     ensures complete { ForPlay (map string_bytes words.now) (λ play.
         HasInput (H.files host.old) (map G.sound (map G.score guests.items)) play →
         ¬ Rose (H.read_faults host.old) (H.read_faults host.new) →

@@ -23,12 +23,11 @@ use std::{env, io};
 // The exit code where the help or the version can't be made or printed.
 const UNPRINTED: u8 = 6;
 
-// The exit code of a strict play that lost something.
+// The exit code of a strict play in which a call was refused, or a recorder or a disk missed a block.
 const LOSSY: u8 = 9;
 
-// The most files of a command: the script, the capture, the report of a check, the playback, and a file of each of four
-// recorders.
-const MOST_FILES: usize = 8;
+// The most files of a command: the script, the capture, the playback, and a file of each of four recorders and of four disks.
+const MOST_FILES: usize = 11;
 
 // The words of the command line, without the program's name.
 fn words(rt: &(impl Env + AllocGlobal)) -> io::Result<Vec<String>> {
@@ -84,7 +83,7 @@ fn out_of_memory(rt: &impl Eprint) -> ExitCode {
     ExitCode::from(Status::NoMemory.code())
 }
 
-// Whether a call of the report was refused, or a block lost.
+// Whether a call of the report was refused, a block lost, or a cycle an underrun.
 fn is_lossy<K>(out: &ListeningSink<K>) -> bool {
     out.notes().refused() > 0 || out.losses().has_any()
 }

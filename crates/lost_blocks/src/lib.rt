@@ -1,6 +1,6 @@
-//! The lost blocks of a report, noted line by line.
+//! The blocks that recorders and disks missed, noted of a report line by line.
 #![tactic(auto)]
 
 mod losses;
 
-pub use losses::{Losses, MOST_RECORDERS, Tape};
+pub use losses::{Losses, MOST_OWNERS, Owner, Stream};

@@ -1,75 +1,137 @@
-//! What is noted of the recorders of a report.
+//! What is noted of the recorders and the disks of a report.
 
-ghost use Rattle.std.specs.Prelude.{◌≡◌, ◌==◌, length, not, slice_set};
-ghost use Rattle.std.specs.List.{list_any};
+ghost use Rattle.std.specs.Prelude.{◌≡◌, ◌||◌, length, slice_set};
 ghost use Rattle.script_words.specs.Reads.{Reads};
-ghost use Rattle.lost_blocks.specs.Losses.{heard_with, is_told, none_noted, overrun_row, recorder_row, with_first};
+ghost use Rattle.lost_blocks.specs.Losses.{any_missed, counts_row, heard_with, is_told, miss_row, none_noted, stream_at, stream_of, with_counts, with_first, with_miss};
 
 use jack_types::Cause;
 use script_words::Words;
 use std::marker::Model;
 
-/// How many recorders a session has at most.
-pub const MOST_RECORDERS: usize = 4;
+/// How many recorders a session has at most, and how many disks.
+pub const MOST_OWNERS: usize = 4;
 
-/// What a report tells of a recorder.
+/// Whose blocks a report counts: a recorder's or a disk's, by its number from 0.
+#[derive(Clone, Copy, PartialEq, Eq)]
+pub enum Owner {
+    Recorder(usize),
+    Disk(usize),
+}
+
+/// What a report tells of a recorder or of a disk.
 #[derive(Clone, Copy)]
-pub struct Tape {
-    /// How many blocks its file has.
+pub struct Stream {
+    /// How many blocks a recorder's file has, or were played of a disk's.
     pub blocks: u64,
-    /// How many blocks were lost.
-    pub lost: u64,
-    /// The first cycle whose block was lost, or 0.
+    /// How many blocks a recorder lost, or how many underruns a disk had.
+    pub missed: u64,
+    /// The first cycle whose block was lost, or that was an underrun, or 0.
     pub first: u64,
 }
 
-/// What a report tells of its recorders, which are counted from 0. Contracts see the four of them, with zeros where it
-/// tells nothing.
+/// What a report tells of its recorders and of its disks. Contracts see the four of each, with zeros where it tells nothing.
 #[derive(Drop)]
 pub struct Losses {
-    tapes: [Tape; 4],
+    recorders: [Stream; 4],
+    disks: [Stream; 4],
 }
 
 impl Model for Losses {
-    ghost use Rattle.std.specs.Prelude.{◌≡◌, List, length};
-    ghost use Rattle.lost_blocks.specs.declared.losses.Tape.{Tape};
+    ghost use Rattle.std.specs.Prelude.{◌≡◌, length};
+    ghost use Rattle.lost_blocks.specs.Losses.{Noted};
 
-    ghost Value = { List Tape };
+    ghost Value = { Noted };
 
-    ghost view = { λ l. l.tapes };
+    ghost view = { λ l. record { recorders = l.recorders; disks = l.disks } };
 
-    ghost invariant = { λ l. length l.tapes ≡ 4 };
+    ghost invariant = { λ l. (length l.recorders ≡ 4) × (length l.disks ≡ 4) };
 }
 
-// A recorder of which nothing is told.
-const NONE: Tape = Tape {
+// An owner of which nothing is told.
+const NONE: Stream = Stream {
     blocks: 0,
-    lost: 0,
+    missed: 0,
     first: 0,
 };
 
-// A recorder's number and its counts, from the words behind `recorder`.
-fn recorder_in(words: &mut Words) -> Result<(u64, Tape), Cause>
-    ensures { Reads result words.new (recorder_row words.old) }
+// An owner's number and its counts, from the words behind the name of its line.
+fn counts_in(words: &mut Words) -> Result<(u64, Stream), Cause>
+    ensures { Reads result words.new (counts_row words.old) }
 {
     let number = words.any_number()?;
     let blocks = words.any_number()?;
-    let lost = words.any_number()?;
-    let tape = Tape {
+    let missed = words.any_number()?;
+    let stream = Stream {
         blocks,
-        lost,
+        missed,
         first: 0,
     };
-    Ok((number, tape))
+    Ok((number, stream))
 }
 
-// A recorder's number and the cycle whose block it lost, from the words behind `overrun`.
-fn overrun_in(words: &mut Words) -> Result<(u64, u64), Cause>
-    ensures { Reads result words.new (overrun_row words.old) }
+// An owner's number and the cycle that missed a block, from the words behind the name of a missed block's line.
+fn miss_in(words: &mut Words) -> Result<(u64, u64), Cause>
+    ensures { Reads result words.new (miss_row words.old) }
 {
     let number = words.any_number()?;
     let cycle = words.any_number()?;
     Ok((number, cycle))
+}
+
+// Keeps the counts of an owner.
+#[tactic(auto, using(std::proofs::lemmas::List::set_past))]
+fn set_counts(streams: &mut [Stream; 4], number: u64, stream: Stream)
+    ensures { streams.new ≡ slice_set streams.old number stream }
+{
+    if number < MOST_OWNERS as u64 {
+        streams[number as usize] = stream;
+    }
+}
+
+// Keeps the cycle that missed a block, where it is the owner's first.
+#[tactic(auto, using(std::proofs::lemmas::List::set_past))]
+fn set_first(streams: &mut [Stream; 4], number: u64, cycle: u64)
+    ensures { streams.new ≡ with_first streams.old number cycle }
+{
+    if number < MOST_OWNERS as u64 && streams[number as usize].first == 0 {
+        streams[number as usize].first = cycle;
+    }
+}
+
+// Notes the counts that stand behind the name of an owner's line.
+fn note_counts(streams: &mut [Stream; 4], words: &mut Words)
+    ensures { streams.new ≡ with_counts streams.old (counts_row words.old) }
+{
+    if let Ok((number, stream)) = counts_in(words) {
+        set_counts(streams, number, stream);
+    }
+}
+
+// Notes the cycle that stands behind the name of a missed block's line.
+fn note_miss(streams: &mut [Stream; 4], words: &mut Words)
+    ensures { streams.new ≡ with_miss streams.old (miss_row words.old) }
+{
+    if let Ok((number, cycle)) = miss_in(words) {
+        set_first(streams, number, cycle);
+    }
+}
+
+// What is kept of an owner, or zeros where there is none of this number.
+fn stream_in(streams: &[Stream; 4], number: usize) -> Stream
+    ensures { result ≡ stream_at streams.now number }
+{
+    if number < MOST_OWNERS {
+        streams[number]
+    } else {
+        NONE
+    }
+}
+
+// Whether one of these missed a block.
+fn has_missed(streams: &[Stream; 4]) -> bool
+    ensures { result ≡ any_missed streams.now }
+{
+    streams.iter().any(|stream| stream.missed != 0)
 }
 
 impl Losses {
@@ -77,45 +139,31 @@ impl Losses {
     pub fn new() -> Losses
         ensures { result ≡ none_noted }
     {
-        Losses { tapes: [NONE; 4] }
+        Losses {
+            recorders: [NONE; 4],
+            disks: [NONE; 4],
+        }
     }
 
-    /// The four recorders.
-    pub fn tapes(&self) -> &[Tape]
-        ensures value { result.now ≡ self.now }
-        ensures four { length result.now ≡ 4 }
+    /// What is noted of a recorder or of a disk; zeros where nothing is.
+    pub fn of(&self, owner: Owner) -> Stream
+        ensures { result ≡ stream_of self.now owner }
     {
-        &self.tapes
+        match owner {
+            Owner::Recorder(number) => stream_in(&self.recorders, number),
+            Owner::Disk(number) => stream_in(&self.disks, number),
+        }
     }
 
-    /// Whether a block was lost.
+    /// Whether a recorder lost a block, or a disk had an underrun.
     pub fn has_any(&self) -> bool
-        ensures { result ≡ list_any (λ tape. not (tape.lost == 0)) self.now }
+        ensures { result ≡ any_missed self.now.recorders || any_missed self.now.disks }
     {
-        self.tapes.iter().any(|tape| tape.lost != 0)
+        has_missed(&self.recorders) || has_missed(&self.disks)
     }
 
-    // Notes the counts of a recorder.
-    #[tactic(auto, using(std::proofs::lemmas::List::set_past))]
-    fn note(&mut self, number: u64, tape: Tape)
-        ensures { self.new ≡ slice_set self.old number tape }
-    {
-        if number < MOST_RECORDERS as u64 {
-            self.tapes[number as usize] = tape;
-        }
-    }
-
-    // Notes the cycle of an overrun, where it is the recorder's first.
-    #[tactic(auto, using(std::proofs::lemmas::List::set_past))]
-    fn note_cycle(&mut self, number: u64, cycle: u64)
-        ensures { self.new ≡ with_first self.old number cycle }
-    {
-        if number < MOST_RECORDERS as u64 && self.tapes[number as usize].first == 0 {
-            self.tapes[number as usize].first = cycle;
-        }
-    }
-
-    /// Hears a line of a report, without its end, and answers whether it is one of a recorder or of an overrun.
+    /// Hears a line of a report, without its end, and answers whether it is one of a recorder or of a disk, or of a block that
+    /// one of them missed.
     pub fn hear(&mut self, line: &[u8]) -> bool
         ensures heard { self.new ≡ heard_with self.old line.now }
         ensures told { result ≡ is_told line.now }
@@ -124,18 +172,17 @@ impl Losses {
         let Ok(first) = words.word() else {
             return false;
         };
-        if first == b"overrun".as_slice() {
-            if let Ok((number, cycle)) = overrun_in(&mut words) {
-                self.note_cycle(number, cycle);
-            }
-            return true;
-        }
         if first == b"recorder".as_slice() {
-            if let Ok((number, tape)) = recorder_in(&mut words) {
-                self.note(number, tape);
-            }
-            return true;
+            note_counts(&mut self.recorders, &mut words);
+        } else if first == b"overrun".as_slice() {
+            note_miss(&mut self.recorders, &mut words);
+        } else if first == b"disk".as_slice() {
+            note_counts(&mut self.disks, &mut words);
+        } else if first == b"underrun".as_slice() {
+            note_miss(&mut self.disks, &mut words);
+        } else {
+            return false;
         }
-        false
+        true
     }
 }

@@ -1,4 +1,4 @@
-//! Tests of what is noted of a play: its calls, which of them were refused, its recorders, and the first bytes of its files.
+//! Tests of what is noted of a play: its calls, which of them were refused, its recorders and disks, and the first bytes of its files.
 #![tactic(auto)]
 
 #[cfg(test)]

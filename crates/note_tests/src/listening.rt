@@ -1,6 +1,7 @@
 use host_memory::MemorySink;
 use jack_host::Sink;
 use jack_types::Refusal;
+use lost_blocks::Owner;
 use report_listener::ListeningSink;
 
 #[test]
@@ -20,7 +21,7 @@ fn calls_are_noted_up_to_the_first_line_of_another_kind(rt: HostRuntime) {
 }
 
 #[test]
-fn recorders_are_noted_behind_the_cycles(rt: HostRuntime) {
+fn recorders_and_disks_are_noted_behind_the_cycles(rt: HostRuntime) {
     let mut sink = ListeningSink::new(MemorySink::new(rt.alloc()));
     assert!(rt; sink.put(b"report 1\n".as_slice()).is_ok());
     assert!(rt;
@@ -30,10 +31,15 @@ fn recorders_are_noted_behind_the_cycles(rt: HostRuntime) {
     assert!(rt; sink.put(b"meter recorder 7\n".as_slice()).is_ok());
     assert!(rt; sink.put(b"recorder 1 1 1\n".as_slice()).is_ok());
     assert!(rt; sink.put(b"overrun 1 2 1 0\n".as_slice()).is_ok());
+    assert!(rt; sink.put(b"disk 0 4 2\n".as_slice()).is_ok());
+    assert!(rt; sink.put(b"underrun 0 3 1 1\n".as_slice()).is_ok());
+    assert!(rt; sink.put(b"underrun 0 5 2 2\n".as_slice()).is_ok());
     assert!(rt; sink.put(b"end\n".as_slice()).is_ok());
     assert_eq!(rt; sink.notes().calls(), 0);
     assert!(rt; sink.losses().has_any());
-    assert_eq!(rt; sink.losses().tapes()[1].first, 2);
+    assert_eq!(rt; sink.losses().of(Owner::Recorder(1)).first, 2);
+    assert_eq!(rt; sink.losses().of(Owner::Disk(0)).missed, 2);
+    assert_eq!(rt; sink.losses().of(Owner::Disk(0)).first, 3);
 }
 
 #[test]

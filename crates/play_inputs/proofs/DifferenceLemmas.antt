@@ -4,7 +4,7 @@ use Rattle.std.specs.Prelude.{◌==◌, Bool, None, Some, true, false, nat_lt, n
 use Rattle.jack_types.specs.declared.files.Format.{Format}
 use Rattle.jack_types.specs.declared.scripts.Header.{Header}
 use Rattle.session_model.specs.Scripts.{Script}
-use Rattle.task_laws.specs.Calls.{guests_needed}
+use Rattle.script_needs.specs.task_laws.specs.Calls.{guests_needed}
 use Rattle.play_inputs.specs.declared.status.Difference.{Difference}
 use Rattle.play_inputs.specs.declared.status.What.TheVariants.{Channels, Disks, Guests, Rate, Records}
 use Rattle.play_inputs.specs.Inputs.{difference_in, first_difference}

@@ -1,4 +1,4 @@
--- The capture of a play, as it was opened. No public clause cites this module.
+-- The capture of a play, as it was opened.
 --     IsOpened files name header left      the name's bytes are a wave that fits the script, with these samples left
 --     CaptureStatus files name header status      what a status says that ended the opening of a capture
 use Rattle.std.specs.Prelude.{◌≡◌, ℕ, List, ⊤, ℤ, Option, Some}

@@ -1,7 +1,13 @@
 pub mod Statuses
 pub mod FaultLines
 pub mod Inputs
+pub mod Disks
 pub mod Answers
 pub mod Scripts
 pub mod Captures
 pub mod Openings
+pub use Rattle.disk_inputs
+pub use Rattle.script_needs
+pub use Rattle.script_words
+pub use Rattle.session_script
+pub use Rattle.wave_pcm

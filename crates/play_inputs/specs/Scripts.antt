@@ -1,24 +1,18 @@
--- The script of a play, as it was read. No public clause cites this module.
---     IsRead bytes script      the bytes spell this script, and it is played
+-- The script of a play, as it was read.
 --     RefusesBytes bytes status      what a status says of bytes that are not one
 --     ScriptStatus files name status      what a status says that ended the reading of a script
-use Rattle.std.specs.Prelude.{◌≡◌, ◌⊎◌, ℕ, List, ⊤, Option}
+use Rattle.std.specs.Prelude.{◌≡◌, ◌⊎◌, ℕ, List, ⊤, Option, Some}
 use Rattle.jack_types.specs.declared.scripts.Cause.{Cause}
 use Rattle.jack_types.specs.declared.scripts.Cause.TheVariants as cause
 use Rattle.jack_types.specs.declared.scripts.ScriptFault.{ScriptFault}
-use Rattle.session_model.specs.Grammar.{Spells}
-use Rattle.session_model.specs.Scripts.{Script}
+use Rattle.session_model.specs.Reading.{script_fault}
 use Rattle.play_inputs.specs.declared.status.Status.{Status}
 use Rattle.play_inputs.specs.declared.status.Status.TheVariants.{Ok, NoMemory, Words, ReadFault, BadWave, BadScript, WriteFault, Differs, Wrong}
-use Rattle.play_inputs.specs.Inputs.{Files, IfBytes, IsBadScript, IsFaulty, IsPlayed}
-
-pub record IsRead (bytes : List ℕ) (script : Script) : Type 0 where
-  pub spelled : Spells bytes script
-  pub played : IsPlayed script
+use Rattle.play_inputs.specs.Inputs.{Files, IfBytes, IsBadScript}
 
 -- want of memory, or a fault of theirs
 abbrev pub RefusesBytes : List ℕ → Status → Type 0
-RefusesBytes bytes status = (status ≡ NoMemory) ⊎ ((fault : ScriptFault) × (status ≡ BadScript fault) × IsFaulty bytes fault)
+RefusesBytes bytes status = (status ≡ NoMemory) ⊎ ((fault : ScriptFault) × (status ≡ BadScript fault) × (script_fault bytes ≡ Some fault))
 
 -- want of memory is no fault of the bytes
 abbrev pub status_of_cause : Cause → ScriptFault → Status

@@ -1,9 +1,10 @@
-//! What a play, or a check of one, is given: its script and its capture, read through a host and compared with the names and the
-//! guests, and the status of each fault of them.
+//! What a play, or a check of one, is given: its script, its capture and its disk files, read through a host and compared with the
+//! names and the guests, and the status of each fault of them.
 #![tactic(auto)]
 
 mod captures;
 mod comparing;
+mod disks;
 mod fault_lines;
 mod inputs;
 mod reading;
@@ -11,5 +12,9 @@ mod scripts;
 mod status;
 
 pub use fault_lines::{put_fault, put_line};
-pub use inputs::{Inputs, open_inputs};
+pub use inputs::{Inputs, open_fitting, open_inputs};
+pub use script_words;
+pub use scripts::{load_script, script_in};
+pub use session_script;
 pub use status::{Difference, Status, What};
+pub use wave_pcm;

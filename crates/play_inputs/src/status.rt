@@ -62,9 +62,9 @@ pub enum Status {
     Words,
     /// A file could not be opened or read.
     ReadFault,
-    /// The capture is no WAVE file that is read.
+    /// The capture, or a disk file, is no WAVE file that is read.
     BadWave(WaveFault),
-    /// The script can't be played.
+    /// The script is faulty, or is not checked.
     BadScript(ScriptFault),
     /// A file or the report could not be written.
     WriteFault,

@@ -26,8 +26,8 @@ use Rattle.event_laws.specs.client_wiring.specs.Wirings.{given_by, given_of, joi
 use Rattle.event_laws.specs.client_wiring.proofs.OverLemmas.{device_of_none, name-of_place}
 use Rattle.event_laws.specs.client_wiring.proofs.PlaybackLemmas.{inside-plan, sound-plan, wired-plan}
 use Rattle.event_laws.specs.client_wiring.proofs.TaskLemmas.{edge-sound, input-listed, input-sound, place-index}
-use Rattle.stage_laws.specs.client_tasks.specs.Tasks.{widths_at}
-use Rattle.stage_laws.specs.task_laws.proofs.CallLemmas.{each-filter_map}
+use Rattle.client_tasks.specs.Tasks.{widths_at}
+use Rattle.task_laws.proofs.CallLemmas.{each-filter_map}
 
 module _ (plan : Planned) (planned : IsPlanned plan) where
   abbrev state : State

@@ -28,18 +28,18 @@ use Rattle.event_laws.specs.client_benches.specs.Seen.{HasScores, Remembered as 
 use Rattle.event_laws.specs.client_wiring.specs.Keeping.{GoesOn, SetsFeedback}
 use Rattle.event_laws.specs.client_wiring.specs.Wirings.{Wired, wired_of}
 use Rattle.event_laws.specs.client_wiring.specs.declared.joints.Origin.TheVariants.{Captured}
-use Rattle.stage_laws.specs.bench_rack.specs.Racks.{bench_at}
-use Rattle.stage_laws.specs.client_seats.specs.Owners.{Owned, owner_at}
-use Rattle.stage_laws.specs.client_seats.specs.Seatings.{HasNoPast, IsNobodys, IsScored, IsSeating, memory_of, standing_at}
-use Rattle.stage_laws.specs.client_seats.proofs.MemoryLemmas.{found_past, memory-owned, owned_or_not}
-use Rattle.stage_laws.specs.client_seats.proofs.PlaceLemmas.{open_within, within_open}
-use Rattle.stage_laws.specs.client_tasks.specs.Fillings.{known_at, last_place}
-use Rattle.stage_laws.specs.client_tasks.specs.Tasks.{IsSet, joint_at, turn_of}
+use Rattle.bench_rack.specs.Racks.{bench_at}
+use Rattle.client_seats.specs.Owners.{Owned, owner_at}
+use Rattle.client_seats.specs.Seatings.{HasNoPast, IsNobodys, IsScored, IsSeating, memory_of, standing_at}
+use Rattle.client_seats.proofs.MemoryLemmas.{found_past, memory-owned, owned_or_not}
+use Rattle.client_seats.proofs.PlaceLemmas.{open_within, within_open}
+use Rattle.client_tasks.specs.Fillings.{known_at, last_place}
+use Rattle.client_tasks.specs.Tasks.{IsSet, joint_at, turn_of}
 use Rattle.driver_words.specs.Feeding.{Fed, fed_at}
 use Rattle.driver_words.specs.Hearings.{Heard, log_at}
-use Rattle.stage_laws.specs.driver_laws.specs.Drivers.{Remembered}
-use Rattle.stage_laws.specs.driver_laws.specs.Playing.{with_fed}
-use Rattle.stage_laws.specs.task_laws.proofs.PlayingLemmas.{idle-kept}
+use Rattle.driver_laws.specs.Drivers.{Remembered}
+use Rattle.driver_laws.specs.Playing.{with_fed}
+use Rattle.task_laws.proofs.PlayingLemmas.{idle-kept}
 use Rattle.event_laws.specs.Crews.{KnowsAudio, heard_task, set_events, with_events, with_midi_of}
 pub use Rattle.stage_laws.proofs.BirthLemmas.{node-opened}
 use Rattle.stage_laws.specs.Performances.{PerformsPlan}

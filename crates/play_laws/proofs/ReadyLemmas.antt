@@ -28,7 +28,7 @@ use Rattle.event_laws.specs.client_benches.specs.Wires.{no_wire, part_in, parts_
 use Rattle.event_laws.specs.client_benches.specs.declared.benches.Stint.{Stint}
 use Rattle.event_laws.specs.client_benches.specs.declared.values.Route.{Route}
 use Rattle.event_laws.specs.client_benches.specs.declared.wires.Wire.{Wire}
-use Rattle.stage_laws.specs.client_tasks.specs.Tasks.{IsSet, first_like, is_same_channel, joint_at, route_to, routes_of, source_by, turn_of, widths_at, wire_by, wires_of}
+use Rattle.client_tasks.specs.Tasks.{IsSet, first_like, is_same_channel, joint_at, route_to, routes_of, source_by, turn_of, widths_at, wire_by, wires_of}
 use Rattle.event_laws.specs.client_wiring.proofs.TaskLemmas.{SetsTasks-wired}
 use Rattle.event_laws.specs.client_wiring.specs.Wirings.{SetsTasks, Wired, carried_at, part_from, route_by, wired_of}
 use Rattle.event_laws.specs.client_wiring.specs.declared.joints.Carried.{Carried}

@@ -23,10 +23,10 @@ use Rattle.event_laws.specs.client_wiring.specs.declared.joints.Origin.{Origin}
 use Rattle.event_laws.specs.client_wiring.specs.declared.joints.Origin.TheVariants.{Handed, Kept, Captured}
 use Rattle.event_laws.specs.client_wiring.specs.Keeping.{SetsFeedback, kept_audio}
 use Rattle.event_laws.specs.client_wiring.specs.Wirings.{output_name, wired_of}
-use Rattle.stage_laws.specs.bench_rack.specs.Racks.{bench_at}
-use Rattle.stage_laws.specs.client_seats.specs.Owners.{owner_at}
-use Rattle.stage_laws.specs.client_tasks.specs.Fillings.{kept_at, known_by, last_from}
-use Rattle.stage_laws.specs.client_tasks.specs.Tasks.{widths_at}
+use Rattle.bench_rack.specs.Racks.{bench_at}
+use Rattle.client_seats.specs.Owners.{owner_at}
+use Rattle.client_tasks.specs.Fillings.{kept_at, known_by, last_from}
+use Rattle.client_tasks.specs.Tasks.{widths_at}
 use Rattle.driver_words.specs.Feeding.{Fed}
 use Rattle.driver_words.specs.Hearings.{Heard}
 use Rattle.stage_laws.specs.Casts.{Casts}

@@ -18,8 +18,8 @@ use Rattle.port_registry.specs.Registered.{open_clients}
 use Rattle.event_laws.specs.cycle_plan.specs.Plans.{Planned, state_of_plan}
 use Rattle.driver_words.specs.Feeding.{Fed, fed_at}
 use Rattle.driver_words.specs.Hearings.{Heard, log_at}
-use Rattle.stage_laws.specs.driver_laws.specs.Playing.{with_fed}
-use Rattle.stage_laws.specs.client_seats.specs.Seatings.{memory_of}
+use Rattle.driver_laws.specs.Playing.{with_fed}
+use Rattle.client_seats.specs.Seatings.{memory_of}
 use Rattle.event_laws.specs.Crews.{with_events}
 use Rattle.event_laws.specs.Machine.{BringsEvents}
 pub use Rattle.stage_laws.specs.Performances.{PerformsPlan}

@@ -5,7 +5,7 @@ use Rattle.std.specs.Prelude.{◌≡◌, ℕ, ◌<◌, ⊤, List, length, ℤ}
 use Rattle.session_model.specs.Benches.{Known}
 use Rattle.session_model.specs.Cycles.{Settled}
 use Rattle.session_model.specs.State.{OpenClient}
-use Rattle.stage_laws.specs.client_tasks.specs.Tasks.{joint_at}
+use Rattle.client_tasks.specs.Tasks.{joint_at}
 use Rattle.event_laws.specs.client_wiring.specs.Wirings.{part_from}
 use Rattle.event_laws.specs.client_wiring.specs.declared.joints.Joint.{Joint}
 use Rattle.event_laws.specs.client_wiring.specs.declared.joints.Origin.{Origin}

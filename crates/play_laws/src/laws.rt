@@ -10,7 +10,7 @@ ghost use Rattle.session_model.specs.State.{system_name};
 ghost use Rattle.client_kinds.specs.Scores.{Score};
 ghost use Rattle.port_registry.specs.Registered.{open_clients};
 ghost use Rattle.event_laws.specs.cycle_plan.specs.Plans.{Planned, state_of_plan};
-ghost use Rattle.stage_laws.specs.client_seats.specs.Seatings.{memory_of};
+ghost use Rattle.client_seats.specs.Seatings.{memory_of};
 ghost use Rattle.event_laws.specs.client_wiring.specs.Keeping.{GoesOn};
 ghost use Rattle.driver_words.specs.Feeding.{Fed};
 ghost use Rattle.driver_words.specs.Hearings.{Heard};

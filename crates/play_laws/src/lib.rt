@@ -4,6 +4,4 @@
 
 pub mod laws;
 
-pub use event_laws::midi_wiring;
-pub use stage_laws::disk_feeds;
 pub use stage_laws::owning::a_plan_of_a_scripts_calls_is_not_refused;

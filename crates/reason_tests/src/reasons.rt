@@ -1,9 +1,10 @@
 use jack_types::{Part, Row};
-use lost_blocks::Tape;
+use lost_blocks::Stream;
 use refused_calls::Notes;
 use std::alloc::AllocError;
 use told_reasons::{
-    Capture, of_capture, of_guests, of_lost_blocks, of_refusals, of_rings, of_wrong, standing_in,
+    Capture, of_capture, of_fills, of_guests, of_lost_blocks, of_refusals, of_rings, of_underruns,
+    of_wrong, standing_in,
 };
 
 const SCRIPT: &[u8; 71] =
@@ -59,23 +60,47 @@ const PERIODS: &[u8; 101] =
 
 #[test]
 fn lost_blocks_are_told_by_their_first_cycle(rt: HostRuntime) -> Result<(), AllocError> {
-    let tape = |lost, first| Tape {
+    let stream = |missed, first| Stream {
         blocks: 5,
-        lost,
+        missed,
         first,
     };
     let cases = [
         (
-            tape(1, 3),
+            stream(1, 3),
             "jackd: r: 1 of 6 blocks was lost, in cycle 3 (second 0.000); the file is shifted from there on\n",
         ),
         (
-            tape(7, 700),
+            stream(7, 700),
             "jackd: r: 7 of 12 blocks were lost, the first in cycle 700 (second 0.922); the file is shifted from there on\n",
         ),
     ];
-    for (tape, told) in cases {
-        let reason = of_lost_blocks(rt.alloc(), "r", PERIODS.as_slice(), tape)?;
+    for (stream, told) in cases {
+        let reason = of_lost_blocks(rt.alloc(), "r", PERIODS.as_slice(), stream)?;
+        assert!(rt; reason.as_bytes() == told.as_bytes());
+    }
+    Ok(())
+}
+
+#[test]
+fn underruns_are_told_by_their_first_cycle(rt: HostRuntime) -> Result<(), AllocError> {
+    let stream = |blocks, missed, first| Stream {
+        blocks,
+        missed,
+        first,
+    };
+    let cases = [
+        (
+            stream(1, 1, 3),
+            "jackd: d: 1 underrun beside 1 block played, in cycle 3 (second 0.000); it is silent, and the track is late from there on\n",
+        ),
+        (
+            stream(0, 7, 700),
+            "jackd: d: 7 underruns beside 0 blocks played, the first in cycle 700 (second 0.922); each is silent, and the track is late from there on\n",
+        ),
+    ];
+    for (stream, told) in cases {
+        let reason = of_underruns(rt.alloc(), "d", PERIODS.as_slice(), stream)?;
         assert!(rt; reason.as_bytes() == told.as_bytes());
     }
     Ok(())
@@ -152,6 +177,29 @@ fn the_way_out_goes_by_the_mode(rt: HostRuntime) -> Result<(), AllocError> {
     ];
     for (script, told) in cases {
         let reason = of_rings(rt.alloc(), script)?;
+        assert!(rt; reason.as_bytes() == told.as_bytes());
+    }
+    Ok(())
+}
+
+#[test]
+fn the_way_out_of_underruns_goes_by_the_mode(rt: HostRuntime) -> Result<(), AllocError> {
+    let cases = [
+        (
+            b"mode serial\nring 2\nfill 0\n".as_slice(),
+            "jackd: \"fill 1\" has no underrun, nor has a \"freewheel\" segment\n",
+        ),
+        (
+            b"mode steal 2\nring 64\n".as_slice(),
+            "jackd: \"mode serial\" with \"fill 1\" has no underrun, nor has a \"freewheel\" segment\n",
+        ),
+        (
+            b"mode threads 2\nfill 0\n".as_slice(),
+            "jackd: \"ring 64\" makes underruns rarer; \"mode serial\" with \"fill 1\" has none, nor has a \"freewheel\" segment\n",
+        ),
+    ];
+    for (script, told) in cases {
+        let reason = of_fills(rt.alloc(), script)?;
         assert!(rt; reason.as_bytes() == told.as_bytes());
     }
     Ok(())

@@ -22,7 +22,7 @@ use Rattle.record_ring.specs.declared.view.SeatView.{SeatView}
 use Rattle.record_ring.specs.Rings.{content}
 use Rattle.driver_words.specs.Rings.{items_of}
 use Rattle.record_ring.specs.Rule.{weight, HasRoomFor, IsNext, RingRule}
-use Rattle.record_ring.specs.Steps.{Sat, with_consumer, find_after, Found, take_after, Took}
+use Rattle.record_ring.specs.Steps.{Sat, with_consumer, find_after, Found, Peeked, take_after, Took}
 use Rattle.record_ring.proofs.Moves.{Goes, shows, reset, consumer_moves, producer_stays}
 
 pub small : (b : Bool) → weight b ≤ 1
@@ -108,6 +108,35 @@ finds z n id me consumes alone free s r wide at _ =
       stays e.done mine.all_done,
       (low, omega arith, told, done_is, (λ same no. refl), (λ same yes. absurd (open' yes)), λ more. absurd (omega arith)),
     ))))
+
+pub peeks : (z : Size) (n id : ℕ) (me : Sat) → me.0.is_consumer ≡ true → me.0.is_producer ≡ false → Allows (RingRule z) n id me 0 (λ x. x) (Peeked (step n 0 0 0 none) me)
+peeks z n id me consumes alone s r wide at _ =
+    let k : ℕ = get_or s.words 0 0 in let len : ℕ = length r.put in let e : ConsumerView = me.0.consumer in
+    let mine = (r.each_consumer id me.0 at consumes).1 in let mark : ℕ = weight r.ended in let low_mark : mark ≤ 1 = small r.ended in
+    let is : k ≡ 2 * len + mark = ap (λ (ws : List ℕ). get_or ws 0 0) r.words_are in let half : k / 2 ≡ len = omega arith in let odd : k % 2 ≡ mark = omega arith in
+    let low : e.least ≤ k / 2 = subst (λ (q : ℕ). e.least ≤ q) (sym half) mine.least_low in (
+      me.0,
+      keeps,
+      tt,
+      record {
+        put = r.put;
+        taken = r.taken;
+        ended = r.ended;
+        producer = r.producer;
+        consumer = r.consumer;
+        lent = r.lent;
+        drawn = r.drawn;
+        words_are = set-get_or s.words 0 0 ∙ r.words_are;
+        valid = r.valid;
+        behind = r.behind;
+        within = r.within;
+        waiting = r.waiting;
+        spare = r.spare;
+        each_producer = producer_stays z s r id me.0 at alone r.taken e (le_refl r.taken);
+        each_consumer = consumer_moves z s r id me.0 at consumes r.ended r.taken r.drawn e mine;
+      },
+      (low, (λ told. odd ∙ ap weight (mine.told_end told)), (λ done. odd ∙ ap weight (mine.all_done done).0), refl),
+    )
 
 pub draws : (z : Size) (n id : ℕ) (v : SeatView) (k new : ℕ) (x : RingBlock) (y : Block) (tail : List (ℕ × Block)) → v.is_consumer ≡ true → v.is_producer ≡ false → v.consumer.next ≡ x ∷ []
     → k ≡ length v.consumer.got % n → HasRoomFor v.size.samples y → new ≡ length v.consumer.got + 1

@@ -64,6 +64,10 @@ Found st m r m' =
     × (n ≡ taken → r % 2 ≡ 1 → m' ≡ (with_consumer m.0 (find_after m.0.consumer n [] true), m.1))
     × (taken < n → (x : Block) × HasRoomFor m.0.size.samples x × (m' ≡ (with_consumer m.0 (find_after m.0.consumer n (content x ∷ []) m.0.consumer.done), (taken % st.slots, x) ∷ m.1)))
 
+-- a load of the number sent with the mark, of which nothing is noted
+abbrev pub Peeked : Step Block → Sat → ℕ → Sat → Type 0
+Peeked st m r m' = (m.0.consumer.least ≤ r / 2) × (m.0.consumer.told ≡ true → r % 2 ≡ 1) × (m.0.consumer.done ≡ true → r % 2 ≡ 1) × (m' ≡ m)
+
 abbrev pub take_after : ConsumerView → ConsumerView
 take_after e = record e { got = e.got ++ e.next; next = [] }
 

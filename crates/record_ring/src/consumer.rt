@@ -1,6 +1,6 @@
 //! The end of a ring that gets blocks.
 use crate::block::Block;
-use crate::steps::{Find, Take};
+use crate::steps::{Find, Peek, Take};
 use crate::view::{Board, Place, SENT, TAKEN};
 use std::alloc::Global;
 use std::marker::Model;
@@ -38,7 +38,7 @@ impl Model for Consumer {
 }
 
 impl Consumer {
-    ghost use Rattle.std.specs.Prelude.{◌≡◌, ◌≢◌, ◌<◌, ◌≤◌, ◌^◌, ℕ, length};
+    ghost use Rattle.std.specs.Prelude.{◌≡◌, ◌≢◌, ◌<◌, ◌≤◌, ◌^◌, ℕ, false, true, length};
     ghost use Rattle.record_ring.specs.Rings.{content, Gets};
     ghost use Rattle.driver_words.specs.Rings.{items_of};
 
@@ -71,6 +71,19 @@ impl Consumer {
         words.store::<Take>(&mut self.seat, TAKEN, self.taken + 1);
         self.taken += 1;
         Got::Block
+    }
+
+    /// Whether a get would answer `Empty` now: all that was sent is taken, and the end mark does not stand.
+    ///
+    /// It loads the number sent with the end mark once, and notes nothing.
+    pub fn is_empty(&mut self) -> bool
+        ensures none { result ≡ true → self.old.least ≤ length self.old.got }
+        ensures going { result ≡ true → (self.old.told ≡ false) × (self.old.done ≡ false) }
+        ensures same { self.new ≡ self.old }
+    {
+        let words = &self.table.shared;
+        let found = words.load::<Peek>(&mut self.seat, SENT);
+        found % 2 == 0 && found / 2 == self.taken
     }
 
     /// How many blocks were taken out of the ring.

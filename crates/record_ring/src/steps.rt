@@ -48,6 +48,15 @@ impl Play<Block, SeatView> for Find {
     ghost then = { Found };
 }
 
+/// The consumer's load of the number sent, of which it notes nothing.
+pub(crate) struct Peek;
+
+impl Play<Block, SeatView> for Peek {
+    ghost use Rattle.record_ring.specs.Steps.{Peeked};
+
+    ghost then = { Peeked };
+}
+
 /// The consumer's store of the number taken.
 pub(crate) struct Take;
 

@@ -1,4 +1,4 @@
-//! A sink that listens to the report that goes through it, and notes its calls and its recorders.
+//! A sink that listens to the report that goes through it, and notes its calls, its recorders and its disks.
 #![tactic(auto)]
 
 mod listening;

@@ -7,8 +7,8 @@ use jack_host::{Failed, Sink};
 use lost_blocks::Losses;
 use refused_calls::Notes;
 
-/// A sink in front of another one. It passes each put on as it is, and notes the calls and the recorders of the report: of each
-/// put the lines from the first on, up to the first of another kind.
+/// A sink in front of another one. It passes each put on as it is, and notes the calls, the recorders and the disks of the
+/// report: of each put the lines from the first on, up to the first of another kind.
 ///
 /// It takes no memory and copies no byte. Of the lines of cycles it reads the first of each put. A put holds whole lines.
 #[derive(Drop)]
@@ -46,7 +46,7 @@ impl<K> ListeningSink<K> {
         &self.notes
     }
 
-    /// What is noted so far of recorders.
+    /// What is noted so far of recorders and of disks.
     pub fn losses(&self) -> &Losses
         ensures { result.now ≡ self.now.losses }
     {
@@ -64,7 +64,7 @@ fn first_line(bytes: &[u8]) -> (&[u8], &[u8]) {
     (bytes, &bytes[..0])
 }
 
-// Hears lines of a report, up to the first that is none of a call or of a recorder.
+// Hears lines of a report, up to the first that is none of a call, of a recorder or of a disk.
 fn hear(notes: &mut Notes, losses: &mut Losses, lines: &[u8]) {
     let mut rest = lines;
     for _ in 0..lines.len() {

@@ -24,7 +24,7 @@ use Rattle.session_laws.proofs.ActivationLemmas.{get_or-map_below, length-map_be
 use Rattle.graph_word.specs.declared.view.TakenRow.{TakenRow}
 use Rattle.graph_word.specs.Publications.{HaveMet, IsFront}
 use Rattle.driver_words.specs.Rings.{Getting, Sending}
-use Rattle.control_desk.specs.Laws.{AreApart, AreOfCalls as AcceptsCalls, OfCallsAccepted}
+use Rattle.serial_lanes.specs.control_desk.specs.Laws.{AreApart, AreOfCalls as AcceptsCalls, OfCallsAccepted}
 use Rattle.driver_laws.specs.Drivers.{Driver, underruns_on}
 use Rattle.driver_laws.specs.Keeping.{AreOfCalls, Fits, FitsDisk, Keeps, file_block}
 use Rattle.driver_laws.specs.Openings.{IsNew as IsNewDriver}

@@ -11,7 +11,7 @@ use Rattle.session_model.specs.Recorders.{is_tape, is_taping}
 use Rattle.session_model.specs.Scripts.{Script, phases}
 use Rattle.session_model.specs.Serial.{serial_course, serial_history, serial_numbers}
 use Rattle.session_model.specs.State.{OpenClient, opening}
-use Rattle.control_desk.specs.Laws.{LegalWhereDone}
+use Rattle.serial_lanes.specs.control_desk.specs.Laws.{LegalWhereDone}
 use Rattle.serial_lanes.specs.Laws.{CyclesTotal}
 use Rattle.run_laws.specs.Runs.{RanPhases}
 use Rattle.run_laws.specs.Sessions.{Session}

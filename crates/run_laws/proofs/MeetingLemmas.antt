@@ -10,7 +10,7 @@ use Rattle.session_laws.proofs.ActivationLemmas.{get_or-map_below, length-map_be
 use Rattle.session_laws.proofs.ListLemmas.{Contains-at, slice_get-map}
 use Rattle.graph_word.specs.declared.view.TakenRow.{TakenRow}
 use Rattle.graph_word.specs.Publications.{HaveMet}
-use Rattle.control_desk.specs.Desks.{Desk, IsDesk}
+use Rattle.serial_lanes.specs.control_desk.specs.Desks.{Desk, IsDesk}
 use Rattle.driver_laws.specs.Drivers.{Driver, HasOwnRows, run}
 use Rattle.run_laws.proofs.PlaceLemmas.{mapped_there}
 

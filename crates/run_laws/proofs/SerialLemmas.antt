@@ -1,28 +1,27 @@
 -- The run of a session in serial mode, between its segments and behind all.
 --     SerialBehind-phase      behind the last round of a phase
 --     history-behind, numbers-behind, RanPhases-behind      behind all phases
---     AtPhase-behind, IsSerial-behind, overruns-behind      and of what was given
-use Rattle.std.proofs.Common.{◌≡◌, ℕ, zero, suc, ◌+◌, ◌<◌, ◌≤◌, List, [], ◌∷◌, length, take, slice_get, IsSome, Some, sym, ◌∙◌, ap, subst, arith, true≢false, sum_by}
+--     AtPhase-behind, overruns-behind      and of what was given
+use Rattle.std.proofs.Common.{◌≡◌, ℕ, zero, suc, ◌+◌, ◌<◌, List, [], ◌∷◌, length, take, slice_get, IsSome, Some, sym, ◌∙◌, ap, subst, arith, true≢false, sum_by}
 use Rattle.std.specs.List.Sorted.{IsNonDecreasing}
 use Rattle.std.proofs.Math.Seq.{take-length}
 use Rattle.std.proofs.lemmas.List.Sums.{sum_by-cons}
 use Rattle.std.proofs.lemmas.Option.{none-some, slice_get_within}
-use Rattle.session_model.specs.Disks.{IsSerial}
 use Rattle.session_model.specs.Explanations.{Given}
 use Rattle.session_model.specs.Grammar.{IsScript}
 use Rattle.session_model.specs.Histories.{Cycles}
 use Rattle.session_model.specs.Scripts.{Phase, Script, phases, turns}
 use Rattle.session_model.specs.Serial.{serial, serial_history, serial_numbers, serial_overruns, counts, serial_course}
 use Rattle.disk_player.specs.Playing.{Playing}
-use Rattle.control_desk.specs.Laws.{OfCallsAccepted}
-use Rattle.driver_laws.specs.Drivers.{overruns_on, run}
+use Rattle.serial_lanes.specs.control_desk.specs.Laws.{OfCallsAccepted}
+use Rattle.driver_laws.specs.Drivers.{overruns_on}
 use Rattle.driver_laws.specs.Keeping.{Fits}
 use Rattle.serial_lanes.specs.Laws.{BehindAll, BehindLastRound, CyclesTotal}
 use Rattle.serial_lanes.specs.Lanes.{BehindPhases}
 use Rattle.run_laws.specs.Runs.{AreWithin, AtPhase, DisksAtRest, RanPhases}
 use Rattle.run_laws.specs.SerialRuns.{SerialAt, SerialBehind, SerialKept}
 use Rattle.run_laws.specs.Sessions.{Session, course_in, printed_of}
-use Rattle.run_laws.proofs.CourseLemmas.{Fits-met, FitsDisk-rest, IsOver-own}
+use Rattle.run_laws.proofs.CourseLemmas.{Fits-met, FitsDisk-rest}
 use Rattle.run_laws.proofs.PlaceLemmas.{map-below, some_at}
 
 some-same : {X : Type 0} (x y : X) → Some x ≡ Some y → x ≡ y
@@ -104,13 +103,6 @@ AtPhase-behind of_calls all legal total session given behind kept rest = record 
   where
     no_threads : IsSome session.script.header.threads → ⊥
     no_threads threads = true≢false (sym threads ∙ behind.so_far.serial)
-
-pub IsSerial-behind : OfCallsAccepted → CyclesTotal → (session : Session) (given : Given) → SerialBehind session (length (phases session.script)) → SerialKept given session → DisksAtRest given session
-    → (disk : ℕ) → disk < length session.script.header.disks → IsSerial (course_in given session) disk
-IsSerial-behind of_calls total session given behind kept rest disk h k first last =
-    let player = player_there session behind disk h in
-    let size : length (turns given.script) ≡ run session.driver = ap (λ (s : Script). length (turns s)) kept.own.script ∙ sym (behind.cycles_are ∙ total session.script) in
-    (kept.turned (course_in given session) (IsOver-own session given) (Fits-behind of_calls session given behind kept rest) disk player.0 player.1).missed k first (subst (λ n. k ≤ n) size last)
 
 -- the overruns are those of serial mode
 pub overruns-behind : CyclesTotal → (session : Session) (given : Given) → SerialBehind session (length (phases session.script)) → SerialKept given session → (printed_of session).overruns ≡ (serial session.script).overruns

@@ -20,7 +20,7 @@ use Rattle.driver_words.specs.Tapes.{Tape, HasSamples}
 use Rattle.disk_recorder.specs.Recordings.{MayWrite}
 use Rattle.disk_player.specs.Files.{PlaysFile}
 use Rattle.disk_player.specs.Playing.{Playing}
-use Rattle.control_desk.specs.Desks.{IsDone}
+use Rattle.serial_lanes.specs.control_desk.specs.Desks.{IsDone}
 use Rattle.driver_laws.specs.Drivers.{HasPlayback, overruns_on, run, turn_of, underruns_on}
 use Rattle.driver_laws.specs.Keeping.{Fits, file_block}
 use Rattle.driver_laws.specs.Segments.{cycles_before}

@@ -1,23 +1,23 @@
 -- Where the run of a session in serial mode is.
 --     SerialAt session done cycles rounds      behind so many phases, so many cycles of the next, and so many rounds of its lanes
 --     SerialBehind session done      between two segments
+--     DiskSerial, DisksSerial      the counts and the underruns of disks, between two cycles
 --     SerialKept given session      what is kept of what was given
-use Rattle.std.specs.Prelude.{◌≡◌, ℕ, ◌+◌, ◌≤◌, false, List, length, take, slice_get, All, Some, IsNone}
+use Rattle.std.specs.Prelude.{◌≡◌, ℕ, ◌+◌, false, List, length, take, slice_get, All, Some, IsNone}
 use Rattle.jack_types.specs.declared.replies.Overrun.{Overrun}
-use Rattle.session_model.specs.Courses.{Course, is_underrun}
-use Rattle.session_model.specs.Disks.{is_missed_in, turned_before}
+use Rattle.session_model.specs.Disks.{got_one, missed_up_to, turned_before}
 use Rattle.session_model.specs.Explanations.{Given}
 use Rattle.session_model.specs.Histories.{accepted}
-use Rattle.session_model.specs.Serial.{Counts, counts, serial_course, serial_history, serial_numbers}
+use Rattle.session_model.specs.Serial.{Counts, counts, course_before, serial_course, serial_history, serial_numbers}
 use Rattle.graph_word.specs.declared.view.TakenRow.{TakenRow}
 use Rattle.graph_word.specs.Publications.{IsFront}
 use Rattle.driver_words.specs.Rings.{Sending, Getting}
 use Rattle.disk_player.specs.Playing.{Playing}
-use Rattle.driver_laws.specs.Drivers.{overruns_on, run}
-use Rattle.driver_laws.specs.Keeping.{Fits}
+use Rattle.disk_turns.specs.Standing.{StandsAt}
+use Rattle.driver_laws.specs.Drivers.{overruns_on, run, underruns_on}
 use Rattle.driver_laws.specs.Segments.{cycles_before}
 use Rattle.serial_lanes.specs.Lanes.{BehindPhases, SerialDesk}
-use Rattle.run_laws.specs.Sessions.{IsFor, IsMet, IsOne, IsOver, KeepsAny, Session}
+use Rattle.run_laws.specs.Sessions.{IsDisk, IsFor, IsMet, IsOne, KeepsAny, Session}
 use Rattle.run_laws.specs.Runs.{HasFiles, MissesInRun, PlaysAll}
 
 -- the numbers and the rows are those of serial mode so far; desk and driver met, and nothing failed
@@ -61,10 +61,14 @@ pub record RingSerial (session : Session) (recorder : ℕ) (ring : Sending) (got
   pub counted : HasCounts ring got (counts (serial_course session.script) recorder (run session.driver))
   pub losses : overruns_on session.driver.overruns recorder ≡ (counts (serial_course session.script) recorder (run session.driver)).losses
 
--- what was put into a disk's ring is what the stated turns put, and its underruns are the cycles in which they leave no block and no end
-pub record IsTurned (course : Course) (session : Session) (disk : ℕ) (ring : Sending) : Type 0 where
-  pub put : length ring.put ≡ (turned_before course disk (run session.driver)).put
-  pub missed : (k : ℕ) → 1 ≤ k → k ≤ run session.driver → is_underrun course disk k ≡ is_missed_in course disk k
+-- a disk's counts and underruns are those of the stated turns, over the course of serial mode, whose turns rest on no underrun
+pub record DiskSerial (given : Given) (session : Session) (disk : ℕ) (player : Playing) (got : Getting) : Type 0 where
+  pub stands : StandsAt (course_before given) disk (got_one (course_before given) disk (run session.driver) (turned_before (course_before given) disk (run session.driver))) player got
+  pub missed : underruns_on session.driver.underruns disk ≡ missed_up_to (course_before given) disk (run session.driver)
+
+-- of each
+abbrev pub DisksSerial : Given → Session → Type 0
+DisksSerial given session = (disk : ℕ) (player : Playing) (got : Getting) → IsDisk session disk player got → DiskSerial given session disk player got
 
 -- each course over what was given that fits is kept, and the rings are those of serial mode
 pub record SerialKept (given : Given) (session : Session) : Type 0 where
@@ -72,4 +76,4 @@ pub record SerialKept (given : Given) (session : Session) : Type 0 where
   pub keeps : KeepsAny given session.driver
   pub rings : (recorder : ℕ) (ring : Sending) (got : Getting) → slice_get session.driver.rings recorder ≡ Some ring → slice_get session.getting recorder ≡ Some got → RingSerial session recorder ring got
   pub plays : PlaysAll given session
-  pub turned : (course : Course) → IsOver given course → Fits session.driver course → (disk : ℕ) (player : Playing) → slice_get session.players disk ≡ Some player → IsTurned course session disk player.sending
+  pub turned : DisksSerial given session

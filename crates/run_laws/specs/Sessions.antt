@@ -2,6 +2,7 @@
 --     Session      what is seen of it
 --     printed_of session, course_in given session      what its report says, and the one computation over that
 --     IsGiven, IsFor, IsOver      what it was given, and the courses over that
+--     IsDisk session disk player got      a disk's player, and the end of its ring that gets
 --     IsOne session      its parts belong together
 --     IsMet session      the desk and the driver met, and neither went on since
 --     KeepsAny given driver      whatever course fits the driver, it has what that course gives
@@ -14,10 +15,10 @@ use Rattle.session_model.specs.Grammar.{IsScript}
 use Rattle.session_model.specs.Samples.{below}
 use Rattle.session_model.specs.Scripts.{Script}
 use Rattle.graph_word.specs.Publications.{HaveMet}
-use Rattle.driver_words.specs.Rings.{Sending, Getting, IsPair}
+use Rattle.driver_words.specs.Rings.{Getting, IsPair, Sending}
 use Rattle.driver_words.specs.Tapes.{Tape}
 pub use Rattle.disk_player.specs.Playing.{Playing}
-use Rattle.control_desk.specs.Desks.{Desk, IsDesk}
+use Rattle.serial_lanes.specs.control_desk.specs.Desks.{Desk, IsDesk}
 use Rattle.driver_laws.specs.Drivers.{Driver, HasOwnRings, HasOwnRows, overruns_on, run, underruns_on}
 use Rattle.driver_laws.specs.Keeping.{Fits, Keeps}
 
@@ -65,6 +66,11 @@ pub record IsOver (given : Given) (course : Course) : Type 0 where
   pub capture : course.capture ≡ given.capture
   pub disks : course.disks ≡ given.disks
   pub scores : course.scores ≡ given.scores
+
+-- a disk's player, and the end of its ring that gets
+pub record IsDisk (session : Session) (disk : ℕ) (player : Playing) (got : Getting) : Type 0 where
+  pub player_is : slice_get session.players disk ≡ Some player
+  pub got_is : slice_get session.driver.disks disk ≡ Some got
 
 -- its parts are of one lawful script, of one publication and of the same rings, as many as the script says, and all overruns and underruns are of its recorders and disks
 pub record IsOne (session : Session) : Type 0 where

@@ -20,13 +20,13 @@ use Rattle.session_model.specs.Recorders.{Lost, recorder_format}
 use Rattle.session_model.specs.Reports.{PrintedCycle, PrintedDisk, PrintedEvent, PrintedMeter, PrintedRecorder, Report, printed_call, report_lines}
 use Rattle.session_model.specs.Samples.{below}
 use Rattle.session_model.specs.Scripts.{Script, phases}
-use Rattle.session_model.specs.Serial.{serial}
+use Rattle.session_model.specs.Serial.{serial, serial_underruns as underruns_of_serial}
 use Rattle.graph_word.specs.Publications.{IsOpening}
 use Rattle.driver_words.specs.Rings.{Sending, Getting}
 use Rattle.driver_words.specs.Tapes.{HasFront}
 use Rattle.session_model.specs.Rings.{samples_of_blocks}
 use Rattle.disk_player.specs.Playing.{Playing}
-use Rattle.control_desk.specs.Desks.{IsNewDesk, base_of}
+use Rattle.serial_lanes.specs.control_desk.specs.Desks.{IsNewDesk, base_of}
 use Rattle.driver_laws.specs.Drivers.{Driver, log_in, overruns_on, peak_in, run, underruns_on}
 use Rattle.driver_laws.specs.Keeping.{kept_blocks, played_so_far}
 use Rattle.driver_laws.specs.Openings.{IsNew as IsNewDriver}
@@ -71,6 +71,7 @@ pub record Runs (before after : Session) : Type 0 where
   pub serial_history : IsNone before.script.header.threads → after.desk.history ≡ (serial before.script).history
   pub serial_numbers : IsNone before.script.header.threads → after.driver.numbers ≡ (serial before.script).numbers
   pub serial_overruns : IsNone before.script.header.threads → (given : Given) → IsGiven before given → (printed_of after).overruns ≡ (serial before.script).overruns
+  pub serial_underruns : IsNone before.script.header.threads → (given : Given) → IsGiven before given → (printed_of after).underruns ≡ underruns_of_serial given
 
 -- behind `end` with Ok, of the session that was run: the lists stay, and the finished files that are told are those of the one computation over them
 pub record Ends (given : Given) (before after : Session) : Type 0 where

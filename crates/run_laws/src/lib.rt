@@ -5,3 +5,7 @@ pub mod endings;
 pub mod meetings;
 pub mod runs;
 pub mod serial;
+
+pub use driver_laws;
+pub use serial_lanes;
+pub use serial_lanes::control_desk;

@@ -5,13 +5,13 @@ ghost use Rattle.session_model.specs.Explanations.{Given};
 ghost use Rattle.session_model.specs.Histories.{KeepsAsked};
 ghost use Rattle.graph_word.specs.Publications.{HaveMet};
 ghost use Rattle.driver_words.specs.Rings.{Getting, Sending};
-ghost use Rattle.control_desk.specs.Desks.{Desk, IsDesk};
+ghost use Rattle.serial_lanes.specs.control_desk.specs.Desks.{Desk, IsDesk};
 ghost use Rattle.driver_laws.specs.Drivers.{Driver, HasOwnRows};
 ghost use Rattle.driver_laws.specs.Keeping.{Fits, FitsDisk};
 ghost use Rattle.run_laws.specs.Runs.{DiskAtRest};
 ghost use Rattle.run_laws.specs.Sessions.{IsFor, IsOne, Session, course_in};
 
-use control_desk::laws::accepted_of_legal;
+use serial_lanes::control_desk::laws::accepted_of_legal;
 
 /// A call that waited for a cycle stands behind what that cycle took.
 pub fn asked_cycles_took_less()

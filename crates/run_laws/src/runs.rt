@@ -11,9 +11,9 @@ ghost use Rattle.run_laws.specs.Runs.{AtPhase, PlaysAll, PutsFile, RanPhases};
 ghost use Rattle.run_laws.specs.Sessions.{IsGiven, IsMet, IsOne, KeepsAny, Session, course_in};
 ghost use Rattle.run_laws.specs.Told.{HasLists, IsNew};
 
-use control_desk::laws::made_where_done;
 use disk_player::a_player_has_put_blocks_of_its_file;
 use driver_laws::courses::a_new_driver_keeps;
+use serial_lanes::control_desk::laws::made_where_done;
 use serial_lanes::laws::cycles_of_phases;
 
 /// A new session keeps every course over what its sources tell.

@@ -3,7 +3,6 @@
 ghost use Rattle.std.specs.Prelude.{◌≡◌, ◌+◌, ◌<◌, ◌≤◌, ◌∷◌, ℕ, ℤ, Bool, List, Some, length, slice_get, slice_index, suc};
 ghost use Rattle.jack_types.specs.declared.replies.Overrun.{Overrun as OverrunValue};
 ghost use Rattle.session_model.specs.Courses.{Course};
-ghost use Rattle.session_model.specs.Disks.{IsSerial};
 ghost use Rattle.session_model.specs.Explanations.{Given};
 ghost use Rattle.session_model.specs.Histories.{accepted};
 ghost use Rattle.session_model.specs.Recorders.{is_taping};
@@ -15,9 +14,9 @@ ghost use Rattle.disk_recorder.specs.Recordings.{Drains};
 ghost use Rattle.driver_laws.specs.Cycling.{PutsOne};
 ghost use Rattle.run_laws.specs.Runs.{AtPhase, DisksAtRest, RanPhases};
 ghost use Rattle.run_laws.specs.SerialRuns.{HasCounts, HasPut, SerialAt, SerialBehind, SerialKept};
-ghost use Rattle.run_laws.specs.Sessions.{Session, course_in, printed_of};
+ghost use Rattle.run_laws.specs.Sessions.{Session, printed_of};
 
-use control_desk::laws::accepted_of_legal;
+use serial_lanes::control_desk::laws::accepted_of_legal;
 use serial_lanes::laws::{cycles_of_phases, desk_by_phases};
 use session_laws::serial::serial_meaning_is_legal;
 
@@ -62,12 +61,10 @@ pub fn all_phases_end()
 }
 
 /// What is kept of what was given in serial mode is, with the disks' rings at rest, what each mode has behind all phases, and
-/// overruns and underruns are those of serial mode.
+/// overruns are those of serial mode.
 pub fn serial_run_is_kept()
     ensures at_end { (session : Session) (given : Given) → SerialBehind session (length (phases session.script)) → SerialKept given session → DisksAtRest given session
         → AtPhase session given (length (phases session.script)) }
-    ensures underruns { (session : Session) (given : Given) → SerialBehind session (length (phases session.script)) → SerialKept given session → DisksAtRest given session
-        → (disk : ℕ) → disk < length session.script.header.disks → IsSerial (course_in given session) disk }
     ensures overruns { (session : Session) (given : Given) → SerialBehind session (length (phases session.script)) → SerialKept given session → (printed_of session).overruns ≡ (serial session.script).overruns }
 {
     accepted_of_legal();

@@ -1,17 +1,19 @@
 -- Where a session in serial mode is behind the front of a phase, and behind each of its cycles.
 --     SerialAt-begun, SerialKept-begun      the front of a phase
 --     SerialAt-turned, SerialKept-turned      a cycle of it
-use Rattle.std.proofs.Common.{◌≡◌, ℕ, suc, ◌+◌, ◌<◌, Bool, true, false, List, length, slice_get, IsNone, Some, sym, ◌∙◌, ap, subst, arith}
-use Rattle.std.proofs.lemmas.Option.{none-some}
+use Rattle.std.proofs.Common.{◌≡◌, ℕ, suc, ◌+◌, ◌<◌, Bool, true, false, length, slice_get, IsNone, Some, sym, ◌∙◌, ap, subst, arith}
 use Rattle.session_model.specs.Explanations.{Given}
 use Rattle.session_model.specs.Scripts.{Phase, Script, ScriptCycle, phases, turns}
 use Rattle.driver_words.specs.Rings.{Getting, Sending}
-use Rattle.driver_laws.specs.Drivers.{run, turn_of}
-use Rattle.driver_laws.specs.Segments.{cycles_before}
-use Rattle.serial_lanes.specs.Lanes.{BehindPhases, SerialDesk}
-use Rattle.run_laws.specs.SerialRuns.{RingSerial, SerialAt, SerialBehind, SerialKept, SerialSoFar}
-use Rattle.run_laws.specs.Sessions.{Playing, Session}
-use Rattle.serial_laws.specs.Steps.{AreExact, Begun, Emptied, IsSound, KeepsOwn, Turned}
+use Rattle.run_laws.specs.driver_laws.specs.Drivers.{run, turn_of}
+use Rattle.run_laws.specs.driver_laws.specs.Segments.{cycles_before}
+use Rattle.run_laws.specs.serial_lanes.specs.Lanes.{BehindPhases, SerialDesk}
+use Rattle.run_laws.specs.Runs.{PlaysAll}
+use Rattle.run_laws.specs.SerialRuns.{DisksSerial, RingSerial, SerialAt, SerialBehind, SerialKept, SerialSoFar}
+use Rattle.run_laws.specs.Sessions.{IsFor, Session}
+use Rattle.disk_runs.proofs.AloneLemmas.{DisksSerial-alone, PlaysAll-alone}
+use Rattle.serial_laws.specs.Steps.{AreExact, Begun, Emptied, IsSettled, IsSound, KeepsOwn, Turned}
+use Rattle.serial_laws.proofs.ReelLemmas.{Disks, Lists, disks-met, disks-rounded, disks_of, lists-met, lists-rounded, lists_of}
 
 -- ---- between the words of the steps and those of the run
 
@@ -33,18 +35,14 @@ SerialSoFar-exact session serial sound exact = record {
 abbrev AreSerial : Session → Type 0
 AreSerial session = (recorder : ℕ) (ring : Sending) (got : Getting) → slice_get session.driver.rings recorder ≡ Some ring → slice_get session.getting recorder ≡ Some got → RingSerial session recorder ring got
 
--- a session without disks has none to turn
-SerialKept-own : (given : Given) (session : Session) → IsSound session → KeepsOwn given session → AreSerial session → SerialKept given session
-SerialKept-own given session sound own rings = record {
+SerialKept-own : (given : Given) (session : Session) → KeepsOwn given session → AreSerial session → PlaysAll given session → DisksSerial given session → SerialKept given session
+SerialKept-own given session own rings plays turned = record {
   own = own.own;
   keeps = own.keeps;
   rings = rings;
-  plays = λ course over disk player there. absurd (none disk player there);
-  turned = λ course over fits disk player there. absurd (none disk player there);
+  plays = plays;
+  turned = turned;
 }
-  where
-    none : (disk : ℕ) (player : Playing) → slice_get session.players disk ≡ Some player → ⊥
-    none disk player there = none-some player (sym (ap (λ (players : List Playing). slice_get players disk) sound.no_disks) ∙ there)
 
 KeepsOwn-kept : (given : Given) (session : Session) → SerialKept given session → KeepsOwn given session
 KeepsOwn-kept given session kept = record { own = kept.own; keeps = kept.keeps }
@@ -92,10 +90,26 @@ SerialAt-begun exact_behind desk_behind same_cycles sound_behind session after d
       cycles_are = omega (arith, runs, behind.cycles_are, cycles);
     }
 
-pub SerialKept-begun : BegunCounts → BegunSound → BegunKeeps → (given : Given) (session after : Session) (done : ℕ) (phase : Phase) → slice_get (phases session.script) done ≡ Some phase
-    → IsSound session → SerialBehind session done → Begun done session after → SerialKept given session → SerialKept given after
-SerialKept-begun counts_behind sound_behind keeps_behind given session after done phase there sound behind begun kept =
-    SerialKept-own given after (sound_behind done session after sound begun) (keeps_behind given done session after begun (KeepsOwn-kept given session kept)) (counts_behind session after done begun kept.rings)
+-- the front of a phase leaves the disks alone
+players-begun : (done : ℕ) (session after : Session) → Begun done session after → after.players ≡ session.players
+players-begun done session after begun =
+    ap (λ (s : Session). s.players) begun.meets_again.same
+    ∙ ap (λ (s : Session). s.players) begun.rounds.same
+    ∙ ap (λ (s : Session). s.players) begun.meets.same
+    ∙ ap (λ (s : Session). s.players) begun.group_same
+
+DisksSerial-begun : (given : Given) (done : ℕ) (session after : Session) → Begun done session after → DisksSerial given session → DisksSerial given after
+DisksSerial-begun given done session after begun =
+    let lists : lists_of after ≡ lists_of session =
+    lists-met begun.rounded after begun.meets_again ∙ lists-rounded begun.met begun.rounded begun.rounds ∙ lists-met begun.grouped begun.met begun.meets ∙ ap lists_of begun.group_same in
+    let disks : disks_of after ≡ disks_of session =
+    disks-met begun.rounded after begun.meets_again ∙ disks-rounded begun.met begun.rounded begun.rounds ∙ disks-met begun.grouped begun.met begun.meets ∙ ap disks_of begun.group_same in
+    DisksSerial-alone session after given (ap (λ (d : Disks). d.players) disks) (ap (λ (d : Disks). d.disks) disks) (ap (λ (l : Lists). l.numbers) lists) (ap (λ (l : Lists). l.underruns) lists)
+
+pub SerialKept-begun : BegunCounts → BegunKeeps → (given : Given) (session after : Session) (done : ℕ) → Begun done session after → SerialKept given session → SerialKept given after
+SerialKept-begun counts_behind keeps_behind given session after done begun kept =
+    SerialKept-own given after (keeps_behind given done session after begun (KeepsOwn-kept given session kept)) (counts_behind session after done begun kept.rings)
+    (PlaysAll-alone session after given (players-begun done session after begun) kept.plays) (DisksSerial-begun given done session after begun kept.turned)
 
 -- ---- a cycle
 
@@ -110,7 +124,9 @@ script-turned freewheel session after turned =
     ∙ ap (λ (s : Session). s.script) turned.rounds.same
     ∙ ap (λ (s : Session). s.script) turned.meets.same
     ∙ ap (λ (s : Session). s.script) turned.drains.same
+    ∙ ap (λ (s : Session). s.script) turned.tells.same
     ∙ ap (λ (s : Session). s.script) turned.cycles.same
+    ∙ ap (λ (s : Session). s.script) turned.reads.same
     ∙ script-emptied freewheel session turned.emptied turned.empties
 
 -- what the laws of its parts say
@@ -121,31 +137,40 @@ abbrev CyclesAre : Type 0
 CyclesAre = (script : Script) (done t : ℕ) (phase : Phase) → slice_get (phases script) done ≡ Some phase → t < phase.cycles
     → turn_of script (cycles_before script done + t + 1) ≡ record { period = phase.period; is_freewheel = phase.is_freewheel; phase = done }
 
-abbrev TurnedSound : Type 0
-TurnedSound = (freewheel : Bool) (session after : Session) → IsSound session → run session.driver < length (turns session.script)
-    → (turn_of session.script (run session.driver + 1)).is_freewheel ≡ freewheel → Turned freewheel session after → IsSound after
+abbrev TurnedSettled : Type 0
+TurnedSettled = (freewheel : Bool) (session after : Session) → IsSettled session → run session.driver < length (turns session.script)
+    → (turn_of session.script (run session.driver + 1)).is_freewheel ≡ freewheel → Turned freewheel session after → IsSettled after
 
 abbrev TurnedKeeps : Type 0
-TurnedKeeps = (given : Given) (freewheel : Bool) (session after : Session) → IsSound session → run session.driver < length (turns session.script)
+TurnedKeeps = (given : Given) (freewheel : Bool) (session after : Session) → IsSettled session → run session.driver < length (turns session.script)
     → (turn_of session.script (run session.driver + 1)).is_freewheel ≡ freewheel → Turned freewheel session after → KeepsOwn given session → KeepsOwn given after
 
 abbrev TurnedExact : Type 0
 TurnedExact = (freewheel : Bool) (session after : Session) (done t : ℕ) (phase : Phase) → slice_get (phases session.script) done ≡ Some phase → t < phase.cycles
-    → run session.driver ≡ cycles_before session.script done + t → IsSound session → SerialDesk session.desk done (suc t) → Turned freewheel session after → AreExact session → AreExact after
+    → run session.driver ≡ cycles_before session.script done + t → IsSettled session → SerialDesk session.desk done (suc t) → Turned freewheel session after → AreExact session → AreExact after
 
 abbrev TurnedDesk : Type 0
 TurnedDesk = (freewheel : Bool) (session after : Session) (done t : ℕ) (phase : Phase) → slice_get (phases session.script) done ≡ Some phase → t < phase.cycles
-    → run session.driver ≡ cycles_before session.script done + t → IsSound session → SerialDesk session.desk done (suc t) → Turned freewheel session after → AreExact session → SerialDesk after.desk done (suc (suc t))
+    → run session.driver ≡ cycles_before session.script done + t → IsSettled session → SerialDesk session.desk done (suc t) → Turned freewheel session after → AreExact session → SerialDesk after.desk done (suc (suc t))
 
 abbrev TurnedRuns : Type 0
 TurnedRuns = (freewheel : Bool) (session after : Session) → Turned freewheel session after → run after.driver ≡ run session.driver + 1
 
 abbrev TurnedCounts : Type 0
-TurnedCounts = (given : Given) (freewheel : Bool) (session after : Session) → IsSound session → IsSound after → run session.driver < length (turns session.script)
-    → (turn_of session.script (run session.driver + 1)).is_freewheel ≡ freewheel → Turned freewheel session after → AreExact session → AreExact after → KeepsOwn given session → AreSerial session → AreSerial after
+TurnedCounts = (given : Given) (freewheel : Bool) (session after : Session) → IsSettled session → run session.driver < length (turns session.script)
+    → (turn_of session.script (run session.driver + 1)).is_freewheel ≡ freewheel → Turned freewheel session after → AreExact after → IsFor session given → DisksSerial given session
+    → AreSerial session → AreSerial after
 
-module _ (there : CyclesThere) (are : CyclesAre) (exact_behind : TurnedExact) (sound_behind : TurnedSound) (session after : Session) (done t : ℕ) (phase : Phase) (phase_there : slice_get (phases session.script) done ≡ Some phase)
-    (early : t < phase.cycles) (sound : IsSound session) (at : SerialAt session done t (suc t)) (turned : Turned phase.is_freewheel session after) where
+abbrev TurnedDisks : Type 0
+TurnedDisks = (given : Given) (freewheel : Bool) (session after : Session) → IsSettled session → run session.driver < length (turns session.script)
+    → (turn_of session.script (run session.driver + 1)).is_freewheel ≡ freewheel → Turned freewheel session after → AreExact after → IsFor session given → DisksSerial given session → DisksSerial given after
+
+abbrev TurnedPlays : Type 0
+TurnedPlays = (given : Given) (freewheel : Bool) (session after : Session) → IsSettled session → run session.driver < length (turns session.script)
+    → (turn_of session.script (run session.driver + 1)).is_freewheel ≡ freewheel → Turned freewheel session after → PlaysAll given session → PlaysAll given after
+
+module _ (there : CyclesThere) (are : CyclesAre) (exact_behind : TurnedExact) (settled_behind : TurnedSettled) (session after : Session) (done t : ℕ) (phase : Phase) (phase_there : slice_get (phases session.script) done ≡ Some phase)
+    (early : t < phase.cycles) (settled : IsSettled session) (at : SerialAt session done t (suc t)) (turned : Turned phase.is_freewheel session after) where
   -- it is the script's next cycle, and of the phase's kind
   is_left : run session.driver < length (turns session.script)
   is_left = subst (λ n. n < length (turns session.script)) (sym at.cycles_are) (there session.script done t phase phase_there early)
@@ -157,10 +182,10 @@ module _ (there : CyclesThere) (are : CyclesAre) (exact_behind : TurnedExact) (s
   exact = AreExact-so_far session at.so_far
 
   exact_after : AreExact after
-  exact_after = exact_behind phase.is_freewheel session after done t phase phase_there early at.cycles_are sound at.desk turned exact
+  exact_after = exact_behind phase.is_freewheel session after done t phase phase_there early at.cycles_are settled at.desk turned exact
 
   sound_after : IsSound after
-  sound_after = sound_behind phase.is_freewheel session after sound is_left kind_is turned
+  sound_after = (settled_behind phase.is_freewheel session after settled is_left kind_is turned).sound
 
   pub SerialAt-turned : TurnedDesk → TurnedRuns → SerialAt after done (suc t) (suc (suc t))
   SerialAt-turned desk_behind one_more =
@@ -168,12 +193,13 @@ module _ (there : CyclesThere) (are : CyclesAre) (exact_behind : TurnedExact) (s
       let cycles : cycles_before session.script done ≡ cycles_before after.script done = ap (λ (s : Script). cycles_before s done) (sym (script-turned phase.is_freewheel session after turned)) in
       record {
         so_far = SerialSoFar-exact after (subst (λ (s : Script). IsNone s.header.threads) (sym (script-turned phase.is_freewheel session after turned)) at.so_far.serial) sound_after exact_after;
-        desk = desk_behind phase.is_freewheel session after done t phase phase_there early at.cycles_are sound at.desk turned exact;
+        desk = desk_behind phase.is_freewheel session after done t phase phase_there early at.cycles_are settled at.desk turned exact;
         cycles_are = omega (arith, runs, at.cycles_are, cycles);
       }
 
-  pub SerialKept-turned : TurnedKeeps → TurnedCounts → (given : Given) → SerialKept given session → SerialKept given after
-  SerialKept-turned keeps_behind counts_behind given kept =
-      let own : KeepsOwn given session = KeepsOwn-kept given session kept in
-      SerialKept-own given after sound_after (keeps_behind given phase.is_freewheel session after sound is_left kind_is turned own)
-      (counts_behind given phase.is_freewheel session after sound sound_after is_left kind_is turned exact exact_after own kept.rings)
+  pub SerialKept-turned : TurnedKeeps → TurnedCounts → TurnedDisks → TurnedPlays → (given : Given) → SerialKept given session → SerialKept given after
+  SerialKept-turned keeps_behind counts_behind disks_behind plays_behind given kept =
+      SerialKept-own given after (keeps_behind given phase.is_freewheel session after settled is_left kind_is turned (KeepsOwn-kept given session kept))
+      (counts_behind given phase.is_freewheel session after settled is_left kind_is turned exact_after kept.own kept.turned kept.rings)
+      (plays_behind given phase.is_freewheel session after settled is_left kind_is turned kept.plays)
+      (disks_behind given phase.is_freewheel session after settled is_left kind_is turned exact_after kept.own kept.turned)

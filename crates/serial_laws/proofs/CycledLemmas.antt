@@ -1,22 +1,23 @@
--- A cycle of the driver leaves a session's parts as they were, where the rings are empty before a freewheel cycle.
+-- A cycle of the driver leaves a session's parts as they were, where before a freewheel cycle the recorders' rings are empty, and those of the disks filled.
+--     IsOne-cycled      they belong together, also where the playback failed
 --     IsSound-cycled
-use Rattle.std.proofs.Common.{◌≡◌, ℕ, ◌+◌, ◌<◌, true, false, length, get_or, slice_get, All, IfSome, Some, sym, ◌∙◌, ap, subst, arith}
+use Rattle.std.proofs.Common.{◌≡◌, ℕ, ◌+◌, ◌<◌, true, false, length, get_or, slice_get, All, IfSome, Some, sym, ◌∙◌, ap, subst}
 use Rattle.std.proofs.lemmas.List.Elements.{All-append}
-use Rattle.std.proofs.lemmas.Option.{none-some}
 use Rattle.jack_types.specs.declared.replies.Overrun.{Overrun}
-use Rattle.jack_types.specs.declared.replies.Underrun.{Underrun}
 use Rattle.graph_word.specs.Publications.{Reading}
 use Rattle.driver_words.specs.Rings.{Sending}
 use Rattle.driver_words.specs.Tapes.{Tape}
-use Rattle.driver_laws.specs.Cycling.{StepsOnce, WritesOnce}
-use Rattle.driver_laws.specs.Drivers.{block_in, graph_now, has_tape, overruns_on, run, turn_of}
-use Rattle.driver_laws.proofs.PlaceLemmas.{there_too}
+use Rattle.run_laws.specs.driver_laws.specs.Cycling.{StepsOnce, WritesOnce}
+use Rattle.run_laws.specs.driver_laws.specs.Drivers.{block_in, graph_now, has_tape, overruns_on, run, turn_of}
+use Rattle.run_laws.specs.driver_laws.proofs.PlaceLemmas.{there_too}
 use Rattle.run_laws.specs.Runs.{HasFiles}
 use Rattle.run_laws.specs.Sessions.{IsOne, Session}
+use Rattle.disk_runs.specs.Rests.{AreFilled}
+use Rattle.disk_runs.proofs.MissLemmas.{own-stepped, pairs-stepped}
 use Rattle.serial_laws.specs.Steps.{AreEmpty, Cycled, IsSound}
 use Rattle.serial_laws.proofs.EachLemmas.{All-places, at-place}
 use Rattle.serial_laws.proofs.GiveLemmas.{many-rings}
-use Rattle.serial_laws.proofs.MissLemmas.{MissesInRun-cycled, no-disks}
+use Rattle.serial_laws.proofs.MissLemmas.{MissesInRun-cycled}
 use Rattle.serial_laws.proofs.RingLemmas.{SameRing, same-put}
 
 module _ (session after : Session) (sound : IsSound session) (steps : StepsOnce session.driver after.driver) where
@@ -34,7 +35,7 @@ module _ (session after : Session) (sound : IsSound session) (steps : StepsOnce 
             (overruns_on session.driver.overruns recorder) (overruns_on after.driver.overruns recorder) (steps.rings recorder there.0 ring there.1 here),
       )
 
-  IsOne-cycled : IsOne later
+  pub IsOne-cycled : IsOne later
   IsOne-cycled =
       let one = sound.one in
       record {
@@ -48,8 +49,7 @@ module _ (session after : Session) (sound : IsSound session) (steps : StepsOnce 
         rings = steps.own_rings;
         own_recorders = subst (All OfRecorders) (sym steps.more_overruns) (All-append OfRecorders session.driver.overruns steps.overruns one.own_recorders
             (λ k d low. subst (λ n. (get_or steps.overruns k d).recorder < n) (many-rings session sound) (steps.overruns_now k d low).1));
-        own_disks = subst (All OfDisks) (sym steps.more_underruns) (All-append OfDisks session.driver.underruns steps.underruns one.own_disks
-            (λ k d low. let own : (get_or steps.underruns k d).disk < length session.driver.disks = (steps.underruns_now k d low).1 in absurd (omega (arith, own, no-disks session after sound steps))));
+        own_disks = own-stepped session after.driver one steps;
         capacity = All-places (λ (ring : Sending). ring.capacity ≡ session.script.header.ring) after.driver.rings (λ recorder ring here.
             let old = ring-cycled recorder ring here in
             old.2.capacity ∙ at-place (λ (r : Sending). r.capacity ≡ session.script.header.ring) session.driver.rings recorder old.0 one.capacity old.1);
@@ -58,14 +58,11 @@ module _ (session after : Session) (sound : IsSound session) (steps : StepsOnce 
             let old = ring-cycled recorder ring here in
             old.2.pair got (one.recorder_pairs recorder old.0 got old.1 there);
         disk_ends = one.disk_ends;
-        disk_pairs = λ disk player got here there. absurd (none-some player (sym (ap (λ players. slice_get players disk) sound.no_disks) ∙ here));
+        disk_pairs = pairs-stepped session after.driver one steps;
       }
     where
       OfRecorders : Overrun → Type 0
       OfRecorders overrun = overrun.recorder < length session.script.header.recorders
-
-      OfDisks : Underrun → Type 0
-      OfDisks underrun = underrun.disk < length session.script.header.disks
 
   HasFiles-cycled : WritesOnce session.driver after.driver → HasFiles later
   HasFiles-cycled writes =
@@ -84,16 +81,17 @@ module _ (session after : Session) (sound : IsSound session) (steps : StepsOnce 
       IsPlayback : Tape → Type 0
       IsPlayback tape = tape.format ≡ record { rate = session.script.header.rate; channels = session.script.header.playback; bits = session.script.header.bits }
 
-  IsSound-with : WritesOnce session.driver after.driver → ((turn_of session.script (run session.driver + 1)).is_freewheel ≡ true → AreEmpty session) → IsSound later
-  IsSound-with writes empty = record {
+  IsSound-with : WritesOnce session.driver after.driver → ((turn_of session.script (run session.driver + 1)).is_freewheel ≡ true → AreEmpty session × AreFilled session) → IsSound later
+  IsSound-with writes full = record {
     one = IsOne-cycled;
-    misses = MissesInRun-cycled session after sound steps empty;
+    misses = MissesInRun-cycled session after sound steps full;
     files = HasFiles-cycled writes;
     no_end = All-places (λ (ring : Sending). ring.ended ≡ false) after.driver.rings (λ recorder ring here.
         let old = ring-cycled recorder ring here in
         old.2.no_end (at-place (λ (r : Sending). r.ended ≡ false) session.driver.rings recorder old.0 sound.no_end old.1));
-    no_disks = sound.no_disks;
+    room = sound.room;
+    going = sound.going;
   }
 
-pub IsSound-cycled : (session after : Session) → IsSound session → ((turn_of session.script (run session.driver + 1)).is_freewheel ≡ true → AreEmpty session) → Cycled session after → IsSound after
-IsSound-cycled session after sound empty cycled = subst IsSound (sym cycled.same) (IsSound-with session after sound cycled.cycles.steps cycled.cycles.writes empty)
+pub IsSound-cycled : (session after : Session) → IsSound session → ((turn_of session.script (run session.driver + 1)).is_freewheel ≡ true → AreEmpty session × AreFilled session) → Cycled session after → IsSound after
+IsSound-cycled session after sound full cycled = subst IsSound (sym cycled.same) (IsSound-with session after sound cycled.cycles.steps cycled.cycles.writes full)

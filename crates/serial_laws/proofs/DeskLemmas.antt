@@ -6,9 +6,9 @@ use Rattle.std.proofs.Common.{◌≡◌, ℕ, suc, length, sym, ◌∙◌, ap, s
 use Rattle.session_model.specs.Grammar.{IsScript}
 use Rattle.session_model.specs.Scripts.{Script}
 use Rattle.graph_word.specs.Publications.{HaveMet, Publishing, Reading, last_row}
-use Rattle.driver_laws.specs.Drivers.{Driver, run}
-use Rattle.serial_lanes.specs.Lanes.{IsRound, SawUpTo, SerialDesk, cycles_begun}
-use Rattle.serial_lanes.specs.Laws.{RoundOfLanes, SerialWhereMet}
+use Rattle.run_laws.specs.driver_laws.specs.Drivers.{Driver, run}
+use Rattle.run_laws.specs.serial_lanes.specs.Lanes.{IsRound, SawUpTo, SerialDesk, cycles_begun}
+use Rattle.run_laws.specs.serial_lanes.specs.Laws.{RoundOfLanes, SerialWhereMet}
 use Rattle.run_laws.specs.Sessions.{IsMet, Session}
 use Rattle.serial_laws.specs.Steps.{Met, Rounded}
 use Rattle.serial_laws.proofs.RowLemmas.{HaveMet-later}

@@ -11,8 +11,8 @@ use Rattle.session_model.specs.Courses.{Course, turn}
 use Rattle.session_model.specs.Serial.{Counts, counted_in, drained, emptied, put_one}
 use Rattle.driver_words.specs.Rings.{Getting, Renews, Sending}
 use Rattle.driver_words.specs.Tapes.{Tape}
-use Rattle.disk_recorder.specs.Recordings.{Drains}
-use Rattle.driver_laws.specs.Cycling.{Idle, Lacked, PutsOne, Went}
+use Rattle.recorder_files.specs.disk_recorder.specs.Recordings.{Drains}
+use Rattle.run_laws.specs.driver_laws.specs.Cycling.{Idle, Lacked, PutsOne, Went}
 use Rattle.recorder_files.specs.Recorders.{GivesUp, Reel}
 use Rattle.run_laws.specs.SerialRuns.{HasCounts}
 use Rattle.serial_laws.specs.Steps.{most_blocks}

@@ -2,41 +2,32 @@
 --     got-all      a ring that gave up as many blocks as it may have gave up all
 --     HasFront-tried      a recorder's file has a front of what was put
 --     StandsInSerial-end      each file has a front of what serial mode gives it
-use Rattle.std.proofs.Common.{◌≡◌, ◌⊎◌, inl, inr, ℕ, ◌+◌, ◌<◌, ◌≤◌, List, length, map, take, slice_get, Some, sym, ◌∙◌, ap, subst, arith, take_all, ℤ}
+use Rattle.std.proofs.Common.{◌≡◌, ◌⊎◌, inl, inr, ℕ, ◌+◌, ◌<◌, ◌≤◌, List, length, take, slice_get, Some, refl, sym, ◌∙◌, ap, subst, arith, take_all, ℤ}
 use Rattle.std.specs.Prelude.{IfSome, Option}
 use Rattle.std.proofs.lemmas.Bool.{cases_lt}
 use Rattle.std.proofs.lemmas.Option.{get_or_from_slice_get, slice_get_within}
 use Rattle.jack_types.specs.declared.files.Format.{Format}
-use Rattle.jack_types.specs.declared.replies.Entry.{Entry}
-use Rattle.jack_types.specs.declared.replies.Underrun.{Underrun}
 use Rattle.session_model.specs.Courses.{Course}
 use Rattle.session_model.specs.Explanations.{Given}
-use Rattle.session_model.specs.Histories.{accepted}
 use Rattle.session_model.specs.Playback.{playback_format, played_back}
 use Rattle.session_model.specs.Recorders.{recorded, recorder_format}
-use Rattle.session_model.specs.Samples.{below}
+use Rattle.session_model.specs.Rings.{samples_of_blocks}
 use Rattle.session_model.specs.Scripts.{Script, phases, turns}
-use Rattle.session_model.specs.Serial.{counts, serial_course, serial_history, serial_numbers, serial_overruns}
+use Rattle.session_model.specs.Serial.{counts, serial_course, serial_overruns}
 use Rattle.driver_words.specs.Rings.{Getting, Sending}
 use Rattle.driver_words.specs.Tapes.{HasFront, HasSamples, Tape}
-use Rattle.session_model.specs.Rings.{samples_of_blocks}
-use Rattle.driver_laws.specs.Drivers.{overruns_on, run, underruns_on}
-use Rattle.driver_laws.specs.Keeping.{HasTape, Keeps, kept_blocks, played_so_far}
-use Rattle.driver_laws.proofs.PlaceLemmas.{none_below}
-use Rattle.serial_lanes.specs.Laws.{CyclesTotal}
+use Rattle.run_laws.specs.driver_laws.specs.Drivers.{overruns_on, run}
+use Rattle.run_laws.specs.driver_laws.specs.Keeping.{HasTape, Keeps, kept_blocks, played_so_far}
+use Rattle.run_laws.specs.serial_lanes.specs.Laws.{CyclesTotal}
 use Rattle.recorder_files.specs.Recorders.{GivesUp, Reel}
-use Rattle.run_laws.specs.Runs.{AtPhase}
 use Rattle.run_laws.specs.SerialRuns.{SerialBehind, SerialKept}
-use Rattle.run_laws.specs.Sessions.{Session, course_in}
-use Rattle.run_laws.proofs.CourseLemmas.{IsOver-own}
+use Rattle.run_laws.specs.Sessions.{Session}
 use Rattle.serial_laws.specs.Faults.{StandsInSerial, serial_course_of}
-use Rattle.serial_laws.specs.Steps.{IsSound}
+use Rattle.serial_laws.specs.Steps.{AreExact, IsSound}
 use Rattle.serial_laws.specs.Endings.{Broken, EndFails, EndTried, Finished, Left, Unfinished}
-use Rattle.serial_laws.proofs.FaultCourses.{no_disks}
-use Rattle.serial_laws.proofs.FaultFiles.{serial_course-is}
+use Rattle.serial_laws.proofs.DiskLemmas.{IsSerialSoFar-exact, SerialFits}
 use Rattle.serial_laws.proofs.FaultLemmas.{AreFilled, AreFilled-one, IsFilled, IsFilled-gave, IsTold, IsTold-broke, IsTold-filled, format_at, got-renewed, reel-of}
 use Rattle.serial_laws.proofs.FrontLemmas.{HasFront-longer, HasFront-told, KeptAreAll, PlayedIsAll, behind_front, samples-more}
-use Rattle.serial_laws.proofs.RunLemmas.{SerialEnds}
 
 -- ---- one recorder
 
@@ -90,16 +81,15 @@ module _ (format : Format) (reel : Reel) (filled : IsFilled format reel) where
 
 -- ---- all files
 
-module _ (ends : SerialEnds) (all_played : PlayedIsAll) (all_kept : KeptAreAll) (total : CyclesTotal) (given : Given) (session after : Session) (sound : IsSound session)
+module _ (fits : SerialFits) (all_played : PlayedIsAll) (all_kept : KeptAreAll) (total : CyclesTotal) (given : Given) (session after : Session) (sound : IsSound session)
     (behind : SerialBehind session (length (phases session.script))) (kept : SerialKept given session) (fails : EndFails session after) where
-  at : AtPhase session given (length (phases session.script))
-  at = ends.at_end session given behind kept (λ disk player got here there. absurd (none_below (subst (λ xs. disk < length xs) sound.no_disks (slice_get_within session.players disk player here))))
-
   abbrev course : Course
-  course = course_in given session
+  course = serial_course_of given
 
   keeps : Keeps session.driver course
-  keeps = kept.keeps course (IsOver-own session given) at.given_kept.fits
+  keeps =
+      let exact : AreExact session = record { numbers = behind.so_far.numbers; rows = behind.so_far.rows; met = behind.so_far.met } in
+      kept.keeps course (record { script = refl; capture = refl; disks = refl; scores = refl }) (fits given session sound.one kept.own (IsSerialSoFar-exact given session kept.own exact) kept.turned)
 
   all_cycles : run session.driver ≡ length (turns session.script)
   all_cycles = behind.cycles_are ∙ total session.script
@@ -107,28 +97,13 @@ module _ (ends : SerialEnds) (all_played : PlayedIsAll) (all_kept : KeptAreAll) 
   course_cycles : run session.driver ≡ length (turns course.script)
   course_cycles = all_cycles ∙ ap (λ (s : Script). length (turns s)) (sym kept.own.script)
 
-  none : length given.script.header.disks ≡ 0
-  none = ap (λ (s : Script). length s.header.disks) kept.own.script ∙ no_disks session sound
-
-  -- the session's lists are those of serial mode
-  abbrev course_over : List Entry → List ℕ → List (List Underrun) → Course
-  course_over history numbers underruns =
-      record { script = given.script; capture = given.capture; disks = given.disks; scores = given.scores; changes = accepted history; numbers = numbers; underruns = underruns }
-
-  course-is : course ≡ serial_course_of given
-  course-is =
-      ap (λ history. course_over history session.driver.numbers (map (underruns_on session.driver.underruns) (below (length session.script.header.disks)))) (ends.history session behind ∙ ap serial_history (sym kept.own.script))
-      ∙ ap (λ numbers. course_over (serial_history given.script) numbers (map (underruns_on session.driver.underruns) (below (length session.script.header.disks)))) (ends.numbers session behind ∙ ap serial_numbers (sym kept.own.script))
-      ∙ ap (λ n. course_over (serial_history given.script) (serial_numbers given.script) (map (underruns_on session.driver.underruns) (below n))) (no_disks session sound)
-      ∙ sym (serial_course-is given none)
-
   playback-front : HasFront (playback_format course) (played_back course) after.playback_file
   playback-front =
-      let tape : Tape = at.files.playback.tape in
-      let attached : session.driver.playback ≡ Some tape = at.files.playback.attached in
+      let tape : Tape = sound.files.playback.tape in
+      let attached : session.driver.playback ≡ Some tape = sound.files.playback.attached in
       let format : tape.format ≡ playback_format course =
       subst (λ (s : Script). tape.format ≡ record { rate = s.header.rate; channels = s.header.playback; bits = s.header.bits }) (sym kept.own.script)
-      (subst (λ o. IfSome o (λ (t : Tape). t.format ≡ record { rate = session.script.header.rate; channels = session.script.header.playback; bits = session.script.header.bits })) attached at.files.playback_format) in
+      (subst (λ o. IfSome o (λ (t : Tape). t.format ≡ record { rate = session.script.header.rate; channels = session.script.header.playback; bits = session.script.header.bits })) attached sound.files.playback_format) in
       let has : HasSamples tape (played_so_far course (run session.driver)) = subst (λ o. HasTape o (played_so_far course (run session.driver))) attached keeps.playback in
       subst (λ samples. HasFront (playback_format course) samples after.playback_file) (ap (played_so_far course) course_cycles ∙ all_played course)
       (subst (λ f. HasFront f (played_so_far course (run session.driver)) after.playback_file) format (fails.playback tape attached (played_so_far course (run session.driver)) has))
@@ -154,7 +129,4 @@ module _ (ends : SerialEnds) (all_played : PlayedIsAll) (all_kept : KeptAreAll) 
       (subst (λ samples. HasFront (format_at session.script recorder) samples file) put front)
 
   pub StandsInSerial-end : StandsInSerial given after
-  StandsInSerial-end = record {
-    playback = subst (λ (c : Course). HasFront (playback_format c) (played_back c) after.playback_file) course-is playback-front;
-    records = λ recorder file there. subst (λ (c : Course). HasFront (recorder_format c recorder) (recorded c (serial_overruns given.script recorder) recorder) file) course-is (record-front recorder file there);
-  }
+  StandsInSerial-end = record { playback = playback-front; records = record-front }

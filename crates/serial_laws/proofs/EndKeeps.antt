@@ -6,9 +6,9 @@ use Rattle.session_model.specs.Courses.{Course}
 use Rattle.session_model.specs.Explanations.{Given}
 use Rattle.driver_words.specs.Rings.{Sending}
 use Rattle.driver_words.specs.Tapes.{Tape}
-use Rattle.driver_laws.specs.Cycling.{HasMetOthers}
-use Rattle.driver_laws.specs.Drivers.{Driver}
-use Rattle.driver_laws.specs.Keeping.{Fits, Keeps}
+use Rattle.run_laws.specs.driver_laws.specs.Cycling.{HasMetOthers}
+use Rattle.run_laws.specs.driver_laws.specs.Drivers.{Driver}
+use Rattle.run_laws.specs.driver_laws.specs.Keeping.{Fits, Keeps}
 use Rattle.run_laws.specs.Runs.{HasFiles}
 use Rattle.run_laws.specs.Sessions.{IsOne, KeepsGiven, Session, course_in}
 use Rattle.serial_laws.specs.Endings.{EndsAll}

@@ -16,9 +16,9 @@ use Rattle.session_model.specs.WaveFiles.{wave_text}
 use Rattle.session_laws.proofs.ActivationLemmas.{get_or-map_below}
 use Rattle.driver_words.specs.Rings.{items_of}
 use Rattle.driver_words.specs.Tapes.{HasSamples, Tape}
-use Rattle.driver_laws.specs.Drivers.{channels_on, frames_run, overruns_on, run}
-use Rattle.driver_laws.specs.Keeping.{HasTape, Keeps, kept_blocks, played_so_far}
-use Rattle.serial_lanes.specs.Laws.{CyclesTotal}
+use Rattle.run_laws.specs.driver_laws.specs.Drivers.{channels_on, frames_run, overruns_on, run}
+use Rattle.run_laws.specs.driver_laws.specs.Keeping.{HasTape, Keeps, kept_blocks, played_so_far}
+use Rattle.run_laws.specs.serial_lanes.specs.Laws.{CyclesTotal}
 use Rattle.run_laws.specs.Runs.{AtPhase, HasFiles, RanPhases}
 use Rattle.run_laws.specs.Sessions.{IsOne, KeepsGiven, Session, course_in, printed_of}
 use Rattle.run_laws.specs.Told.{Ends}

@@ -14,7 +14,7 @@ use Rattle.jack_types.specs.declared.files.Format.{Format}
 use Rattle.session_model.specs.Rings.{RingBlock, samples_of_blocks}
 use Rattle.driver_words.specs.Rings.{Getting, IsPair, Sending}
 use Rattle.driver_words.specs.Tapes.{HasSamples, Tape}
-use Rattle.driver_laws.specs.Cycling.{RingStays}
+use Rattle.run_laws.specs.driver_laws.specs.Cycling.{RingStays}
 use Rattle.recorder_files.specs.Recorders.{GivesUp, Reel}
 use Rattle.run_laws.specs.Runs.{HasFiles}
 use Rattle.run_laws.specs.Sessions.{IsOne, Session}

@@ -4,39 +4,34 @@
 --     StandsInSerial-tells      and so have fronts of what serial mode gives them
 --     AreKept      the rings have what it keeps in so many cycles
 --     TellsBlocks-kept, TellsBlocks-tried      then each file tells a front of that, also where blocks left or it broke off
-use Rattle.std.proofs.Common.{◌≡◌, ℕ, ◌<◌, ◌≤◌, List, length, map, take, slice_get, None, Some, sym, ◌∙◌, ap, subst, arith}
+use Rattle.std.proofs.Common.{◌≡◌, ℕ, ◌<◌, ◌≤◌, List, length, take, slice_get, None, Some, sym, ◌∙◌, ap, subst, arith}
 use Rattle.std.specs.Prelude.{IfSome, Option}
 use Rattle.std.proofs.lemmas.Option.{same_Some, slice_get_within}
 use Rattle.jack_types.specs.declared.files.Format.{Format}
 use Rattle.jack_types.specs.declared.replies.Overrun.{Overrun}
 use Rattle.session_model.specs.Courses.{Course}
-use Rattle.session_model.specs.Disks.{turned_underruns}
 use Rattle.session_model.specs.Explanations.{Given}
 use Rattle.session_model.specs.Playback.{playback_format, played_back}
-use Rattle.session_model.specs.Recorders.{recorded, recorder_format}
+use Rattle.session_model.specs.Recorders.{recorded}
 use Rattle.session_model.specs.Rings.{RingBlock, samples_of_blocks}
-use Rattle.session_model.specs.Samples.{below}
 use Rattle.session_model.specs.Scripts.{Script, turns}
-use Rattle.session_model.specs.Serial.{course_before, course_in_serial, serial_overruns}
+use Rattle.session_model.specs.Serial.{serial_overruns}
 use Rattle.session_laws.proofs.ListLemmas.{slice_get-map}
 use Rattle.driver_words.specs.Rings.{Sending}
 use Rattle.driver_words.specs.Tapes.{HasFront, HasUnfinished, Tape}
-use Rattle.driver_laws.specs.Keeping.{kept_blocks, played_so_far}
+use Rattle.run_laws.specs.driver_laws.specs.Keeping.{kept_blocks, played_so_far}
 use Rattle.recorder_files.specs.Recorders.{Reel}
 use Rattle.run_laws.specs.Sessions.{Session}
+use Rattle.disk_runs.specs.Readings.{DisksBroke}
 use Rattle.serial_laws.specs.Faults.{StandsInSerial, Tried, bytes_in, serial_course_of, told}
 use Rattle.serial_laws.specs.Steps.{IsReel, Met}
-use Rattle.serial_laws.proofs.FaultLemmas.{AreFilled, IsTold, IsTold-filled, IsTold-tried, format_at, reel-of}
+use Rattle.serial_laws.proofs.FaultLemmas.{AreFilled, AreFilled-disks, IsTold, IsTold-filled, IsTold-tried, format_at, reel-of}
 
 -- ---- fronts of what serial mode gives
 
--- where there is no disk, serial mode has no underrun
-pub serial_course-is : (given : Given) → length given.script.header.disks ≡ 0 → serial_course_of given ≡ course_before given
-serial_course-is given none = ap (λ n. course_in_serial given.script given.capture given.disks given.scores (map (turned_underruns (course_before given)) (below n))) none
-
 -- the blocks that serial mode keeps in so many cycles
 abbrev pub blocks_serial : Given → ℕ → ℕ → List RingBlock
-blocks_serial given recorder n = kept_blocks (course_before given) (serial_overruns given.script recorder) recorder n
+blocks_serial given recorder n = kept_blocks (serial_course_of given) (serial_overruns given.script recorder) recorder n
 
 pub record TellsBlocks (given : Given) (recorder : ℕ) (tape : Tape) : Type 0 where
   pub cycles : ℕ
@@ -46,7 +41,7 @@ pub record TellsBlocks (given : Given) (recorder : ℕ) (tape : Tape) : Type 0 w
 pub record TellsPlayback (given : Given) (playback : Option Tape) : Type 0 where
   pub cycles : ℕ
   pub low : cycles ≤ length (turns given.script)
-  pub unfinished : IfSome playback (λ (tape : Tape). HasUnfinished (playback_format (course_before given)) (played_so_far (course_before given) cycles) tape.bytes)
+  pub unfinished : IfSome playback (λ (tape : Tape). HasUnfinished (playback_format (serial_course_of given)) (played_so_far (serial_course_of given) cycles) tape.bytes)
 
 pub record TellsFronts (given : Given) (session : Session) : Type 0 where
   pub playback : TellsPlayback given session.driver.playback
@@ -56,6 +51,10 @@ pub record TellsFronts (given : Given) (session : Session) : Type 0 where
 pub TellsFronts-met : (given : Given) (session after : Session) → Met session after → TellsFronts given session → TellsFronts given after
 TellsFronts-met given session after met tells = subst (TellsFronts given) (sym met.same) (record { playback = tells.playback; records = tells.records })
 
+-- so do readings of the disks, be it that one failed
+pub TellsFronts-disks : (given : Given) (most : ℕ) (session after : Session) → DisksBroke most session after → TellsFronts given session → TellsFronts given after
+TellsFronts-disks given most session after tried tells = subst (TellsFronts given) (sym tried.same) (record { playback = tells.playback; records = tells.records })
+
 -- fronts of what was played and kept so far are fronts of the files
 abbrev pub PlayedFronts : Type 0
 PlayedFronts = (course : Course) (n : ℕ) (format : Format) (bytes : Option (List ℕ)) → n ≤ length (turns course.script) → HasUnfinished format (played_so_far course n) bytes → HasFront format (played_back course) bytes
@@ -64,20 +63,19 @@ abbrev pub KeptFronts : Type 0
 KeptFronts = (course : Course) (losses : List Overrun) (recorder n : ℕ) (format : Format) (blocks : List RingBlock) (bytes : Option (List ℕ)) → n ≤ length (turns course.script)
     → blocks ≡ take (length blocks) (kept_blocks course losses recorder n) → HasUnfinished format (samples_of_blocks blocks) bytes → HasFront format (recorded course losses recorder) bytes
 
-pub StandsInSerial-tells : PlayedFronts → KeptFronts → (given : Given) (session : Session) → length given.script.header.disks ≡ 0 → TellsFronts given session → StandsInSerial given (told session)
-StandsInSerial-tells played kept given session none tells = record {
-  playback = subst (λ (c : Course). HasFront (playback_format c) (played_back c) (bytes_in session.driver.playback)) (sym (serial_course-is given none)) (go session.driver.playback tells.playback);
+pub StandsInSerial-tells : PlayedFronts → KeptFronts → (given : Given) (session : Session) → TellsFronts given session → StandsInSerial given (told session)
+StandsInSerial-tells played kept given session tells = record {
+  playback = go session.driver.playback tells.playback;
   records = λ recorder file there.
       let w = slice_get-map (λ (tape : Tape). tape.bytes) session.tapes recorder file there in
       let t : TellsBlocks given recorder w.0 = tells.records recorder w.0 w.1 in
-      subst (λ (c : Course). HasFront (recorder_format c recorder) (recorded c (serial_overruns given.script recorder) recorder) file) (sym (serial_course-is given none))
-      (subst (λ bytes. HasFront (format_at given.script recorder) (recorded (course_before given) (serial_overruns given.script recorder) recorder) bytes) w.2
-      (kept (course_before given) (serial_overruns given.script recorder) recorder t.cycles (format_at given.script recorder) t.one.blocks w.0.bytes t.low t.one.front t.one.unfinished));
+      subst (λ bytes. HasFront (format_at given.script recorder) (recorded (serial_course_of given) (serial_overruns given.script recorder) recorder) bytes) w.2
+      (kept (serial_course_of given) (serial_overruns given.script recorder) recorder t.cycles (format_at given.script recorder) t.one.blocks w.0.bytes t.low t.one.front t.one.unfinished);
 }
   where
-    go : (playback : Option Tape) → TellsPlayback given playback → HasFront (playback_format (course_before given)) (played_back (course_before given)) (bytes_in playback)
+    go : (playback : Option Tape) → TellsPlayback given playback → HasFront (playback_format (serial_course_of given)) (played_back (serial_course_of given)) (bytes_in playback)
     go None t = tt
-    go (Some tape) t = played (course_before given) t.cycles (playback_format (course_before given)) tape.bytes t.low t.unfinished
+    go (Some tape) t = played (serial_course_of given) t.cycles (playback_format (serial_course_of given)) tape.bytes t.low t.unfinished
 
 -- ---- rings that have what serial mode keeps
 
@@ -87,6 +85,15 @@ pub record AreKept (given : Given) (session : Session) (n : ℕ) : Type 0 where
   pub script_is : given.script ≡ session.script
   pub filled : AreFilled session
   pub puts : (recorder : ℕ) (ring : Sending) → slice_get session.driver.rings recorder ≡ Some ring → ring.put ≡ blocks_serial given recorder n
+
+-- readings of the disks change none of that
+pub AreKept-disks : (given : Given) (most : ℕ) (session after : Session) (n : ℕ) → DisksBroke most session after → AreKept given session n → AreKept given after n
+AreKept-disks given most session after n tried kept = record {
+  low = kept.low;
+  script_is = kept.script_is ∙ sym (ap (λ (s : Session). s.script) tried.same);
+  filled = AreFilled-disks most session after tried kept.filled;
+  puts = λ recorder ring there. kept.puts recorder ring (ap (λ (s : Session). slice_get s.driver.rings recorder) (sym tried.same) ∙ there);
+}
 
 -- a front of what was put, where that is what so many cycles keep
 pub TellsBlocks-put : (given : Given) (session : Session) → given.script ≡ session.script → (recorder n : ℕ) → n ≤ length (turns given.script) → (put : List RingBlock) (tape : Tape) → put ≡ blocks_serial given recorder n

@@ -1,7 +1,7 @@
 -- A recorder's ring and file behind steps that were whole, or broke off.
 --     IsFilled, AreFilled      each file has what was got, which is a front of what was put
 --     IsTold      a file tells a front of what was put
---     AreFilled-one, AreFilled-emptied, AreFilled-stepped      before a cycle, behind what leaves the rings, and behind a cycle
+--     AreFilled-one, AreFilled-emptied, AreFilled-disks, AreFilled-stepped      before a cycle, behind what leaves the rings, behind readings of the disks, and behind a cycle
 use Rattle.std.proofs.Common.{◌≡◌, ℕ, ◌<◌, ◌≤◌, Bool, true, false, List, [], ◌∷◌, length, map, take, slice_get, slice_index_or, Some, sym, ◌∙◌, ap, subst, arith, ℤ}
 use Rattle.std.proofs.lemmas.List.{length-map}
 use Rattle.std.proofs.lemmas.Option.{get_or_from_slice_get, same_Some, slice_get_within}
@@ -13,14 +13,15 @@ use Rattle.session_model.specs.Scripts.{Script}
 use Rattle.driver_words.specs.Rings.{Getting, Renews, Sending}
 use Rattle.driver_words.specs.Tapes.{HasSamples, HasUnfinished, Tape}
 use Rattle.wave_write.proofs.TapeLemmas.{samples-unfinished}
-use Rattle.disk_recorder.proofs.Fronts.{front_append, front_itself, front_on}
-use Rattle.driver_laws.specs.Cycling.{Idle, Lacked, PutsOne, RingStays, StepsOnce, Went}
-use Rattle.driver_laws.specs.Drivers.{Driver}
-use Rattle.driver_laws.proofs.PlaceLemmas.{there_too}
+use Rattle.recorder_files.specs.disk_recorder.proofs.Fronts.{front_append, front_itself, front_on}
+use Rattle.run_laws.specs.driver_laws.specs.Cycling.{Idle, Lacked, PutsOne, RingStays, StepsOnce, Went}
+use Rattle.run_laws.specs.driver_laws.specs.Drivers.{Driver}
+use Rattle.run_laws.specs.driver_laws.proofs.PlaceLemmas.{there_too}
 use Rattle.recorder_files.specs.Recorders.{BreaksOff, GivesUp, Reel}
 use Rattle.run_laws.specs.Runs.{HasFiles}
 use Rattle.run_laws.specs.Sessions.{IsOne, Session}
 use Rattle.run_laws.proofs.PlaceLemmas.{mapped_there, some_at}
+use Rattle.disk_runs.specs.Readings.{DisksBroke}
 use Rattle.serial_laws.specs.Faults.{BreakUp, Broke, Gave, Left, Tried}
 use Rattle.serial_laws.specs.Steps.{Emptied, GiveUp, IsReel}
 
@@ -173,6 +174,18 @@ AreFilled-gave most session after gives filled = record {
 pub AreFilled-emptied : (freewheel : Bool) (session after : Session) → Emptied freewheel session after → AreFilled session → AreFilled after
 AreFilled-emptied true session after gives filled = AreFilled-gave session.script.header.ring session after gives filled
 AreFilled-emptied false session after same filled = subst AreFilled (sym same) filled
+
+-- readings of the disks leave the recorders
+pub AreFilled-disks : (most : ℕ) (session after : Session) → DisksBroke most session after → AreFilled session → AreFilled after
+AreFilled-disks most session after tried filled =
+    let behind : AreFilled (record session { driver = record session.driver { disks = after.driver.disks }; players = after.players }) = record {
+      rings = filled.rings;
+      getting = filled.getting;
+      tapes = filled.tapes;
+      counts = filled.counts;
+      each = λ recorder reel is. filled.each recorder reel record { ring = is.ring; getting = is.getting; tape = is.tape; blocks = is.blocks };
+    } in
+    subst AreFilled (sym tried.same) behind
 
 -- what was put before a cycle is a front of what is put behind it
 put-longer : (k recorder : ℕ) (active : Bool) (samples : List ℤ) (before after : Sending) (losses losses_after : List Overrun) → PutsOne k recorder active samples before after losses losses_after → before.put ≡ take (length before.put) after.put

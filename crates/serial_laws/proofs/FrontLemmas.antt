@@ -20,7 +20,7 @@ use Rattle.session_model.specs.Scripts.{turns}
 use Rattle.session_model.specs.WaveFiles.{wave_text}
 use Rattle.driver_words.specs.Tapes.{HasFront, HasUnfinished}
 use Rattle.wave_write.proofs.TapeLemmas.{unfinished-front, unfinished-longer}
-use Rattle.driver_laws.specs.Keeping.{is_kept, kept_blocks, played_so_far}
+use Rattle.run_laws.specs.driver_laws.specs.Keeping.{is_kept, kept_blocks, played_so_far}
 
 -- a list goes on behind its front
 pub behind_front : {X : Type 0} (front whole : List X) → front ≡ take (length front) whole → (rest : List X) × (whole ≡ front ++ rest)

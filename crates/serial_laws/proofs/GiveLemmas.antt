@@ -3,6 +3,7 @@
 --     many-rings, passed      there are as many rings as recorders, and each has both
 --     RingStays-gave      each ring stays the same, with a bound that did not fall
 --     IsSound-gave      the parts belong together as before
+--     DisksTell-gave      what the ends of the disks' rings know stays
 --     AreEmpty-gave      and rings that gave up as many blocks as they may have are empty
 use Rattle.std.proofs.Common.{◌≡◌, ℕ, ◌*◌, ◌<◌, ◌≤◌, false, length, slice_get, Some, sym, ◌∙◌, ap, subst, arith}
 use Rattle.std.proofs.lemmas.List.{length-map}
@@ -10,14 +11,16 @@ use Rattle.std.proofs.lemmas.Option.{same_Some, slice_get_within}
 use Rattle.session_model.specs.Scripts.{Script}
 use Rattle.driver_words.specs.Rings.{Getting, IsPair, Sending, items_of}
 use Rattle.driver_words.specs.Tapes.{HasSamples, Tape}
-use Rattle.disk_recorder.specs.Recordings.{MayWrite}
+use Rattle.recorder_files.specs.disk_recorder.specs.Recordings.{MayWrite}
 use Rattle.session_model.specs.Rings.{samples_of_blocks}
-use Rattle.driver_laws.specs.Cycling.{RingStays}
-use Rattle.driver_laws.specs.Drivers.{HasOwnRings, IsOwnRing, channels_on, frames_run}
+use Rattle.run_laws.specs.driver_laws.specs.Cycling.{RingStays}
+use Rattle.run_laws.specs.driver_laws.specs.Drivers.{HasOwnRings, IsOwnRing, channels_on, frames_run}
 use Rattle.recorder_files.specs.Recorders.{GivesUp, Reel}
 use Rattle.run_laws.specs.Runs.{HasFiles}
 use Rattle.run_laws.specs.Sessions.{IsOne, Session}
 use Rattle.run_laws.proofs.PlaceLemmas.{mapped_there, some_at}
+use Rattle.disk_runs.specs.Rests.{DisksTell}
+use Rattle.disk_runs.proofs.AloneLemmas.{DisksTell-alone}
 use Rattle.serial_laws.specs.Steps.{AreEmpty, GiveUp, IsReel, IsSound}
 use Rattle.serial_laws.proofs.EachLemmas.{All-places, at-place, map-places, map-places_is}
 use Rattle.serial_laws.proofs.RingLemmas.{counted-blocks, empty-blocks, format-blocks, may-blocks, no_end-blocks, pair-blocks, samples-blocks, stays-blocks}
@@ -187,7 +190,8 @@ module _ (session : Session) (sound : IsSound session) where
           misses = record { overruns = sound.misses.overruns; underruns = sound.misses.underruns };
           files = HasFiles-gave;
           no_end = All-places (λ (ring : Sending). ring.ended ≡ false) after.driver.rings (each-ring (λ recorder ring. ring.ended ≡ false) (λ recorder p. no_end-blocks most p.reel p.reel_after p.gives));
-          no_disks = sound.no_disks;
+          room = sound.room;
+          going = sound.going;
         } in
         subst IsSound (sym give.same) sound_later
 
@@ -196,3 +200,7 @@ module _ (session : Session) (sound : IsSound session) where
         (each-ring (λ recorder ring. ring.least ≡ length ring.put) (λ recorder p.
         let capacity : p.reel.ring.capacity ≡ session.script.header.ring = at-place (λ (old : Sending). old.capacity ≡ session.script.header.ring) session.driver.rings recorder p.reel.ring sound.one.capacity p.before.ring in
         empty-blocks most p.reel p.reel_after p.gives (omega (arith, capacity, room))))
+
+-- what the ends of the disks' rings know is no matter of it
+pub DisksTell-gave : (most : ℕ) (session after : Session) → GiveUp most session after → DisksTell session → DisksTell after
+DisksTell-gave most session after give = DisksTell-alone session after (ap (λ (s : Session). s.players) give.same) (ap (λ (s : Session). s.driver.disks) give.same)

@@ -1,18 +1,21 @@
 -- What was kept of what was given is kept by each step of a session in serial mode.
 --     FitsBefore, StaysKept      what the driver's laws say
---     KeepsOwn-gave, KeepsOwn-cycled, KeepsOwn-met, KeepsOwn-rounded, KeepsOwn-begun
+--     KeepsOwn-gave, KeepsOwn-read, KeepsOwn-cycled, KeepsOwn-told, KeepsOwn-met, KeepsOwn-rounded, KeepsOwn-begun
 use Rattle.std.proofs.Common.{◌≡◌, ℕ, suc, List, length, slice_get, Some, refl, sym, ◌∙◌, ap, subst, le_refl}
 use Rattle.session_model.specs.Courses.{Course}
 use Rattle.session_model.specs.Explanations.{Given}
 use Rattle.session_model.specs.Scripts.{Script}
 use Rattle.graph_word.specs.Publications.{Reading}
 use Rattle.driver_words.specs.Rings.{Sending}
-use Rattle.control_desk.specs.Desks.{Desk}
-use Rattle.driver_laws.specs.Cycling.{HasMetOthers, RingStays, StepsOnce}
-use Rattle.driver_laws.specs.Drivers.{Driver}
-use Rattle.driver_laws.specs.Keeping.{Fits, Keeps}
+use Rattle.run_laws.specs.control_desk.specs.Desks.{Desk}
+use Rattle.run_laws.specs.driver_laws.specs.Cycling.{HasMetOthers, RingStays, StepsOnce}
+use Rattle.run_laws.specs.driver_laws.specs.Drivers.{Driver}
+use Rattle.run_laws.specs.driver_laws.specs.Keeping.{Fits, Keeps}
 use Rattle.serial_laws.specs.Steps.{Begun, Cycled, GiveUp, IsSound, KeepsOwn, Met, Rounded}
 use Rattle.run_laws.specs.Sessions.{Session}
+use Rattle.disk_runs.specs.Readings.{DisksBroke, DisksRead, DisksTold}
+use Rattle.disk_runs.proofs.PartLemmas.{HasMetOthers-tried}
+use Rattle.disk_runs.proofs.StepLemmas.{tried-read, tried-told}
 use Rattle.serial_laws.proofs.GiveLemmas.{RingStays-gave}
 
 -- what fits behind fits before
@@ -91,3 +94,13 @@ module _ (fits : FitsBefore HasMetOthers) (stays : StaysKept HasMetOthers) (give
       (KeepsOwn-desk given session (record session.desk { history = begun.grouped.desk.history; phase = suc done; publishing = begun.grouped.desk.publishing }) keeps) in
       let met : KeepsOwn given begun.met = KeepsOwn-met begun.grouped begun.met begun.meets grouped in
       KeepsOwn-met begun.rounded after begun.meets_again (KeepsOwn-rounded given begun.met begun.rounded begun.rounds met)
+
+  pub KeepsOwn-tried : (most : ℕ) (session after : Session) → IsSound session → DisksBroke most session after → KeepsOwn given session → KeepsOwn given after
+  KeepsOwn-tried most session after sound tried keeps =
+      KeepsOwn-others session after (ap (λ (s : Session). s.script) tried.same) (HasMetOthers-tried most session after tried sound.one) keeps
+
+  pub KeepsOwn-read : (most : ℕ) (session after : Session) → IsSound session → DisksRead most session after → KeepsOwn given session → KeepsOwn given after
+  KeepsOwn-read most session after sound reads keeps = KeepsOwn-tried most session after sound (tried-read most session after reads) keeps
+
+  pub KeepsOwn-told : (session after : Session) → IsSound session → DisksTold session after → KeepsOwn given session → KeepsOwn given after
+  KeepsOwn-told session after sound tells keeps = KeepsOwn-tried 0 session after sound (tried-told 0 session after tells) keeps

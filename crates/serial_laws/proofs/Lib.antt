@@ -1,6 +1,7 @@
 pub mod EachLemmas
 pub mod RingLemmas
 pub mod GiveLemmas
+pub mod ReadLemmas
 pub mod MissLemmas
 pub mod CycledLemmas
 pub mod MeetLemmas
@@ -13,6 +14,7 @@ pub mod DeskLemmas
 pub mod TurnLemmas
 pub mod EmptyLemmas
 pub mod ReelLemmas
+pub mod DiskLemmas
 pub mod ActiveLemmas
 pub mod CountLemmas
 pub mod LossLemmas

@@ -8,10 +8,10 @@ use Rattle.session_model.specs.Courses.{Course, turn}
 use Rattle.session_model.specs.Recorders.{is_lost, is_taping}
 use Rattle.session_model.specs.Scripts.{Script, turns}
 use Rattle.session_model.specs.Serial.{Counts, counts, put_one, serial_course, serial_overruns}
-use Rattle.driver_laws.specs.Keeping.{is_kept, kept_blocks}
-use Rattle.driver_laws.proofs.NumberLemmas.{filter-below_same}
-use Rattle.driver_laws.proofs.PlaceLemmas.{or_false}
-use Rattle.driver_laws.proofs.RingLemmas.{made}
+use Rattle.run_laws.specs.driver_laws.specs.Keeping.{is_kept, kept_blocks}
+use Rattle.run_laws.specs.driver_laws.proofs.NumberLemmas.{filter-below_same}
+use Rattle.run_laws.specs.driver_laws.proofs.PlaceLemmas.{or_false}
+use Rattle.run_laws.specs.driver_laws.proofs.RingLemmas.{made}
 use Rattle.serial_laws.proofs.EmptyLemmas.{closed-losses, counted_in-turn, opened}
 
 -- a cycle adds an overrun of its own, or none

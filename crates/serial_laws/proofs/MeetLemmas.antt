@@ -1,10 +1,13 @@
 -- Meetings, rounds of the lanes and the front of a phase leave a session's parts as they were.
 --     IsSound-met, IsSound-rounded, IsSound-begun
+--     DisksTell-met, DisksTell-rounded, DisksTell-begun      and what the ends of the disks' rings know
 use Rattle.std.proofs.Common.{◌≡◌, ℕ, length, refl, sym, ◌∙◌, ap, ap₂, subst}
 use Rattle.graph_word.specs.Publications.{Publishing, Reading, last_row}
-use Rattle.control_desk.specs.Desks.{Desk, IsDesk, base_of}
+use Rattle.run_laws.specs.control_desk.specs.Desks.{Desk, IsDesk, base_of}
 use Rattle.run_laws.specs.Runs.{HasFiles}
 use Rattle.run_laws.specs.Sessions.{IsOne, Session}
+use Rattle.disk_runs.specs.Rests.{DisksTell}
+use Rattle.disk_runs.proofs.AloneLemmas.{DisksTell-alone}
 use Rattle.serial_laws.specs.Steps.{Begun, IsSound, Met, Rounded}
 
 -- another desk over the same script and publication
@@ -41,7 +44,8 @@ IsSound-desk session desk sound is script table =
         counted = files.counted;
       };
       no_end = sound.no_end;
-      no_disks = sound.no_disks;
+      room = sound.room;
+      going = sound.going;
     }
 
 -- a reader whose next take answers no less than this
@@ -91,7 +95,8 @@ IsSound-found session least sound = record {
   misses = record { overruns = sound.misses.overruns; underruns = sound.misses.underruns };
   files = HasFiles-found session least sound.files;
   no_end = sound.no_end;
-  no_disks = sound.no_disks;
+  room = sound.room;
+  going = sound.going;
 }
 
 -- a desk whose next look finds no less than this
@@ -130,3 +135,19 @@ IsSound-begun done session after sound begun =
     let met : IsSound begun.met = IsSound-met begun.grouped begun.met grouped begun.meets in
     let rounded : IsSound begun.rounded = IsSound-rounded begun.met begun.rounded met begun.rounds in
     IsSound-met begun.rounded after rounded begun.meets_again
+
+-- ---- what the ends of the disks' rings know
+
+pub DisksTell-met : (session after : Session) → Met session after → DisksTell session → DisksTell after
+DisksTell-met session after met = DisksTell-alone session after (ap (λ (s : Session). s.players) met.same) (ap (λ (s : Session). s.driver.disks) met.same)
+
+pub DisksTell-rounded : (session after : Session) → Rounded session after → DisksTell session → DisksTell after
+DisksTell-rounded session after rounded = DisksTell-alone session after (ap (λ (s : Session). s.players) rounded.same) (ap (λ (s : Session). s.driver.disks) rounded.same)
+
+pub DisksTell-begun : (done : ℕ) (session after : Session) → Begun done session after → DisksTell session → DisksTell after
+DisksTell-begun done session after begun tell =
+    let grouped : DisksTell begun.grouped =
+    DisksTell-alone session begun.grouped (ap (λ (s : Session). s.players) begun.group_same) (ap (λ (s : Session). s.driver.disks) begun.group_same) tell in
+    let met : DisksTell begun.met = DisksTell-met begun.grouped begun.met begun.meets grouped in
+    let rounded : DisksTell begun.rounded = DisksTell-rounded begun.met begun.rounded begun.rounds met in
+    DisksTell-met begun.rounded after begun.meets_again rounded

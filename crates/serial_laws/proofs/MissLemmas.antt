@@ -1,20 +1,19 @@
 -- What a cycle of a sound session missed.
 --     no-losses      in a freewheel cycle no recorder, for its ring is empty
---     no-disks      there is no disk
 --     MissesInRun-cycled      so overruns and underruns came in `run` cycles alone
-use Rattle.std.proofs.Common.{◌≡◌, ℕ, ◌+◌, ◌<◌, ◌≤◌, ◌==◌, Bool, true, false, cond, List, [], ◌∷◌, ◌++◌, length, get_or, All, ℤ, refl, sym, ◌∙◌, ap, subst, arith, eq-eqb}
+use Rattle.std.proofs.Common.{◌≡◌, ℕ, ◌+◌, ◌<◌, ◌≤◌, ◌==◌, Bool, true, false, cond, List, [], ◌∷◌, ◌++◌, length, All, ℤ, refl, sym, ◌∙◌, ap, subst, arith, eq-eqb}
 use Rattle.std.proofs.lemmas.List.{length-append}
 use Rattle.std.proofs.lemmas.List.Elements.{All-append, All-head, filter-append}
 use Rattle.jack_types.specs.declared.replies.Overrun.{Overrun}
-use Rattle.jack_types.specs.declared.replies.Underrun.{Underrun}
-use Rattle.session_model.specs.Scripts.{Script}
 use Rattle.driver_words.specs.Rings.{Sending}
-use Rattle.driver_laws.specs.Cycling.{Idle, Lacked, PutsOne, StepsOnce, Went}
-use Rattle.driver_laws.specs.Drivers.{block_in, graph_now, has_tape, overruns_on, run, turn_of}
-use Rattle.driver_laws.proofs.PlaceLemmas.{there_too}
+use Rattle.run_laws.specs.driver_laws.specs.Cycling.{Idle, Lacked, PutsOne, StepsOnce, Went}
+use Rattle.run_laws.specs.driver_laws.specs.Drivers.{block_in, graph_now, has_tape, overruns_on, run, turn_of}
+use Rattle.run_laws.specs.driver_laws.proofs.PlaceLemmas.{there_too}
 use Rattle.run_laws.specs.Runs.{MissesInRun}
 use Rattle.run_laws.specs.Sessions.{Session}
 use Rattle.run_laws.proofs.PlaceLemmas.{some_at}
+use Rattle.disk_runs.specs.Rests.{AreFilled}
+use Rattle.disk_runs.proofs.MissLemmas.{in-run}
 use Rattle.serial_laws.specs.Steps.{AreEmpty, IsSound}
 use Rattle.serial_laws.proofs.EachLemmas.{at-place}
 
@@ -61,24 +60,15 @@ module _ (session after : Session) (sound : IsSound session) (steps : StepsOnce 
       (none-lost (run session.driver + 1) recorder (has_tape (graph_now after.driver) recorder) (block_in after.driver recorder) here.0 there.0
       (overruns_on session.driver.overruns recorder) (overruns_on after.driver.overruns recorder) least (omega (arith, capacity, some)) (steps.rings recorder here.0 there.0 here.1 there.1)))
 
-  -- there are no disks to miss a block of
-  pub no-disks : length session.driver.disks ≡ 0
-  no-disks =
-      sound.one.rings.disks ∙ ap (λ (s : Script). length s.header.disks) sound.one.driver_script ∙ sym sound.one.disk_ends ∙ ap length sound.no_disks
-
-  pub MissesInRun-cycled : ((turn_of session.script (run session.driver + 1)).is_freewheel ≡ true → AreEmpty session) → MissesInRun (record session { driver = after.driver })
-  MissesInRun-cycled empty = record {
+  pub MissesInRun-cycled : ((turn_of session.script (run session.driver + 1)).is_freewheel ≡ true → AreEmpty session × AreFilled session) → MissesInRun (record session { driver = after.driver })
+  MissesInRun-cycled full = record {
     overruns = subst (All InRun) (sym steps.more_overruns) (All-append InRun session.driver.overruns steps.overruns sound.misses.overruns (now (turn_of session.script (run session.driver + 1)).is_freewheel refl));
-    underruns = subst (All MissedInRun) (sym steps.more_underruns) (All-append MissedInRun session.driver.underruns steps.underruns sound.misses.underruns
-        (λ k d low. let own : (get_or steps.underruns k d).disk < length session.driver.disks = (steps.underruns_now k d low).1 in absurd (omega (arith, own, no-disks))));
+    underruns = in-run session after.driver sound.one steps sound.misses (λ is. (full is).1);
   }
     where
       InRun : Overrun → Type 0
       InRun overrun = (turn_of session.script overrun.cycle).is_freewheel ≡ false
 
-      MissedInRun : Underrun → Type 0
-      MissedInRun underrun = (turn_of session.script underrun.cycle).is_freewheel ≡ false
-
       now : (freewheel : Bool) → (turn_of session.script (run session.driver + 1)).is_freewheel ≡ freewheel → All InRun steps.overruns
-      now true is = subst (All InRun) (sym (no-losses (empty is))) (λ k d low. absurd (omega (arith, low)))
+      now true is = subst (All InRun) (sym (no-losses (full is).0)) (λ k d low. absurd (omega (arith, low)))
       now false is = λ k d low. ap (λ cycle. (turn_of session.script cycle).is_freewheel) (steps.overruns_now k d low).0 ∙ is

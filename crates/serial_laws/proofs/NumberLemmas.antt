@@ -10,8 +10,8 @@ use Rattle.std.proofs.lemmas.Option.{none-some, same_Some}
 use Rattle.session_model.specs.Courses.{no_turn}
 use Rattle.session_model.specs.Scripts.{Phase, Script, ScriptCycle, phases, turns, turns_from}
 use Rattle.graph_word.specs.Publications.{Reading, Takes}
-use Rattle.driver_laws.specs.Drivers.{turn_of}
-use Rattle.driver_laws.specs.Segments.{cycles_before}
+use Rattle.run_laws.specs.driver_laws.specs.Drivers.{turn_of}
+use Rattle.run_laws.specs.driver_laws.specs.Segments.{cycles_before}
 
 abbrev cycles_in : List Phase → ℕ
 cycles_in phs = sum_by (λ (p : Phase). p.cycles) phs

@@ -2,7 +2,7 @@
 --     IsOne-bare      files are no matter of whether its parts belong together
 --     KeepsAny-bare      nor of what is kept, where the playback's has no samples
 --     HaveMet-opening      the ends of a new publication have met
---     IsSound-new, SerialBehind-new, SerialKept-new      where a new session stands whose files are begun
+--     IsSound-new, IsSettled-new, SerialBehind-new, SerialKept-new      where a new session stands whose files are begun
 use Rattle.std.proofs.Common.{◌≡◌, ℕ, ◌<◌, ◌≤◌, false, List, [], length, take, slice_get, All, IsNone, Some, None, refl, sym, ◌∙◌, ap, subst}
 use Rattle.std.specs.Prelude.{Contains}
 use Rattle.std.proofs.lemmas.List.Elements.{All-weaker}
@@ -19,18 +19,23 @@ use Rattle.graph_word.specs.declared.plans.Base.{Base}
 use Rattle.graph_word.specs.declared.view.TakenRow.{TakenRow}
 use Rattle.graph_word.specs.Publications.{HaveMet, IsFront, IsOpening, Publishing, Reading, last_row}
 use Rattle.driver_words.specs.Rings.{Getting, Sending}
-use Rattle.control_desk.specs.Desks.{base_of}
-use Rattle.driver_laws.specs.Drivers.{Driver, HasOwnRings, HasOwnRows, overruns_on, run, turn_of}
-use Rattle.driver_laws.specs.Keeping.{Fits, HasTape, Keeps, played_so_far}
-use Rattle.driver_laws.specs.Openings.{IsEmptyRing}
-use Rattle.driver_laws.proofs.PlaceLemmas.{none_below}
-use Rattle.serial_lanes.specs.Laws.{BehindNone}
-use Rattle.run_laws.specs.Runs.{HasFiles, MissesInRun}
-use Rattle.run_laws.specs.SerialRuns.{HasCounts, RingSerial, SerialBehind, SerialKept}
+use Rattle.run_laws.specs.control_desk.specs.Desks.{base_of}
+use Rattle.run_laws.specs.driver_laws.specs.Drivers.{Driver, HasOwnRings, HasOwnRows, overruns_on, run, turn_of}
+use Rattle.run_laws.specs.driver_laws.specs.Keeping.{Fits, HasTape, Keeps, played_so_far}
+use Rattle.run_laws.specs.driver_laws.specs.Openings.{IsEmptyRing}
+use Rattle.run_laws.specs.driver_laws.proofs.PlaceLemmas.{none_below}
+use Rattle.run_laws.specs.serial_lanes.specs.Laws.{BehindNone}
+use Rattle.run_laws.specs.Runs.{HasFiles, MissesInRun, PlaysAll}
+use Rattle.run_laws.specs.SerialRuns.{DisksSerial, HasCounts, RingSerial, SerialBehind, SerialKept}
 use Rattle.run_laws.specs.Sessions.{IsGiven, IsMet, IsOne, KeepsAny, Session}
 use Rattle.run_laws.specs.Told.{IsNew}
+use Rattle.disk_runs.specs.Readings.{NoneFailed}
+use Rattle.disk_runs.specs.Rests.{DisksFresh, DisksHaveRoom, DisksTell}
+use Rattle.disk_runs.proofs.AloneLemmas.{DisksSerial-alone, DisksTell-alone, PlaysAll-alone}
+use Rattle.disk_runs.proofs.GoingLemmas.{NoneFailed-new}
+use Rattle.disk_runs.proofs.NewLemmas.{DisksTell-new, HasRoom-new, NewPlayTheirFiles}
 use Rattle.serial_laws.specs.Openings.{AreFresh, bare}
-use Rattle.serial_laws.specs.Steps.{IsSound}
+use Rattle.serial_laws.specs.Steps.{IsSettled, IsSound}
 
 -- all items of an empty list are anything
 all-none : {X : Type 0} (P : X → Type 0) (xs : List X) → xs ≡ [] → All P xs
@@ -38,9 +43,6 @@ all-none P xs none k d h = absurd (none_below (subst (λ ys. k < length ys) none
 
 contains-none : {X : Type 0} (xs : List X) (x : X) → xs ≡ [] → Contains xs x → ⊥
 contains-none xs x none there = none_below (subst (λ ys. there.0 < length ys) none there.1)
-
-nothing_there : {X : Type 0} (xs : List X) (k : ℕ) (x : X) → xs ≡ [] → slice_get xs k ≡ Some x → ⊥
-nothing_there xs k x none here = none_below (subst (λ ys. k < length ys) none (slice_get_within xs k x here))
 
 -- what holds of all items holds of the one at a place
 all-there : {X : Type 0} (P : X → Type 0) (xs : List X) (k : ℕ) (x : X) → All P xs → slice_get xs k ≡ Some x → P x
@@ -121,6 +123,14 @@ HaveMet-opening base publisher reader new = record {
     none_seen : publisher.pairs ≡ []
     none_seen = ap (λ (p : Publishing). p.pairs) new.publisher_is
 
+-- a new session keeps each course over what its sources tell
+abbrev pub NewKeeps : Type 0
+NewKeeps = (session : Session) (given : Given) → IsNew session → IsGiven session given → KeepsAny given session.driver
+
+-- before the first cycle nothing is put, got or missed
+abbrev pub NewDisksCounted : Type 0
+NewDisksCounted = (session : Session) (given : Given) → IsNew session → IsGiven session given → DisksFresh session → DisksSerial given session
+
 module _ (session : Session) (new : IsNew (bare session)) where
   none_run : run session.driver ≡ 0
   none_run = ap length new.new_driver.numbers
@@ -144,17 +154,31 @@ module _ (session : Session) (new : IsNew (bare session)) where
   empty_ring : (recorder : ℕ) (ring : Sending) → slice_get session.driver.rings recorder ≡ Some ring → IsEmptyRing session.script.header.ring ring
   empty_ring recorder ring here = all-there (IsEmptyRing session.script.header.ring) session.driver.rings recorder ring new.new_driver.rings here
 
-  pub IsSound-new : session.players ≡ [] → HasFiles session → IsSound session
-  IsSound-new no_disks files = record {
+  -- files are no matter of the players
+  pub room : DisksHaveRoom session
+  room = HasRoom-new (bare session) new
+
+  pub going : NoneFailed session
+  going = NoneFailed-new (bare session) new
+
+  pub IsSound-new : HasFiles session → IsSound session
+  IsSound-new files = record {
     one = one;
     misses = misses;
     files = files;
     no_end = All-weaker (IsEmptyRing session.script.header.ring) (λ (ring : Sending). ring.ended ≡ false) (λ ring empty. empty.ended) session.driver.rings new.new_driver.rings;
-    no_disks = no_disks;
+    room = room;
+    going = going;
   }
 
-  pub SerialBehind-new : BehindNone → IsNone session.script.header.threads → session.players ≡ [] → HasFiles session → SerialBehind session 0
-  SerialBehind-new none serial no_disks files = record {
+  pub tells : AreFresh session → DisksTell session
+  tells fresh = DisksTell-alone (bare session) session refl refl (DisksTell-new (bare session) new fresh.disks)
+
+  pub IsSettled-new : AreFresh session → HasFiles session → IsSettled session
+  IsSettled-new fresh files = record { sound = IsSound-new files; tells = tells fresh }
+
+  pub SerialBehind-new : BehindNone → IsNone session.script.header.threads → HasFiles session → SerialBehind session 0
+  SerialBehind-new none serial files = record {
     so_far = record {
       one = one;
       serial = serial;
@@ -188,12 +212,22 @@ module _ (session : Session) (new : IsNew (bare session)) where
       none_got : got.got ≡ []
       none_got = all-there (λ (g : Getting). g.got ≡ []) session.getting recorder got new.no_gets got_there
 
-  pub SerialKept-new : ((session : Session) (given : Given) → IsNew session → IsGiven session given → KeepsAny given session.driver) → (given : Given)
-      → session.players ≡ [] → HasTape session.driver.playback [] → AreFresh session → IsGiven session given → SerialKept given session
-  SerialKept-new keeps given no_disks tape fresh is_given = record {
+  -- a session that tells what is given tells it without its files
+  pub bare_given : (given : Given) → IsGiven session given → IsGiven (bare session) given
+  bare_given given is_given =
+      record { own = record { script = is_given.own.script; scores = is_given.own.scores; channels = is_given.own.channels }; capture = is_given.capture; disks = is_given.disks }
+
+  pub plays : NewPlayTheirFiles → (given : Given) → IsGiven session given → PlaysAll given session
+  plays news given is_given = PlaysAll-alone (bare session) session given refl (news (bare session) given new (bare_given given is_given))
+
+  pub counted : NewDisksCounted → (given : Given) → AreFresh session → IsGiven session given → DisksSerial given session
+  counted news given fresh is_given = DisksSerial-alone (bare session) session given refl refl refl refl (news (bare session) given new (bare_given given is_given) fresh.disks)
+
+  pub SerialKept-new : NewKeeps → NewPlayTheirFiles → NewDisksCounted → (given : Given) → HasTape session.driver.playback [] → AreFresh session → IsGiven session given → SerialKept given session
+  SerialKept-new keeps news disks given tape fresh is_given = record {
     own = is_given.own;
-    keeps = KeepsAny-bare given session.driver none_run tape (keeps (bare session) given new (record { own = record { script = is_given.own.script; scores = is_given.own.scores; channels = is_given.own.channels }; capture = is_given.capture; disks = is_given.disks }));
+    keeps = KeepsAny-bare given session.driver none_run tape (keeps (bare session) given new (bare_given given is_given));
     rings = ring_serial fresh;
-    plays = λ course over disk player here. absurd (nothing_there session.players disk player no_disks here);
-    turned = λ course over fits disk player here. absurd (nothing_there session.players disk player no_disks here);
+    plays = plays news given is_given;
+    turned = counted disks given fresh is_given;
   }

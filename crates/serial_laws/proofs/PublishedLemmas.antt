@@ -11,11 +11,11 @@ use Rattle.session_model.specs.Scripts.{Phase, Script, phases, turns}
 use Rattle.session_model.specs.Serial.{serial, serial_history, serial_numbers}
 use Rattle.graph_word.specs.declared.view.TakenRow.{TakenRow}
 use Rattle.graph_word.specs.Publications.{HaveMet, IsFront, Reading}
-use Rattle.driver_laws.specs.Cycling.{StepsOnce}
-use Rattle.driver_laws.specs.Drivers.{Driver, run}
-use Rattle.driver_laws.specs.Segments.{cycles_before}
-use Rattle.serial_lanes.specs.Lanes.{SerialDesk}
-use Rattle.serial_lanes.specs.Laws.{HistoryFront, PublishedNumber}
+use Rattle.run_laws.specs.driver_laws.specs.Cycling.{StepsOnce}
+use Rattle.run_laws.specs.driver_laws.specs.Drivers.{Driver, run}
+use Rattle.run_laws.specs.driver_laws.specs.Segments.{cycles_before}
+use Rattle.run_laws.specs.serial_lanes.specs.Lanes.{SerialDesk}
+use Rattle.run_laws.specs.serial_lanes.specs.Laws.{HistoryFront, PublishedNumber}
 use Rattle.run_laws.specs.Sessions.{Session}
 use Rattle.serial_laws.specs.Steps.{AreExact, IsSound}
 use Rattle.serial_laws.proofs.NumberLemmas.{number-exact, numbers-next}

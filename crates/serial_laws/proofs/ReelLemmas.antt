@@ -1,7 +1,8 @@
 -- What recorders have at each step of a session, and what its steps leave as it is.
 --     HasEnds session count      so many recorders have all that a recorder has
 --     reel_at, reel_of      what a recorder has
---     lists_of, ends_of      the lists that meetings and lanes leave as they are, and the recorders' ends
+--     lists_of, ends_of, disks_of      the lists that meetings and lanes leave as they are, the recorders' ends, and what the disks have
+--     IsReel-tried, IsReel-untried      readings of the disks leave the recorders
 --     SerialRings-stays      rings whose counts are those of serial mode stay so
 use Rattle.std.proofs.Common.{◌≡◌, ℕ, ◌<◌, Bool, true, false, List, length, slice_get, Some, sym, ◌∙◌, ap, subst}
 use Rattle.std.proofs.lemmas.List.{length-map}
@@ -14,12 +15,14 @@ use Rattle.graph_word.specs.declared.view.TakenRow.{TakenRow}
 use Rattle.graph_word.specs.Publications.{Reading}
 use Rattle.driver_words.specs.Rings.{Getting, Sending}
 use Rattle.driver_words.specs.Tapes.{Tape}
-use Rattle.driver_laws.specs.Drivers.{overruns_on, run}
+use Rattle.run_laws.specs.driver_laws.specs.Cycling.{StepsOnce}
+use Rattle.run_laws.specs.driver_laws.specs.Drivers.{overruns_on, run}
 use Rattle.recorder_files.specs.Recorders.{Reel}
-use Rattle.run_laws.specs.Sessions.{Session}
+use Rattle.run_laws.specs.Sessions.{Playing, Session}
 use Rattle.run_laws.specs.SerialRuns.{HasCounts, RingSerial}
 use Rattle.run_laws.proofs.PlaceLemmas.{some_at}
-use Rattle.serial_laws.specs.Steps.{Begun, Cycled, Emptied, GiveUp, IsReel, IsSound, Met, Rounded}
+use Rattle.disk_runs.specs.Readings.{DisksBroke}
+use Rattle.serial_laws.specs.Steps.{Begun, Emptied, GiveUp, IsReel, IsSound, Met, Rounded}
 
 -- so many recorders have both ends of a ring, a file in the making and a count
 pub record HasEnds (session : Session) (count : ℕ) : Type 0 where
@@ -44,12 +47,13 @@ pub HasEnds-emptied : (freewheel : Bool) (session after : Session) (count : ℕ)
 HasEnds-emptied true session after count gives ends = HasEnds-gave session.script.header.ring session after count gives ends
 HasEnds-emptied false session after count same ends = subst (λ (s : Session). HasEnds s count) (sym same) ends
 
-pub HasEnds-cycled : (session after : Session) (count : ℕ) → Cycled session after → HasEnds session count → HasEnds after count
-HasEnds-cycled session after count cycled ends = record {
-  rings = cycled.cycles.steps.as_many ∙ ends.rings;
-  getting = ap (λ (s : Session). length s.getting) cycled.same ∙ ends.getting;
-  tapes = ap (λ (s : Session). length s.tapes) cycled.same ∙ ends.tapes;
-  counts = ap (λ (s : Session). length s.counts) cycled.same ∙ ends.counts;
+-- a cycle of the driver, be it that its playback failed
+pub HasEnds-stepped : (session after : Session) (count : ℕ) → StepsOnce session.driver after.driver → after ≡ record session { driver = after.driver } → HasEnds session count → HasEnds after count
+HasEnds-stepped session after count steps same ends = record {
+  rings = steps.as_many ∙ ends.rings;
+  getting = ap (λ (s : Session). length s.getting) same ∙ ends.getting;
+  tapes = ap (λ (s : Session). length s.tapes) same ∙ ends.tapes;
+  counts = ap (λ (s : Session). length s.counts) same ∙ ends.counts;
 }
 
 -- what is with these ends of its ring
@@ -68,13 +72,13 @@ reel_at session count recorder ends low =
     (record { ring = ring.0; getting = got.0; tape = rest.0; blocks = rest.1 }, rest.2)
 
 -- a cycle changes the ring alone
-pub IsReel-cycled : (session after : Session) (recorder : ℕ) (reel : Reel) (ring : Sending) → Cycled session after → IsReel session recorder reel → slice_get after.driver.rings recorder ≡ Some ring
+pub IsReel-stepped : (session after : Session) (recorder : ℕ) (reel : Reel) (ring : Sending) → after ≡ record session { driver = after.driver } → IsReel session recorder reel → slice_get after.driver.rings recorder ≡ Some ring
     → IsReel after recorder (record reel { ring = ring })
-IsReel-cycled session after recorder reel ring cycled is there = record {
+IsReel-stepped session after recorder reel ring same is there = record {
   ring = there;
-  getting = ap (λ (s : Session). slice_get s.getting recorder) cycled.same ∙ is.getting;
-  tape = ap (λ (s : Session). slice_get s.tapes recorder) cycled.same ∙ is.tape;
-  blocks = ap (λ (s : Session). slice_get s.counts recorder) cycled.same ∙ is.blocks;
+  getting = ap (λ (s : Session). slice_get s.getting recorder) same ∙ is.getting;
+  tape = ap (λ (s : Session). slice_get s.tapes recorder) same ∙ is.tape;
+  blocks = ap (λ (s : Session). slice_get s.counts recorder) same ∙ is.blocks;
 }
 
 -- what neither a meeting nor a lane nor a recorder changes
@@ -86,7 +90,6 @@ pub record Lists : Type 0 where
   pub rows : List TakenRow
   pub overruns : List Overrun
   pub underruns : List Underrun
-  pub disks : List Getting
 
 abbrev pub lists_of : Session → Lists
 lists_of session = record {
@@ -97,7 +100,6 @@ lists_of session = record {
   rows = session.driver.reading.rows;
   overruns = session.driver.overruns;
   underruns = session.driver.underruns;
-  disks = session.driver.disks;
 }
 
 -- the ends of the recorders' rings
@@ -108,12 +110,62 @@ pub record Ends : Type 0 where
 abbrev pub ends_of : Session → Ends
 ends_of session = record { rings = session.driver.rings; getting = session.getting }
 
+-- the players of the disks, and the ends of their rings that get
+pub record Disks : Type 0 where
+  pub players : List Playing
+  pub disks : List Getting
+
+abbrev pub disks_of : Session → Disks
+disks_of session = record { players = session.players; disks = session.driver.disks }
+
 pub lists-gave : (most : ℕ) (session after : Session) → GiveUp most session after → lists_of after ≡ lists_of session
 lists-gave most session after gives = ap lists_of gives.same
 
 pub lists-emptied : (freewheel : Bool) (session after : Session) → Emptied freewheel session after → lists_of after ≡ lists_of session
 lists-emptied true session after gives = lists-gave session.script.header.ring session after gives
 lists-emptied false session after same = ap lists_of same
+
+pub disks-gave : (most : ℕ) (session after : Session) → GiveUp most session after → disks_of after ≡ disks_of session
+disks-gave most session after gives = ap disks_of gives.same
+
+pub disks-emptied : (freewheel : Bool) (session after : Session) → Emptied freewheel session after → disks_of after ≡ disks_of session
+disks-emptied true session after gives = disks-gave session.script.header.ring session after gives
+disks-emptied false session after same = ap disks_of same
+
+pub disks-met : (session after : Session) → Met session after → disks_of after ≡ disks_of session
+disks-met session after met = ap disks_of met.same
+
+pub disks-rounded : (session after : Session) → Rounded session after → disks_of after ≡ disks_of session
+disks-rounded session after rounded = ap disks_of rounded.same
+
+-- readings of the disks, be it that one failed, leave all lists and all recorders
+pub lists-tried : (most : ℕ) (session after : Session) → DisksBroke most session after → lists_of after ≡ lists_of session
+lists-tried most session after tried = ap lists_of tried.same
+
+pub HasEnds-tried : (most : ℕ) (session after : Session) (count : ℕ) → DisksBroke most session after → HasEnds session count → HasEnds after count
+HasEnds-tried most session after count tried ends = record {
+  rings = ap (λ (s : Session). length s.driver.rings) tried.same ∙ ends.rings;
+  getting = ap (λ (s : Session). length s.getting) tried.same ∙ ends.getting;
+  tapes = ap (λ (s : Session). length s.tapes) tried.same ∙ ends.tapes;
+  counts = ap (λ (s : Session). length s.counts) tried.same ∙ ends.counts;
+}
+
+pub IsReel-tried : (most : ℕ) (session after : Session) (recorder : ℕ) (reel : Reel) → DisksBroke most session after → IsReel session recorder reel → IsReel after recorder reel
+IsReel-tried most session after recorder reel tried is = record {
+  ring = ap (λ (s : Session). slice_get s.driver.rings recorder) tried.same ∙ is.ring;
+  getting = ap (λ (s : Session). slice_get s.getting recorder) tried.same ∙ is.getting;
+  tape = ap (λ (s : Session). slice_get s.tapes recorder) tried.same ∙ is.tape;
+  blocks = ap (λ (s : Session). slice_get s.counts recorder) tried.same ∙ is.blocks;
+}
+
+-- what a recorder has behind them it had before
+pub IsReel-untried : (most : ℕ) (session after : Session) (recorder : ℕ) (reel : Reel) → DisksBroke most session after → IsReel after recorder reel → IsReel session recorder reel
+IsReel-untried most session after recorder reel tried is = record {
+  ring = ap (λ (s : Session). slice_get s.driver.rings recorder) (sym tried.same) ∙ is.ring;
+  getting = ap (λ (s : Session). slice_get s.getting recorder) (sym tried.same) ∙ is.getting;
+  tape = ap (λ (s : Session). slice_get s.tapes recorder) (sym tried.same) ∙ is.tape;
+  blocks = ap (λ (s : Session). slice_get s.counts recorder) (sym tried.same) ∙ is.blocks;
+}
 
 pub lists-met : (session after : Session) → Met session after → lists_of after ≡ lists_of session
 lists-met session after met = ap lists_of met.same ∙ ap (λ (r : Reading). record (lists_of session) { rows = r.rows }) met.meets.reader_is

@@ -9,9 +9,9 @@ use Rattle.std.proofs.lemmas.Bool.{cases_lt}
 use Rattle.jack_types.specs.declared.replies.Overrun.{Overrun}
 use Rattle.driver_words.specs.Rings.{Getting, IsPair, Sending}
 use Rattle.driver_words.specs.Tapes.{HasSamples}
-use Rattle.disk_recorder.specs.Recordings.{MayWrite}
+use Rattle.recorder_files.specs.disk_recorder.specs.Recordings.{MayWrite}
 use Rattle.session_model.specs.Rings.{samples_of_blocks}
-use Rattle.driver_laws.specs.Cycling.{Idle, Lacked, PutsOne, RingStays, Went}
+use Rattle.run_laws.specs.driver_laws.specs.Cycling.{Idle, Lacked, PutsOne, RingStays, Went}
 use Rattle.recorder_files.specs.Recorders.{GivesUp, Reel}
 
 -- the same ring, whose ends are a pair as before, and without an end

@@ -1,5 +1,5 @@
 -- One cycle of serial mode, and the front of a phase.
---     LeavesRest session after      blocks that left the rings changed nothing else
+--     LeavesRest session after      blocks that left the rings, and readings of the disks, changed nothing else
 --     run-turned, AreExact-turned, SerialDesk-turned      one cycle
 --     run-begun, AreExact-begun, SerialDesk-begun      the front of a phase
 use Rattle.std.proofs.Common.{◌≡◌, ℕ, suc, ◌+◌, ◌<◌, Bool, true, false, List, [], ◌∷◌, ◌++◌, length, take, All, slice_get, Some, sym, ◌∙◌, ap, ap₂, subst, arith}
@@ -10,20 +10,22 @@ use Rattle.session_model.specs.Scripts.{Phase, Script, phases}
 use Rattle.session_model.specs.Serial.{serial_history, serial_numbers}
 use Rattle.graph_word.specs.declared.view.TakenRow.{TakenRow}
 use Rattle.graph_word.specs.Publications.{HaveMet, IsFront, Reading, last_row}
-use Rattle.control_desk.specs.Desks.{Desk}
-use Rattle.driver_laws.specs.Cycling.{StepsOnce}
-use Rattle.driver_laws.specs.Drivers.{run}
-use Rattle.driver_laws.specs.Segments.{cycles_before}
-use Rattle.serial_lanes.specs.Lanes.{IsRound, SerialDesk, cycles_begun}
-use Rattle.serial_lanes.specs.Laws.{HistoryFront, PublishedNumber, RoundOfLanes, SerialWhereMet}
+use Rattle.run_laws.specs.control_desk.specs.Desks.{Desk}
+use Rattle.run_laws.specs.driver_laws.specs.Cycling.{StepsOnce}
+use Rattle.run_laws.specs.driver_laws.specs.Drivers.{run}
+use Rattle.run_laws.specs.driver_laws.specs.Segments.{cycles_before}
+use Rattle.run_laws.specs.serial_lanes.specs.Lanes.{IsRound, SerialDesk, cycles_begun}
+use Rattle.run_laws.specs.serial_lanes.specs.Laws.{HistoryFront, PublishedNumber, RoundOfLanes, SerialWhereMet}
 use Rattle.run_laws.specs.Sessions.{Session}
-use Rattle.serial_laws.specs.Steps.{AreExact, Begun, Emptied, GiveUp, IsSound, Turned}
+use Rattle.disk_runs.specs.Readings.{DisksBroke}
+use Rattle.disk_runs.proofs.StepLemmas.{tried-read, tried-told}
+use Rattle.serial_laws.specs.Steps.{AreExact, Begun, Emptied, GiveUp, IsSound, Turned, most_blocks, most_filled}
 use Rattle.serial_laws.proofs.DeskLemmas.{IsMet-behind, SerialDesk-behind, numbers-stay, rows-stay, script-stays}
 use Rattle.serial_laws.proofs.NumberLemmas.{cycle-there}
 use Rattle.serial_laws.proofs.PublishedLemmas.{HasNext, HasNext-desk, SerialIsLegal, numbers-stepped, rows-stepped}
 use Rattle.serial_laws.proofs.RowLemmas.{last_row-counted}
 
--- blocks that left the rings changed nothing else
+-- blocks that left the rings, and readings of the disks, changed nothing else
 record LeavesRest (session after : Session) : Type 0 where
   script : after.script ≡ session.script
   desk : after.desk ≡ session.desk
@@ -47,15 +49,35 @@ LeavesRest-emptied false session after same = record {
   numbers = ap (λ (s : Session). s.driver.numbers) same;
 }
 
+LeavesRest-tried : (most : ℕ) (session after : Session) → DisksBroke most session after → LeavesRest session after
+LeavesRest-tried most session after tried = record {
+  script = ap (λ (s : Session). s.script) tried.same;
+  desk = ap (λ (s : Session). s.desk) tried.same;
+  reading = ap (λ (s : Session). s.driver.reading) tried.same;
+  numbers = ap (λ (s : Session). s.driver.numbers) tried.same;
+}
+
+LeavesRest-on : (session between after : Session) → LeavesRest session between → LeavesRest between after → LeavesRest session after
+LeavesRest-on session between after first second = record {
+  script = second.script ∙ first.script;
+  desk = second.desk ∙ first.desk;
+  reading = second.reading ∙ first.reading;
+  numbers = second.numbers ∙ first.numbers;
+}
+
 module _ (freewheel : Bool) (session after : Session) (turned : Turned freewheel session after) where
-  steps : StepsOnce turned.emptied.driver turned.cycled.driver
+  steps : StepsOnce turned.read.driver turned.cycled.driver
   steps = turned.cycles.cycles.steps
 
-  first : LeavesRest session turned.emptied
-  first = LeavesRest-emptied freewheel session turned.emptied turned.empties
+  first : LeavesRest session turned.read
+  first =
+      LeavesRest-on session turned.emptied turned.read (LeavesRest-emptied freewheel session turned.emptied turned.empties)
+      (LeavesRest-tried (most_filled session.script.header freewheel) turned.emptied turned.read (tried-read (most_filled session.script.header freewheel) turned.emptied turned.read turned.reads))
 
   second : LeavesRest turned.cycled turned.drained
-  second = LeavesRest-given_up _ turned.cycled turned.drained turned.drains
+  second =
+      LeavesRest-on turned.cycled turned.told turned.drained (LeavesRest-tried 0 turned.cycled turned.told (tried-told 0 turned.cycled turned.told turned.tells))
+      (LeavesRest-given_up (most_blocks session.script.header freewheel) turned.told turned.drained turned.drains)
 
   desk-same : turned.drained.desk ≡ session.desk
   desk-same = second.desk ∙ ap (λ (s : Session). s.desk) turned.cycles.same ∙ first.desk
@@ -115,9 +137,9 @@ module _ (freewheel : Bool) (session after : Session) (turned : Turned freewheel
     AreExact-turned exact legal published fronts =
         let next : HasNext session = HasNext-desk published fronts session done t phase here low at sound desk in
         let numbers : turned.cycled.driver.numbers ≡ take (run turned.cycled.driver) (serial_numbers session.script) =
-        numbers-stepped session exact next turned.emptied.driver turned.cycled.driver steps first.reading first.numbers met-cycled legal sound.one.lawful (omega (arith, at, cycle-there session.script done t phase here low)) in
+        numbers-stepped session exact next turned.read.driver turned.cycled.driver steps first.reading first.numbers met-cycled legal sound.one.lawful (omega (arith, at, cycle-there session.script done t phase here low)) in
         let rows : All (λ (row : TakenRow). IsFront row.changes (accepted (serial_history session.script))) turned.cycled.driver.reading.rows =
-        rows-stepped session exact next turned.emptied.driver turned.cycled.driver steps first.reading first.numbers met-cycled in
+        rows-stepped session exact next turned.read.driver turned.cycled.driver steps first.reading first.numbers met-cycled in
         let numbers_same : after.driver.numbers ≡ turned.cycled.driver.numbers =
         numbers-stay turned.drained turned.met turned.rounded after turned.meets turned.rounds turned.meets_again ∙ second.numbers in
         record {

@@ -1,5 +1,6 @@
 -- What a cycle of a serial session leaves that failed.
 --     BreakUp most session after      the rings gave up blocks until a file failed
+--     StaysOne driver after      one playback file
 --     TurnFails freewheel session after      the cycle that failed, by the place of the fault
 --     told session      the session with what its files in the making tell
 --     serial_course_of given      the one computation over the history of serial mode
@@ -11,10 +12,12 @@ use Rattle.session_model.specs.Playback.{played_back, playback_format}
 use Rattle.session_model.specs.Recorders.{recorded, recorder_format}
 use Rattle.session_model.specs.Serial.{serial_overruns, serial_printed}
 use Rattle.driver_words.specs.Tapes.{HasFront, SameFile, Tape}
-use Rattle.driver_laws.specs.Cycling.{FailsAtRead, FailsAtWrite}
+use Rattle.run_laws.specs.driver_laws.specs.Cycling.{FailsAtRead, FailsAtWrite}
+use Rattle.run_laws.specs.driver_laws.specs.Drivers.{Driver}
 use Rattle.recorder_files.specs.Recorders.{BreaksOff, GivesUp, Reel}
 use Rattle.run_laws.specs.Sessions.{Session}
-use Rattle.serial_laws.specs.Steps.{Cycled, Emptied, IsReel, Met, most_blocks}
+use Rattle.disk_runs.specs.Readings.{DisksBroke, DisksRead, DisksTold}
+use Rattle.serial_laws.specs.Steps.{Cycled, Emptied, IsReel, Met, most_blocks, most_filled}
 
 -- a recorder's ring gave up blocks, or its file failed, or it was left alone behind a failure
 pub data Tried (most : ℕ) (before after : Reel) : Type 0 where
@@ -30,13 +33,20 @@ pub record BreakUp (most : ℕ) (session after : Session) : Type 0 where
   pub counts : length after.counts ≡ length session.counts
   pub same : after ≡ record session { driver = record session.driver { rings = after.driver.rings }; getting = after.getting; tapes = after.tapes; counts = after.counts }
 
--- whatever failed, desk and driver meet once more, so that the last row is known to be of the desk's own list
+-- the playback's file is the same one
+abbrev pub StaysOne : Driver → Driver → Type 0
+StaysOne driver after = (tape tape_after : Tape) → driver.playback ≡ Some tape → after.playback ≡ Some tape_after → SameFile tape tape_after
+
+-- whatever failed, both ends of each disk's ring tell how far they are, and desk and driver meet once more, so that the last row is known to be of the desk's own list
 pub data TurnFails (freewheel : Bool) (session after : Session) : Type 0 where
   AtEmptying : (broken : Session) → freewheel ≡ true → BreakUp session.script.header.ring session broken → Met broken after → TurnFails freewheel session after
-  AtRead : (emptied failed : Session) → Emptied freewheel session emptied → FailsAtRead emptied.driver failed.driver → failed ≡ record emptied { driver = failed.driver } → Met failed after → TurnFails freewheel session after
-  AtWrite : (emptied failed : Session) → Emptied freewheel session emptied → FailsAtWrite emptied.driver failed.driver → ((tape tape_after : Tape) → emptied.driver.playback ≡ Some tape → failed.driver.playback ≡ Some tape_after → SameFile tape tape_after)
-      → failed ≡ record emptied { driver = failed.driver } → Met failed after → TurnFails freewheel session after
-  AtDraining : (emptied cycled broken : Session) → Emptied freewheel session emptied → Cycled emptied cycled → BreakUp (most_blocks session.script.header freewheel) cycled broken → Met broken after → TurnFails freewheel session after
+  AtDisk : (emptied broken : Session) → Emptied freewheel session emptied → DisksBroke (most_filled session.script.header freewheel) emptied broken → Met broken after → TurnFails freewheel session after
+  AtRead : (emptied read failed told : Session) → Emptied freewheel session emptied → DisksRead (most_filled session.script.header freewheel) emptied read → FailsAtRead read.driver failed.driver
+      → failed ≡ record read { driver = failed.driver } → DisksTold failed told → Met told after → TurnFails freewheel session after
+  AtWrite : (emptied read failed told : Session) → Emptied freewheel session emptied → DisksRead (most_filled session.script.header freewheel) emptied read → FailsAtWrite read.driver failed.driver → StaysOne read.driver failed.driver
+      → failed ≡ record read { driver = failed.driver } → DisksTold failed told → Met told after → TurnFails freewheel session after
+  AtDraining : (emptied read cycled told broken : Session) → Emptied freewheel session emptied → DisksRead (most_filled session.script.header freewheel) emptied read → Cycled read cycled → DisksTold cycled told
+      → BreakUp (most_blocks session.script.header freewheel) told broken → Met broken after → TurnFails freewheel session after
 
 -- what a file in the making tells
 abbrev pub bytes_in : Option Tape → Option (List ℕ)

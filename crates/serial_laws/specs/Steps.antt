@@ -1,12 +1,14 @@
 -- What the calls of a serial session leave, one after another.
 --     IsReel session recorder reel      what a recorder has
 --     GiveUp, Cycled, Met, Rounded      the steps: blocks leave the rings, a cycle of the driver, desk and driver meet, a round of the lanes
+--     most_filled header freewheel      how many blocks go into a disk's ring before a cycle
 --     Turned freewheel session after      one cycle of serial mode
 --     Begun done session after      the front of a phase, before its first cycle
 --     IsSound session      what holds of a session's parts in each mode, whatever was taken and played
+--     IsSettled session      and between two cycles
 --     AreExact session      what it took is what serial mode takes
 --     KeepsOwn given session      each course over what was given that fits is kept
-use Rattle.std.specs.Prelude.{◌≡◌, ℕ, suc, Bool, true, false, [], length, slice_get, All, Some, if◌then◌else◌, take}
+use Rattle.std.specs.Prelude.{◌≡◌, ℕ, suc, Bool, true, false, length, slice_get, All, Some, if◌then◌else◌, take}
 use Rattle.session_model.specs.Explanations.{Given}
 use Rattle.session_model.specs.Histories.{accepted}
 use Rattle.session_model.specs.Serial.{serial_history, serial_numbers}
@@ -14,13 +16,15 @@ use Rattle.graph_word.specs.declared.view.TakenRow.{TakenRow}
 use Rattle.graph_word.specs.Publications.{IsFront, Meets, Publishing, Reading}
 use Rattle.jack_types.specs.declared.scripts.Header.{Header}
 use Rattle.driver_words.specs.Rings.{Sending}
-use Rattle.control_desk.specs.Desks.{IsDesk}
-use Rattle.driver_laws.specs.Cycling.{CyclesOnce}
-use Rattle.driver_laws.specs.Drivers.{run}
-use Rattle.serial_lanes.specs.Lanes.{LanesRun, RanOn, SerialDesk}
+use Rattle.run_laws.specs.control_desk.specs.Desks.{IsDesk}
+use Rattle.run_laws.specs.driver_laws.specs.Cycling.{CyclesOnce}
+use Rattle.run_laws.specs.driver_laws.specs.Drivers.{run}
+use Rattle.run_laws.specs.serial_lanes.specs.Lanes.{LanesRun, RanOn, SerialDesk}
 use Rattle.recorder_files.specs.Recorders.{GivesUp, Reel}
 use Rattle.run_laws.specs.Runs.{HasFiles, MissesInRun}
 use Rattle.run_laws.specs.Sessions.{IsFor, IsMet, IsOne, KeepsAny, Session}
+use Rattle.disk_runs.specs.Readings.{DisksRead, DisksTold, NoneFailed}
+use Rattle.disk_runs.specs.Rests.{DisksHaveRoom, DisksTell}
 
 -- the two ends of a recorder's ring, its file in the making, and how many blocks were written into that
 pub record IsReel (session : Session) (recorder : ℕ) (reel : Reel) : Type 0 where
@@ -66,16 +70,24 @@ abbrev pub Emptied : Bool → Session → Session → Type 0
 Emptied true session after = GiveUp session.script.header.ring session after
 Emptied false session after = after ≡ session
 
--- a cycle, what leaves the rings around it, and a round of the lanes between two meetings
+-- before a cycle at most so many blocks go into a disk's ring: before a freewheel cycle as many as it holds
+abbrev pub most_filled : Header → Bool → ℕ
+most_filled header freewheel = if freewheel then header.ring else header.fill
+
+-- a cycle, with what leaves the recorders' rings and what goes into those of the disks around it, and a round of the lanes between two meetings
 pub record Turned (freewheel : Bool) (session after : Session) : Type 0 where
   pub emptied : Session
+  pub read : Session
   pub cycled : Session
+  pub told : Session
   pub drained : Session
   pub met : Session
   pub rounded : Session
   pub empties : Emptied freewheel session emptied
-  pub cycles : Cycled emptied cycled
-  pub drains : GiveUp (most_blocks session.script.header freewheel) cycled drained
+  pub reads : DisksRead (most_filled session.script.header freewheel) emptied read
+  pub cycles : Cycled read cycled
+  pub tells : DisksTold cycled told
+  pub drains : GiveUp (most_blocks session.script.header freewheel) told drained
   pub meets : Met drained met
   pub rounds : Rounded met rounded
   pub meets_again : Met rounded after
@@ -93,13 +105,19 @@ pub record Begun (done : ℕ) (session after : Session) : Type 0 where
   pub rounds : Rounded met rounded
   pub meets_again : Met rounded after
 
--- its parts are one session's, nothing failed, no ring has an end, there are no disks, and overruns came in `run` cycles alone
+-- its parts are one session's, nothing failed, no read of a disk either, no recorder's ring has an end, each disk's ring has room for as many blocks as the script says, and overruns and underruns came in `run` cycles alone
 pub record IsSound (session : Session) : Type 0 where
   pub one : IsOne session
   pub misses : MissesInRun session
   pub files : HasFiles session
   pub no_end : All (λ (ring : Sending). ring.ended ≡ false) session.driver.rings
-  pub no_disks : session.players ≡ []
+  pub room : DisksHaveRoom session
+  pub going : NoneFailed session
+
+-- both ends of each disk's ring know how far the other is; behind a cycle that is false until they met
+pub record IsSettled (session : Session) : Type 0 where
+  pub sound : IsSound session
+  pub tells : DisksTell session
 
 -- no ring has a block that was not got, and each producer knows it
 abbrev pub AreEmpty : Session → Type 0

@@ -9,9 +9,9 @@ ghost use Rattle.run_laws.specs.Told.{Ends};
 ghost use Rattle.serial_laws.specs.Endings.{EndsAll};
 ghost use Rattle.serial_laws.specs.Steps.{IsSound};
 
-use driver_laws::courses::a_meeting_changes_nothing;
-use driver_laws::endings::{all_is_played_back, blocks_kept_are_recorded};
-use serial_lanes::laws::cycles_of_phases;
+use run_laws::driver_laws::courses::a_meeting_changes_nothing;
+use run_laws::driver_laws::endings::{all_is_played_back, blocks_kept_are_recorded};
+use run_laws::serial_lanes::laws::cycles_of_phases;
 
 /// Each ring emptied and each file finished, the files are those of the one computation over the session's lists.
 pub fn an_end_is_whole()

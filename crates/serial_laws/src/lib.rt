@@ -9,3 +9,5 @@ pub mod numbers;
 pub mod openings;
 pub mod parts;
 pub mod rings;
+
+pub use run_laws::{control_desk, serial_lanes};

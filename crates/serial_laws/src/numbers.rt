@@ -2,13 +2,15 @@
 
 ghost use Rattle.std.specs.Prelude.{◌≡◌, ◌+◌, ◌<◌, ℕ, Bool, Some, length, slice_get, suc};
 ghost use Rattle.session_model.specs.Scripts.{Phase, Script, phases, turns};
-ghost use Rattle.driver_laws.specs.Drivers.{run, turn_of};
-ghost use Rattle.driver_laws.specs.Segments.{cycles_before};
-ghost use Rattle.serial_lanes.specs.Lanes.{BehindPhases, SerialDesk};
+ghost use Rattle.run_laws.specs.driver_laws.specs.Drivers.{run, turn_of};
+ghost use Rattle.run_laws.specs.driver_laws.specs.Segments.{cycles_before};
+ghost use Rattle.run_laws.specs.serial_lanes.specs.Lanes.{BehindPhases, SerialDesk};
 ghost use Rattle.run_laws.specs.Sessions.{Session};
-ghost use Rattle.serial_laws.specs.Steps.{AreExact, Begun, IsSound, Turned};
+ghost use Rattle.serial_laws.specs.Steps.{AreExact, Begun, IsSettled, IsSound, Turned};
 
-use serial_lanes::laws::{desk_that_meets, front_of_history, number_before_cycle, round_of_lanes};
+use run_laws::serial_lanes::laws::{
+    desk_that_meets, front_of_history, number_before_cycle, round_of_lanes,
+};
 use session_laws::serial::serial_meaning_is_legal;
 
 /// A cycle of a phase is the script's cycle behind those of the earlier phases, and has the phase's period and kind.
@@ -21,9 +23,9 @@ pub fn cycles_of_a_phase()
 /// A cycle takes the number of serial mode, and its round of the lanes makes the calls of serial mode.
 pub fn a_turn_is_exact()
     ensures exact { (freewheel : Bool) (session after : Session) (done t : ℕ) (phase : Phase) → slice_get (phases session.script) done ≡ Some phase → t < phase.cycles
-        → run session.driver ≡ cycles_before session.script done + t → IsSound session → SerialDesk session.desk done (suc t) → Turned freewheel session after → AreExact session → AreExact after }
+        → run session.driver ≡ cycles_before session.script done + t → IsSettled session → SerialDesk session.desk done (suc t) → Turned freewheel session after → AreExact session → AreExact after }
     ensures desk { (freewheel : Bool) (session after : Session) (done t : ℕ) (phase : Phase) → slice_get (phases session.script) done ≡ Some phase → t < phase.cycles
-        → run session.driver ≡ cycles_before session.script done + t → IsSound session → SerialDesk session.desk done (suc t) → Turned freewheel session after → AreExact session → SerialDesk after.desk done (suc (suc t)) }
+        → run session.driver ≡ cycles_before session.script done + t → IsSettled session → SerialDesk session.desk done (suc t) → Turned freewheel session after → AreExact session → SerialDesk after.desk done (suc (suc t)) }
     ensures one_more { (freewheel : Bool) (session after : Session) → Turned freewheel session after → run after.driver ≡ run session.driver + 1 }
 {
     desk_that_meets();

@@ -1,7 +1,7 @@
 //! What the laws of a run in serial mode say together.
 
-ghost use Rattle.serial_run.specs.Laws.{AtFront, AtNext, BehindAtFirst, BehindLastCycle, FrontsWhereFailed, KeptAtFirst, KeptAtFront, KeptNext, RanBehind, RunsWhole, SoundBegun, SoundTurned};
-ghost use Rattle.session_works.specs.Laws.{CycleIs, CycleThere, SegmentsOfPhases, SoundAtFirst};
+ghost use Rattle.serial_run.specs.Laws.{AtFront, AtNext, BehindAtFirst, BehindLastCycle, FrontsWhereFailed, KeptAtFirst, KeptAtFront, KeptNext, RanBehind, RunsWhole, SettledTurned, SoundBegun, TellsBegun};
+ghost use Rattle.session_works.specs.Laws.{CycleIs, CycleThere, SegmentsOfPhases, SettledAtFirst};
 
 use session_works::laws::phases_and_cycles;
 use session_works::passed::{
@@ -16,9 +16,10 @@ pub(crate) fn a_phase_by_cycles()
     ensures there { CycleThere }
     ensures is { CycleIs }
     ensures begun { SoundBegun }
+    ensures begun_tells { TellsBegun }
     ensures front { AtFront }
     ensures kept_front { KeptAtFront }
-    ensures turned { SoundTurned }
+    ensures turned { SettledTurned }
     ensures next { AtNext }
     ensures kept_next { KeptNext }
     ensures failed { FrontsWhereFailed }
@@ -35,7 +36,7 @@ pub(crate) fn a_phase_by_cycles()
 
 /// A run: before its first phase, and behind all of them.
 pub(crate) fn a_run_by_phases()
-    ensures sound { SoundAtFirst }
+    ensures settled { SettledAtFirst }
     ensures behind { BehindAtFirst }
     ensures kept { KeptAtFirst }
     ensures ran { RanBehind }

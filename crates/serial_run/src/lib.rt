@@ -1,4 +1,4 @@
-//! The phases of a session in serial mode: calls, cycles and recorders by turns, all of them on the caller's thread.
+//! The phases of a session in serial mode: calls, cycles, recorders and disks by turns, all of them on the caller's thread.
 #![tactic(auto)]
 
 mod laws;

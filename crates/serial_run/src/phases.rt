@@ -1,14 +1,13 @@
 //! The phases of a session's run in serial mode.
 
 ghost use Rattle.std.specs.Prelude.{◌≡◌, ◌<◌, ◌≤◌, IsErrOf, OnErr, OnOk, Some, length, slice_get, suc};
-ghost use Rattle.jack_host.specs.Causes.{Rose};
 ghost use Rattle.session_model.specs.Explanations.{Given};
 ghost use Rattle.session_model.specs.Scripts.{phases as the_phases};
 ghost use Rattle.session_works.specs.RunWords.{SerialBehind, SerialKept};
 ghost use Rattle.script_segments.specs.Segments.{segments as the_segments};
-ghost use Rattle.session_works.specs.SerialWords.{IsSound, StandsInSerial};
+ghost use Rattle.session_works.specs.SerialWords.{IsSettled, StandsInSerial};
 ghost use Rattle.session_works.specs.Insides.{Stays, held, parts_of, seen};
-ghost use Rattle.session_works.specs.Parts.{HasOpenFiles, OneRose, told_of};
+ghost use Rattle.session_works.specs.Parts.{HasOpenFiles, OneRose, SourceRose, told_of};
 
 use crate::laws::a_phase_by_cycles;
 use crate::steps::begin;
@@ -30,17 +29,18 @@ fn run_phase<S: Source, W: Store, G: Guest + Send, T: Threads + Sync, K: Gate>(
     limits: RingLimits,
 ) -> Result<(), SessionFault>
     requires there { slice_get (the_segments works.old.driver.script) phase ≡ Some segment }
-    requires sound { IsSound (seen G.sound works.old) }
+    requires settled { IsSettled (seen G.sound works.old) }
     requires behind { SerialBehind (seen G.sound works.old) phase }
     requires files { HasOpenFiles (parts_of works.old) }
     requires ring { limits.ring ≡ works.old.driver.script.header.ring }
     requires drain { limits.drain ≡ works.old.driver.script.header.drain }
-    ensures sound { OnOk result (IsSound (seen G.sound works.new)) }
+    requires fill { limits.fill ≡ works.old.driver.script.header.fill }
+    ensures settled { OnOk result (IsSettled (seen G.sound works.new)) }
     ensures behind { OnOk result (SerialBehind (seen G.sound works.new) (suc phase)) }
     ensures kept { OnOk result ((given : Given) → SerialKept given (seen G.sound works.old) → SerialKept given (seen G.sound works.new)) }
     ensures fault { OnErr result ((given : Given) → SerialKept given (seen G.sound works.old) → StandsInSerial given (told_of G.sound (parts_of works.new))) }
     ensures stays { Stays G.sound (parts_of works.old) (parts_of works.new) }
-    ensures read { IsErrOf result SessionFault.Read → Rose works.old.driver.capture.reading.faults works.new.driver.capture.reading.faults }
+    ensures read { IsErrOf result SessionFault.Read → SourceRose (parts_of works.old) (parts_of works.new) }
     ensures write { IsErrOf result SessionFault.Write → OneRose (held works.old) (held works.new) }
 {
     a_phase_by_cycles();
@@ -61,17 +61,18 @@ pub(crate) fn run_phases<S: Source, W: Store, G: Guest + Send, T: Threads + Sync
     limits: RingLimits,
 ) -> Result<(), SessionFault>
     requires segments { segments.now ≡ the_segments works.old.driver.script }
-    requires sound { IsSound (seen G.sound works.old) }
+    requires settled { IsSettled (seen G.sound works.old) }
     requires behind { SerialBehind (seen G.sound works.old) 0 }
     requires files { HasOpenFiles (parts_of works.old) }
     requires ring { limits.ring ≡ works.old.driver.script.header.ring }
     requires drain { limits.drain ≡ works.old.driver.script.header.drain }
-    ensures sound { OnOk result (IsSound (seen G.sound works.new)) }
+    requires fill { limits.fill ≡ works.old.driver.script.header.fill }
+    ensures settled { OnOk result (IsSettled (seen G.sound works.new)) }
     ensures behind { OnOk result (SerialBehind (seen G.sound works.new) (length (the_phases works.new.driver.script))) }
     ensures kept { OnOk result ((given : Given) → SerialKept given (seen G.sound works.old) → SerialKept given (seen G.sound works.new)) }
     ensures fault { OnErr result ((given : Given) → SerialKept given (seen G.sound works.old) → StandsInSerial given (told_of G.sound (parts_of works.new))) }
     ensures stays { Stays G.sound (parts_of works.old) (parts_of works.new) }
-    ensures read { IsErrOf result SessionFault.Read → Rose works.old.driver.capture.reading.faults works.new.driver.capture.reading.faults }
+    ensures read { IsErrOf result SessionFault.Read → SourceRose (parts_of works.old) (parts_of works.new) }
     ensures write { IsErrOf result SessionFault.Write → OneRose (held works.old) (held works.new) }
 {
     phases_and_cycles();

@@ -3,15 +3,15 @@
 ghost use Rattle.std.specs.Prelude.{◌≡◌, ◌≤◌, ◌<◌, length};
 ghost use Rattle.session_works.specs.DeskWords.{IsDone};
 ghost use Rattle.session_works.specs.RunWords.{Session as SessionValue};
-ghost use Rattle.serial_lanes.specs.Lanes.{BehindPhases};
+ghost use Rattle.session_works.specs.serial_lanes.specs.Lanes.{BehindPhases};
 ghost use Rattle.session_model.specs.Scripts.{phases};
 ghost use Rattle.session_works.specs.SerialWords.{Begun, Met, Rounded};
 ghost use Rattle.session_works.specs.Insides.{seen};
 
 use client_kinds::Guest;
 use jack_host::{Source, Store};
-use serial_lanes::laws::desk_that_meets;
-use serial_lanes::{begin_phase, round};
+use session_works::serial_lanes::laws::desk_that_meets;
+use session_works::serial_lanes::{begin_phase, round};
 use session_works::{SessionWorks, kept_by_type, meet};
 
 /// Lets lanes 1 to 4 go one round, between two meetings.
@@ -24,6 +24,7 @@ pub(crate) fn go_round<S: Source, W: Store, G: Guest>(works: &mut SessionWorks<S
     ensures phase { works.new.desk.phase ≡ works.old.desk.phase }
     ensures driver { works.new.driver ≡ record works.old.driver { reading = works.new.driver.reading } }
     ensures recorders { works.new.recorders ≡ works.old.recorders }
+    ensures readers { works.new.readers ≡ works.old.readers }
 {
     desk_that_meets();
     meet(works);
@@ -42,6 +43,7 @@ pub(crate) fn begin<S: Source, W: Store, G: Guest>(works: &mut SessionWorks<S, W
     ensures phase { 1 ≤ works.new.desk.phase }
     ensures driver { works.new.driver ≡ record works.old.driver { reading = works.new.driver.reading } }
     ensures recorders { works.new.recorders ≡ works.old.recorders }
+    ensures readers { works.new.readers ≡ works.old.readers }
 {
     begin_phase(&mut works.desk, phase);
     kept_by_type(&works.desk);

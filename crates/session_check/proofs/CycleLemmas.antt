@@ -20,7 +20,7 @@ use Rattle.session_model.specs.Scripts.{Script}
 use Rattle.session_model.specs.Transport.{moment}
 use Rattle.client_kinds.specs.Scores.{Score}
 use Rattle.driver_laws.specs.Drivers.{channels_on, run}
-use Rattle.part_laws.specs.Tables.{is_shown}
+use Rattle.check_parts.specs.part_laws.specs.Tables.{is_shown}
 use Rattle.report_reader.specs.Forms.{printed_cycle}
 use Rattle.report_reader.specs.declared.rows.CycleLine.{CycleLine}
 use Rattle.report_reader.specs.declared.rows.Line.{Line}

@@ -10,11 +10,11 @@ ghost use Rattle.session_model.specs.Scripts.{turns};
 ghost use Rattle.check_walk.specs.Walkings.{GoesAlong, driver_in};
 ghost use Rattle.session_check.specs.Logs.{DepartsAt, GoesBehind, events_in, events_of, is_event, log_in as log_opened};
 
+use check_parts::part_laws::laws::lists_by_places;
 use check_walk::Walk;
 use client_kinds::Guest;
 use jack_host::Source;
 use jack_types::{Change, ClientName, Command, Kind, Logged};
-use part_laws::laws::lists_by_places;
 use report_reader::EventLine;
 
 /// The client of an accepted `open` of a log.

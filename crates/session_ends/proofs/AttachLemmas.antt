@@ -116,7 +116,7 @@ module _ (sounding : Score → Sound) (parts : Parts) (is : IsAttaching sounding
   -- a recorder's format may be written
   lawful : (i : ℕ) (r : Recording) → slice_get parts.recorders i ≡ Some r → IsFormat r.format
   lawful i r here =
-      let header = is.served.lawful.header in
+      let header = is.new.one.lawful.header in
       let there : i < length parts.gear.script.header.recorders = (let within = slice_get_within parts.recorders i r here in omega (arith, within, as-many)) in
       let own : IsRecorderFormat parts.gear.script.header.rate r.format = subst (IsRecorderFormat parts.gear.script.header.rate) (format-at i r here) (header.recorders i no_format there) in
       written-format parts.gear.script.header.rate r.format header.rate.0 header.rate.1 own
@@ -133,7 +133,7 @@ module _ (sounding : Score → Sound) (parts : Parts) (is : IsAttaching sounding
         attaching = λ e. record {
           served = is.served;
           new = is.new;
-          fresh = record { rings = is.fresh.rings; getting = is.fresh.getting };
+          fresh = record { rings = is.fresh.rings; getting = is.fresh.getting; disks = is.fresh.disks };
           formats = is.formats;
           playback = record { begun = λ h. (tape, refl, starts.begun); none = λ h. absurd (omega (arith, h)) };
           records = λ i r here. record { begun = λ h. absurd (omega (arith, h, first)); none = λ h. no-tape i r here (omega (arith, first)) };
@@ -148,6 +148,7 @@ module _ (sounding : Score → Sound) (parts : Parts) (is : IsAttaching sounding
         rose = λ e. absurd (true≢false e);
         cut = λ e. absurd (true≢false e);
         desk = refl;
+        players = refl;
         gear = refl;
         as_many = refl;
         attached = refl;
@@ -166,6 +167,7 @@ module _ (sounding : Score → Sound) (parts : Parts) (is : IsAttaching sounding
         rose = λ e. refuses.rose;
         cut = λ e. subst (λ n. IfSome back.bytes (IsCut (format_at n parts))) (sym first) refuses.cut;
         desk = refl;
+        players = refl;
         gear = refl;
         as_many = refl;
         attached = refl;
@@ -222,7 +224,7 @@ module _ (sounding : Score → Sound) (parts : Parts) (is : IsAttaching sounding
           attaching = λ e. record {
             served = is.served;
             new = new_still;
-            fresh = record { rings = is.fresh.rings; getting = subst (All (λ (got : Getting). got.least ≡ 0)) (sym getting_same) is.fresh.getting };
+            fresh = record { rings = is.fresh.rings; getting = subst (All (λ (got : Getting). got.least ≡ 0)) (sym getting_same) is.fresh.getting; disks = is.fresh.disks };
             formats = map-kept (λ (q : Recording). q.format) parts.recorders i r started here refl ∙ is.formats;
             playback = record { begun = λ h. is.playback.begun (omega (arith, next)); none = λ h. absurd (omega (arith, h)) };
             records = λ j q there. file-at j q there (same_number i j);
@@ -237,6 +239,7 @@ module _ (sounding : Score → Sound) (parts : Parts) (is : IsAttaching sounding
           rose = λ e. absurd (true≢false e);
           cut = λ e. absurd (true≢false e);
           desk = refl;
+          players = refl;
           gear = refl;
           as_many = length-set parts.recorders i started;
           attached = refl;
@@ -253,6 +256,7 @@ module _ (sounding : Score → Sound) (parts : Parts) (is : IsAttaching sounding
         rose = λ e. refuses.rose;
         cut = λ e. subst (λ n. IfSome back.bytes (IsCut (format_at n parts))) (sym next) (subst (λ f. IfSome back.bytes (IsCut f)) (sym (format-at i r here)) refuses.cut);
         desk = refl;
+        players = refl;
         gear = refl;
         as_many = length-set parts.recorders i (record r { store = Some back });
         attached = refl;

@@ -7,7 +7,6 @@
 --     closes-all, close-fails      what that makes of a session's parts
 use Rattle.std.proofs.Common.{◌≡◌, ◌≢◌, ℕ, ◌+◌, ◌<◌, ◌≤◌, ◌⊎◌, inl, inr, List, length, set, slice_get, Some, None, Result, OnErr, OnOk, is_some, refl, sym, ◌∙◌, ap, subst, arith}
 use Rattle.std.proofs.lemmas.Bool.{cases_lt}
-use Rattle.std.proofs.lemmas.List.{length-map}
 use Rattle.std.proofs.lemmas.Option.{slice_get_within}
 use Rattle.jack_host.specs.Causes.{HasCause, Rose}
 use Rattle.session_model.specs.Kinds.{Sound}

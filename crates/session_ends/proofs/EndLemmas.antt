@@ -15,17 +15,18 @@ use Rattle.std.proofs.lemmas.Bool.{cases_lt}
 use Rattle.std.proofs.lemmas.List.{length-map}
 use Rattle.std.proofs.lemmas.Option.{same_Some, slice_get_within}
 use Rattle.jack_host.specs.Causes.{Rose}
+use Rattle.session_model.specs.Grammar.{IsScript}
 use Rattle.session_model.specs.Kinds.{Sound}
 use Rattle.session_model.specs.Scripts.{Script, phases}
 use Rattle.driver_words.specs.Rings.{Getting, Sending}
 use Rattle.driver_words.specs.Tapes.{Tape}
 use Rattle.wave_write.proofs.TapeLemmas.{samples-unfinished, unfinished-front}
-use Rattle.session_works.specs.Drivers.{Gear, IsServed, driver_of}
+use Rattle.session_works.specs.Drivers.{Gear, driver_of}
 use Rattle.session_works.specs.DeskWords.{Desk}
 use Rattle.recorder_files.specs.Recorders.{Recording, Reel, Stored, held_in, held_or, stored_of}
 use Rattle.session_laws.proofs.ListLemmas.{slice_get-map}
 use Rattle.client_kinds.specs.Scores.{Score}
-use Rattle.session_works.specs.RunWords.{RanPhases}
+use Rattle.session_works.specs.RunWords.{Playing, RanPhases}
 use Rattle.session_works.proofs.PassedLemmas.{mapped_there, some_at}
 use Rattle.session_works.specs.SerialWords.{EndFails, EndsAll, EndsOne, EndTried, Finished, IsBroken, IsFinished, IsReel, IsSound, Left}
 use Rattle.session_ends.specs.Closings.{CloseFails, Closed, ClosesAll, Failed, PlaybackCloses, Tried}
@@ -81,9 +82,9 @@ whole-reel sounding capacity recorder parts reel ring new files is closed =
     subst (λ (r : Reel). EndsOne capacity r ring new.getting new.blocks (bytes_of new.store)) (ap (reel_of reel.ring old.0) tape ∙ old.3)
     (subst (λ (bytes : Option (List ℕ)). EndsOne capacity (reel_of reel.ring old.0 closed.finishes.tape) ring new.getting new.blocks bytes) (sym (ap bytes_of closed.finishes.store)) closed.finishes.ends)
 
-pub ends-all : (sounding : Score → Sound) (parts after : Parts) (tape : Tape) (back : Stored) → IsSound (session_of sounding parts) → HasOpenFiles parts → ClosesAll parts after → after.gear ≡ geared parts.gear after.gear.rings.rings None → after.desk ≡ parts.desk
+pub ends-all : (sounding : Score → Sound) (parts after : Parts) (tape : Tape) (back : Stored) → IsSound (session_of sounding parts) → HasOpenFiles parts → ClosesAll parts after → after.gear ≡ geared parts.gear after.gear.rings.rings None → after.desk ≡ parts.desk → after.players ≡ parts.players
     → parts.gear.playback ≡ Some tape → after.playback ≡ Some back → IsFinished tape back.bytes → EndsAll (session_of sounding parts) (session_of sounding after)
-ends-all sounding parts after tape back sound files closes gear desk attached kept finished = record {
+ends-all sounding parts after tape back sound files closes gear desk players attached kept finished = record {
   each = each;
   playback = λ other is. subst (λ (bytes : Option (List ℕ)). IsFinished other bytes) (sym (ap bytes_of kept)) (subst (λ (t : Tape). IsFinished t back.bytes) (same_Some tape other (sym attached ∙ is)) finished);
   rings = closes.rings;
@@ -92,7 +93,8 @@ ends-all sounding parts after tape back sound files closes gear desk attached ke
   records = length-map after.recorders (λ (r : Recording). bytes_of r.store) ∙ closes.as_many ∙ sym (length-map parts.recorders (λ (r : Recording). r.getting));
   same = ap (λ (g : Gear). record (session_of sounding after) { script = g.script; driver = driver_of sounding g }) gear
       ∙ ap (λ (d : Desk). record (session_of sounding after) { script = parts.gear.script; desk = d; driver = driver_of sounding (geared parts.gear after.gear.rings.rings None) }) desk
-      ∙ ap (λ (tapes : List Tape). record (session_of sounding after) { script = parts.gear.script; desk = parts.desk; driver = driver_of sounding (geared parts.gear after.gear.rings.rings None); tapes = tapes }) none;
+      ∙ ap (λ (ps : List Playing). record (session_of sounding after) { script = parts.gear.script; desk = parts.desk; driver = driver_of sounding (geared parts.gear after.gear.rings.rings None); players = ps }) players
+      ∙ ap (λ (tapes : List Tape). record (session_of sounding after) { script = parts.gear.script; desk = parts.desk; driver = driver_of sounding (geared parts.gear after.gear.rings.rings None); players = parts.players; tapes = tapes }) none;
 }
   where
     none : filter_map (λ (r : Recording). r.tape) after.recorders ≡ []
@@ -121,9 +123,9 @@ told-closed sounding parts after sound closes none =
     ap₂ (λ (playback : Option (List ℕ)) (files : List (Option (List ℕ))). record (session_of sounding after) { playback_file = playback; record_files = files })
     (ap (λ (t : Option Tape). bytes_of (held_or after.playback t)) none) (told-each after.recorders (λ i r is. (closed-at sounding parts after sound closes i r is).1.finishes.none))
 
-pub has-ended : (sounding : Score → Sound) (parts after : Parts) → IsServed parts.gear.script → parts.gear.failed ≡ false → after.gear.script ≡ parts.gear.script → after.gear.failed ≡ parts.gear.failed → RanPhases (session_of sounding after) (length (phases parts.gear.script)) → HasEnded sounding after
+pub has-ended : (sounding : Score → Sound) (parts after : Parts) → IsScript parts.gear.script → parts.gear.failed ≡ false → after.gear.script ≡ parts.gear.script → after.gear.failed ≡ parts.gear.failed → RanPhases (session_of sounding after) (length (phases parts.gear.script)) → HasEnded sounding after
 has-ended sounding parts after served sound script failed ran = record {
-  served = subst (λ (s : Script). IsServed s) (sym script) served;
+  served = subst (λ (s : Script). IsScript s) (sym script) served;
   ran = subst (λ (s : Script). RanPhases (session_of sounding after) (length (phases s))) (sym script) ran;
   sound = failed ∙ sound;
 }
@@ -322,15 +324,16 @@ pub record PlaybackEnded {T E : Type 0} (finished : Result T E) (parts after : P
   pub closes : ClosesAll parts after
   pub gear : after.gear ≡ geared parts.gear after.gear.rings.rings None
   pub desk : after.desk ≡ parts.desk
+  pub players : after.players ≡ parts.players
   pub attached : parts.gear.playback ≡ Some tape
   pub kept : after.playback ≡ Some back
   pub ends : PlaybackCloses finished tape back
 
-pub playback-ended : (sounding : Score → Sound) {T E : Type 0} (finished : Result T E) (parts inside closed : Parts) (driver : Gear) (playback : Option Stored) (attached : ℕ) → HasRun sounding parts → inside.gear ≡ parts.gear → inside.recorders ≡ parts.recorders → inside.desk ≡ parts.desk → ClosesAll inside closed
-    → closed.gear ≡ record inside.gear { rings = record inside.gear.rings { rings = closed.gear.rings.rings } } → closed.desk ≡ inside.desk → driver ≡ record closed.gear { playback = None }
+pub playback-ended : (sounding : Score → Sound) {T E : Type 0} (finished : Result T E) (parts inside closed : Parts) (driver : Gear) (playback : Option Stored) (attached : ℕ) → HasRun sounding parts → inside.gear ≡ parts.gear → inside.recorders ≡ parts.recorders → inside.desk ≡ parts.desk → inside.players ≡ parts.players → ClosesAll inside closed
+    → closed.gear ≡ record inside.gear { rings = record inside.gear.rings { rings = closed.gear.rings.rings } } → closed.desk ≡ inside.desk → closed.players ≡ inside.players → driver ≡ record closed.gear { playback = None }
     → ((tape : Tape) → closed.gear.playback ≡ Some tape → (back : Stored) × (playback ≡ Some back) × PlaybackCloses finished tape back) → PlaybackEnded finished parts (record closed { gear = driver; playback = playback; attached = attached })
-playback-ended sounding finished parts inside closed driver playback attached run gear recorders desk closes was closed_desk is back = record {
-  tape = run.sound.files.playback.tape;
+playback-ended sounding finished parts inside closed driver playback attached run gear recorders desk players closes was closed_desk closed_players is back = record {
+  tape = run.settled.sound.files.playback.tape;
   back = kept.0;
   closes = record {
     each = λ i ring recording ring_after recording_after a b c d.
@@ -341,10 +344,11 @@ playback-ended sounding finished parts inside closed driver playback attached ru
   };
   gear = is ∙ ap (λ (g : Gear). record g { playback = None }) was ∙ ap (λ (g : Gear). geared g closed.gear.rings.rings None) gear ∙ ap (λ (g : Gear). geared parts.gear g.rings.rings None) (sym is);
   desk = closed_desk ∙ desk;
-  attached = run.sound.files.playback.attached;
+  players = closed_players ∙ players;
+  attached = run.settled.sound.files.playback.attached;
   kept = kept.1;
   ends = kept.2;
 }
   where
-    kept : (back : Stored) × (playback ≡ Some back) × PlaybackCloses finished run.sound.files.playback.tape back
-    kept = back run.sound.files.playback.tape (ap (λ (g : Gear). g.playback) was ∙ ap (λ (g : Gear). g.playback) gear ∙ run.sound.files.playback.attached)
+    kept : (back : Stored) × (playback ≡ Some back) × PlaybackCloses finished run.settled.sound.files.playback.tape back
+    kept = back run.settled.sound.files.playback.tape (ap (λ (g : Gear). g.playback) was ∙ ap (λ (g : Gear). g.playback) gear ∙ run.settled.sound.files.playback.attached)

@@ -1,4 +1,6 @@
 pub mod PairLemmas
+pub mod PeriodLemmas
+pub mod ReaderLemmas
 pub mod OpeningLemmas
 pub mod AttachLemmas
 pub mod CloseLemmas

@@ -1,24 +1,26 @@
 -- The lines of a report as the texts of its items.
 --     text-parted      of items made from some of a list
 --     text-grouped      of items with several lines each
---     text-meters, text-logged, text-events, text-recorders, text-recorder      of meters, logs and recorders
+--     text-meters, text-logged, text-events, text-recorders, text-recorder, text-disks      of meters, logs, recorders and disks
+--     disk_text_is      of the disk at a place
 --     cycles-below      the cycles of numbers and moments
 use Rattle.std.proofs.Common.{◌≡◌, ℕ, ◌<◌, List, [], ◌∷◌, ◌++◌, length, map, flat_map, filter_map, get_or, Option, Some, None, refl, sym, ◌∙◌, ap, ap₂, arith, append-nil}
-use Rattle.std.specs.Prelude.{slice_index_or}
+use Rattle.std.specs.Prelude.{slice_index, slice_index_or}
 use Rattle.std.proofs.lemmas.List.{get_or-map, map-append, same_lists}
 use Rattle.std.proofs.lemmas.List.Concat.{flat_map-append}
 use Rattle.jack_types.specs.declared.commands.Change.{Change}
 use Rattle.jack_types.specs.declared.events.Logged.{Logged}
 use Rattle.jack_types.specs.declared.replies.Entry.{Entry}
 use Rattle.jack_types.specs.declared.replies.Overrun.{Overrun}
+use Rattle.jack_types.specs.declared.replies.Underrun.{Underrun}
 use Rattle.session_model.specs.Histories.{accepted, change_of}
-use Rattle.session_model.specs.Reports.{PrintedEvent, PrintedRecorder, event_line, meter_line, recorder_lines}
+use Rattle.session_model.specs.Reports.{PrintedDisk, PrintedEvent, PrintedRecorder, disk_lines, event_line, meter_line, recorder_lines}
 use Rattle.session_model.specs.Samples.{below}
 use Rattle.session_laws.proofs.ActivationLemmas.{get_or-map_below, length-map_below}
 use Rattle.driver_laws.specs.Drivers.{Driver, run}
 use Rattle.session_works.specs.RunWords.{cycle_in, events_from, meters_from, no_moment}
 use Rattle.recorder_files.specs.Recorders.{Recording}
-use Rattle.report_lines.specs.Outputs.{cycles_of, overruns_on, text_of}
+use Rattle.report_lines.specs.Outputs.{cycles_of, overruns_on, text_of, underruns_on}
 use Rattle.report_lines.proofs.PutLemmas.{cycles-at, length-cycles, same-at, text-mapped}
 
 -- what is made from the items of a list, where something is
@@ -74,6 +76,21 @@ recorder_text recorders overruns i = text_of (recorder_lines (recorder_item reco
 pub text-recorders : (recorders : List Recording) (overruns : List Overrun)
     → text_of (flat_map recorder_lines (map (recorder_item recorders overruns) (below (length recorders)))) ≡ flat_map (recorder_text recorders overruns) (below (length recorders))
 text-recorders recorders overruns = text-grouped recorder_lines (recorder_item recorders overruns) (below (length recorders))
+
+-- a disk's item in the report, and its lines
+abbrev pub disk_item : List ℕ → List Underrun → ℕ → PrintedDisk
+disk_item played underruns i = record { disk = i; blocks = slice_index_or played i 0; underruns = underruns_on underruns i }
+
+abbrev pub disk_text : List ℕ → List Underrun → ℕ → List ℕ
+disk_text played underruns i = text_of (disk_lines (disk_item played underruns i))
+
+pub text-disks : (played : List ℕ) (underruns : List Underrun) (count : ℕ)
+    → text_of (flat_map disk_lines (map (disk_item played underruns) (below count))) ≡ flat_map (disk_text played underruns) (below count)
+text-disks played underruns count = text-grouped disk_lines (disk_item played underruns) (below count)
+
+pub disk_text_is : (played : List ℕ) (underruns handed : List Underrun) (i blocks : ℕ) → handed ≡ underruns → blocks ≡ slice_index played i
+    → text_of (disk_lines (record { disk = i; blocks = blocks; underruns = underruns_on handed i })) ≡ disk_text played underruns i
+disk_text_is played underruns handed i blocks own same = ap₂ (λ (us : List Underrun) (n : ℕ). text_of (disk_lines (record { disk = i; blocks = n; underruns = underruns_on us i }))) own same
 
 -- the cycles of numbers and as many moments
 pub cycles-below : (driver : Driver) → length driver.moments ≡ length driver.numbers → map (cycle_in driver) (below (run driver)) ≡ cycles_of driver.numbers driver.moments

@@ -15,17 +15,19 @@ use Rattle.std.proofs.lemmas.Option.{same_Some}
 use Rattle.std.proofs.Math.ListN.{get_or-map}
 use Rattle.jack_types.specs.Recorders.{no_format}
 use Rattle.jack_types.specs.declared.files.Format.{Format}
+use Rattle.session_model.specs.Grammar.{IsScript}
 use Rattle.session_model.specs.Scripts.{Script}
 use Rattle.port_registry.proofs.PlaceLemmas.{slice_get-push}
 use Rattle.driver_words.specs.Rings.{Getting, IsOpening}
 use Rattle.recorder_rings.specs.Openings.{IsNew}
 use Rattle.recorder_rings.specs.Sending.{Sent, consumer_at, ring_at}
 use Rattle.recorder_files.specs.Recorders.{Recording}
-use Rattle.session_works.specs.Drivers.{Gear, IsServed}
+use Rattle.session_works.specs.Drivers.{Gear}
 
-pub opened-at : (out : Option Getting) (P : Getting → Type 0) → MatchOption out ⊥ P → (getting : Getting) × (out ≡ Some getting) × P getting
+-- an end that is there
+pub opened-at : {X : Type 0} (out : Option X) (P : X → Type 0) → MatchOption out ⊥ P → (end : X) × (out ≡ Some end) × P end
 opened-at None P never = absurd never
-opened-at (Some getting) P holds = (getting, refl, holds)
+opened-at (Some end) P holds = (end, refl, holds)
 
 -- the end of a recorder's ring that gets, with blocks of a period of its channels
 pub end-there : (formats : List Format) (capacity period losses : ℕ) (seen : Sent) → IsNew formats capacity period losses seen → (i : ℕ) → i < length formats
@@ -75,8 +77,8 @@ end-is formats capacity period losses before after count made new so_far there h
     subst (IsOpening capacity (period * (get_or formats count no_format).channels) 500000000 (ring_at before.rings count)) same end.2
 
 -- no recorder has more than 8 channels
-pub few-channels : (script : Script) → IsServed script → (i : ℕ) → i < length script.header.recorders → (get_or script.header.recorders i no_format).channels ≤ 8
-few-channels script served i there = (served.lawful.header.recorders i no_format there).channels.1
+pub few-channels : (script : Script) → IsScript script → (i : ℕ) → i < length script.header.recorders → (get_or script.header.recorders i no_format).channels ≤ 8
+few-channels script lawful i there = (lawful.header.recorders i no_format there).channels.1
 
 none_below : {n : ℕ} → n < 0 → ⊥
 none_below p = omega arith

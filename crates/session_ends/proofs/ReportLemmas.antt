@@ -1,10 +1,11 @@
 -- The pieces of a report.
---     title, calls_text, cycles_text, meters_text, events_text, recorders_text, last      what is put one after the other
+--     title, calls_text, cycles_text, meters_text, events_text, recorders_text, disks_text, last      what is put one after the other
 --     text-put      what is put behind the first line
 --     took-calls      what the last cycle took is of the script's calls
---     calls-put, cycles-put, meters-put, events-put, recorders-put      what is put of the desk's and the driver's lists and of the recorders is what the report says
+--     calls-put, cycles-put, meters-put, events-put, recorders-put, disks-put      what is put of the desk's and the driver's lists and of the recorders is what the report says
+--     as-many-disks, few-disks      how many disks the report has
 --     cause-later, cause-cut      what failed behind earlier calls has its cause behind them
-use Rattle.std.proofs.Common.{◌≡◌, ℕ, List, [], ◌∷◌, ◌++◌, ◌<◌, codes, length, map, flat_map, take, subst, sym, ◌∙◌, ap, ap₂, append_assoc, append-nil, Option, refl, true≢false}
+use Rattle.std.proofs.Common.{◌≡◌, ℕ, List, [], ◌∷◌, ◌++◌, ◌≤◌, codes, length, map, flat_map, take, subst, sym, ◌∙◌, ap, ap₂, append_assoc, append-nil, Option, refl, true≢false}
 use Rattle.std.specs.Prelude.{Result, Ok, Err, IsErr}
 use Rattle.std.proofs.lemmas.List.{length-map}
 use Rattle.std.proofs.lemmas.List.Concat.{flat_map-append}
@@ -16,21 +17,21 @@ use Rattle.jack_types.specs.declared.replies.Entry.{Entry}
 use Rattle.jack_types.specs.declared.replies.Overrun.{Overrun}
 use Rattle.session_model.specs.Histories.{accepted}
 use Rattle.session_model.specs.Kinds.{Sound}
-use Rattle.session_model.specs.Reports.{Report, PrintedCycle, PrintedDisk, call_line, cycle_line, disk_lines, event_line, line, meter_line, printed_call, recorder_lines, report_lines}
+use Rattle.session_model.specs.Reports.{Report, PrintedCycle, call_line, cycle_line, disk_lines, event_line, line, meter_line, printed_call, recorder_lines, report_lines}
 use Rattle.session_model.specs.Samples.{below}
 use Rattle.session_model.specs.Scripts.{Script}
 use Rattle.client_kinds.specs.Scores.{Score}
 use Rattle.session_works.specs.DeskWords.{OfCallsAccepted}
 use Rattle.driver_laws.specs.Keeping.{AreOfCalls}
-use Rattle.session_works.specs.Drivers.{IsServed, driver_of}
-use Rattle.session_works.specs.RunWords.{disk_in, events_from, IsMet, IsOne, meters_from, recorder_in, report_in, Session, text_in}
+use Rattle.session_works.specs.Drivers.{driver_of}
+use Rattle.session_works.specs.RunWords.{events_from, IsMet, IsOne, meters_from, recorder_in, report_in, text_in}
 use Rattle.report_lines.specs.Outputs.{cycles_of, text_of}
 use Rattle.report_lines.proofs.PutLemmas.{first_last}
 use Rattle.recorder_files.specs.Recorders.{Recording}
 use Rattle.session_works.specs.Insides.{seen}
 use Rattle.session_works.proofs.PassedLemmas.{AreOfCalls-kept, AreOfCalls-last}
 use Rattle.session_works.specs.declared.works.SessionWorks.{SessionWorks}
-use Rattle.session_ends.proofs.MeterLemmas.{cycles-below, recorder_item}
+use Rattle.session_ends.proofs.MeterLemmas.{cycles-below, disk_item, recorder_item}
 
 abbrev pub title : List ℕ
 title = line (codes "report" ∷ codes "1" ∷ [])
@@ -53,9 +54,15 @@ events_text report = text_of (map event_line report.events)
 abbrev pub recorders_text : Report → List ℕ
 recorders_text report = text_of (flat_map recorder_lines report.recorders)
 
+abbrev pub disks_text : Report → List ℕ
+disks_text report = text_of (flat_map disk_lines report.disks)
+
 -- what stands behind each
+abbrev pub behind_recorders : Report → List ℕ
+behind_recorders report = disks_text report ++ last
+
 abbrev pub behind_events : Report → List ℕ
-behind_events report = recorders_text report ++ last
+behind_events report = recorders_text report ++ behind_recorders report
 
 abbrev pub behind_meters : Report → List ℕ
 behind_meters report = events_text report ++ behind_events report
@@ -81,23 +88,17 @@ text-pieces a b c d e f g =
     ∙ text-behind (a ++ b) c (text_of d ++ (text_of e ++ (text_of f ++ text_of g)))
     ∙ text-behind a b (text_of c ++ (text_of d ++ (text_of e ++ (text_of f ++ text_of g))))
 
--- a report without disks
-text-report : (report : Report) → report.disks ≡ [] → text_of (report_lines report) ≡ title ++ behind_title report
-text-report report no_disks =
+text-report : (report : Report) → text_of (report_lines report) ≡ title ++ behind_title report
+text-report report =
     ap (λ (t : List ℕ). title ++ t)
     (text-pieces (map call_line report.calls) (map cycle_line report.cycles) (map meter_line report.meters) (map event_line report.events) (flat_map recorder_lines report.recorders) (flat_map disk_lines report.disks) (last ∷ [])
-    ∙ ap (λ (disks : List PrintedDisk). calls_text report ++ (cycles_text report ++ (meters_text report ++ (events_text report ++ (recorders_text report ++ (text_of (flat_map disk_lines disks) ++ text_of (last ∷ []))))))) no_disks
-    ∙ ap (λ (ending : List ℕ). calls_text report ++ (cycles_text report ++ (meters_text report ++ (events_text report ++ (recorders_text report ++ ending))))) (append-nil last))
-
--- the report of a session of a script that is served
-text-served : (session : Session) → IsServed session.script → text_in session ≡ title ++ behind_title (report_in session)
-text-served session served = text-report (report_in session) (ap (λ (disks : List ℕ). map (disk_in session) (below (length disks))) served.no_disks)
+    ∙ ap (λ (ending : List ℕ). calls_text report ++ (cycles_text report ++ (meters_text report ++ (events_text report ++ (recorders_text report ++ (disks_text report ++ ending)))))) (append-nil last))
 
 -- the first line, and what is put behind it
-pub text-put : (sounding : Score → Sound) {S W G T E : Type 0} (works : SessionWorks S W G) (whole : Result T E) (a b c : Option (List ℕ)) → IsServed works.driver.script → Gains a b title
+pub text-put : (sounding : Score → Sound) {S W G T E : Type 0} (works : SessionWorks S W G) (whole : Result T E) (a b c : Option (List ℕ)) → Gains a b title
     → Puts b c whole (behind_title (report_in (seen sounding works))) → Puts a c whole (text_in (seen sounding works))
-text-put sounding {T = T} {E = E} works whole a b c served first rest =
-    subst (λ (t : List ℕ). Puts {T = T} {E = E} a c whole t) (sym (text-served (seen sounding works) served))
+text-put sounding {T = T} {E = E} works whole a b c first rest =
+    subst (λ (t : List ℕ). Puts {T = T} {E = E} a c whole t) (sym (text-report (report_in (seen sounding works))))
     (first_last whole a b c title title (behind_title (report_in (seen sounding works))) refl first rest)
 
 -- what the last cycle took is a front of what was accepted
@@ -128,6 +129,18 @@ recorders-put sounding works recorders overruns one own_recorders own_overruns =
     let as_many : length works.recorders.items ≡ length works.driver.script.header.recorders = sym (length-map works.recorders.items (λ (r : Recording). r.getting)) ∙ one.recorder_ends in
     ap₂ (λ (rs : List Recording) (os : List Overrun). text_of (flat_map recorder_lines (map (recorder_item rs os) (below (length rs))))) own_recorders own_overruns
     ∙ ap (λ (n : ℕ). text_of (flat_map recorder_lines (map (recorder_in (seen sounding works)) (below n)))) as_many
+
+-- there is a ring for each reader, and there are few
+pub as-many-disks : (sounding : Score → Sound) {S W G : Type 0} (works : SessionWorks S W G) → IsOne (seen sounding works) → length works.readers.items ≡ length works.driver.disks.disks
+as-many-disks sounding works one = one.disk_ends ∙ sym one.rings.disks
+
+pub few-disks : (sounding : Score → Sound) {S W G : Type 0} (works : SessionWorks S W G) → IsOne (seen sounding works) → length works.readers.items ≤ 4
+few-disks sounding works one = subst (λ n. n ≤ 4) (sym one.disk_ends) one.lawful.header.few_disks
+
+pub disks-put : (sounding : Score → Sound) {S W G : Type 0} (works : SessionWorks S W G) (disks : ℕ) → IsOne (seen sounding works) → disks ≡ length works.readers.items
+    → text_of (flat_map disk_lines (map (disk_item works.driver.disks.played works.driver.disks.underruns) (below disks))) ≡ disks_text (report_in (seen sounding works))
+disks-put sounding works disks one is =
+    ap (λ (n : ℕ). text_of (flat_map disk_lines (map (disk_item works.driver.disks.played works.driver.disks.underruns) (below n)))) (is ∙ one.disk_ends)
 
 -- a call behind others that left the count
 pub cause-later : {T E : Type 0} (r : Result T E) (a b c : ℕ) → b ≡ a → HasCause b c r → HasCause a c r

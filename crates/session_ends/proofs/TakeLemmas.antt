@@ -9,9 +9,10 @@
 --     text-taken, ran-taken      its report and its run stay
 --     session-taken, report-stays, ended-stays      so they stay where stores are taken of a session's parts
 --     stores-rest      without a playback it holds its recorders' stores
+--     removed-first      the first of a list is taken
 --     if-none      what follows from what holds where there is nothing
-use Rattle.std.proofs.Common.{◌≡◌, ℕ, zero, suc, ◌+◌, ◌<◌, ◌≤◌, ◌⊎◌, inl, inr, List, [], ◌∷◌, length, map, flat_map, set, slice_get, Option, Some, None, IfNone, refl, sym, ◌∙◌, ap, ap₂, subst, arith}
-use Rattle.std.specs.List.{cons_option}
+use Rattle.std.proofs.Common.{◌≡◌, ℕ, zero, suc, ◌+◌, ◌<◌, ◌≤◌, ◌⊎◌, inl, inr, List, [], ◌∷◌, length, map, flat_map, get_or, set, slice_get, Option, Some, None, IfNone, refl, sym, ◌∙◌, ap, ap₂, subst, arith}
+use Rattle.std.specs.List.{cons_option, remove}
 use Rattle.std.proofs.lemmas.Bool.{cases_lt}
 use Rattle.std.proofs.lemmas.Option.{none-some, same_Some}
 use Rattle.jack_types.specs.declared.commands.Change.{Change}
@@ -30,7 +31,7 @@ use Rattle.session_works.specs.DeskWords.{Desk}
 use Rattle.driver_laws.specs.Drivers.{Driver}
 use Rattle.session_works.specs.Drivers.{Gear, driver_of}
 use Rattle.recorder_files.specs.Recorders.{Recording, Stored, held_in, held_or, stored_of}
-use Rattle.session_works.specs.RunWords.{events_from, IsOne, meters_from, RanPhases, report_in, Session, text_in}
+use Rattle.session_works.specs.RunWords.{events_from, IsOne, meters_from, Playing, RanPhases, report_in, Session, text_in}
 use Rattle.session_works.specs.Parts.{Parts, session_of, stores_in}
 use Rattle.session_works.specs.Standings.{HasEnded}
 use Rattle.session_ends.specs.Takings.{stores_of}
@@ -165,12 +166,13 @@ module _ (session : Session) (playback : Option Tape) (tapes : List Tape) (playb
 
 module _ (sounding : Score → Sound) (parts after : Parts) (gear : after.gear ≡ record parts.gear { playback = None }) (desk : after.desk ≡ parts.desk)
     (getting : map (λ (r : Recording). r.getting) after.recorders ≡ map (λ (r : Recording). r.getting) parts.recorders)
-    (blocks : map (λ (r : Recording). r.blocks) after.recorders ≡ map (λ (r : Recording). r.blocks) parts.recorders) where
+    (blocks : map (λ (r : Recording). r.blocks) after.recorders ≡ map (λ (r : Recording). r.blocks) parts.recorders) (players : after.players ≡ parts.players) where
   pub session-taken : session_of sounding after ≡ taken (session_of sounding parts) None (session_of sounding after).tapes (session_of sounding after).playback_file (session_of sounding after).record_files
   session-taken =
       ap (λ (g : Gear). record (session_of sounding after) { script = g.script; driver = driver_of sounding g }) gear
       ∙ ap (λ (d : Desk). record (session_of sounding after) { script = parts.gear.script; driver = driver_of sounding (record parts.gear { playback = None }); desk = d }) desk
       ∙ ap₂ (λ (got : List Getting) (counts : List ℕ). record (session_of sounding after) { script = parts.gear.script; driver = driver_of sounding (record parts.gear { playback = None }); desk = parts.desk; getting = got; counts = counts }) getting blocks
+      ∙ ap (λ (ps : List Playing). record (session_of sounding after) { script = parts.gear.script; driver = driver_of sounding (record parts.gear { playback = None }); desk = parts.desk; getting = map (λ (r : Recording). r.getting) parts.recorders; counts = map (λ (r : Recording). r.blocks) parts.recorders; players = ps }) players
 
   pub report-stays : text_in (session_of sounding after) ≡ text_in (session_of sounding parts)
   report-stays = ap text_in session-taken ∙ text-taken (session_of sounding parts) None (session_of sounding after).tapes (session_of sounding after).playback_file (session_of sounding after).record_files
@@ -183,6 +185,11 @@ module _ (sounding : Score → Sound) (parts after : Parts) (gear : after.gear �
 
 pub stores-rest : (parts : Parts) → parts.playback ≡ None → parts.gear.playback ≡ None → stores_in parts ≡ stores_of parts.recorders
 stores-rest parts kept gear = ap (λ (h : Option Stored). cons_option h (stores_of parts.recorders)) (ap₂ held_or kept gear)
+
+-- the first of a list, and what is left behind it
+pub removed-first : {X : Type 0} (xs after : List X) (x : X) → 0 < length xs → x ≡ get_or xs 0 x → after ≡ remove xs 0 → xs ≡ x ∷ after
+removed-first [] after x some is rest = absurd (omega (arith, some))
+removed-first {X} (y ∷ xs) after x some is rest = ap₂ (λ (z : X) (zs : List X). z ∷ zs) (sym is) (sym rest)
 
 pub if-none : {X : Type 0} (o : Option X) (P Q : Type 0) → (P → Q) → IfNone o P → IfNone o Q
 if-none None P Q follows holds = follows holds

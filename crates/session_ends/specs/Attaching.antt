@@ -37,6 +37,7 @@ pub record StartsNext (sounding : Score → Sound) (given : Stored) (before : Pa
   pub rose : begun ≡ false → Rose given.faults back.faults
   pub cut : begun ≡ false → IfSome back.bytes (IsCut (format_next before))
   pub desk : after.desk ≡ before.desk
+  pub players : after.players ≡ before.players
   pub gear : after.gear ≡ record before.gear { playback = after.gear.playback }
   pub as_many : length after.recorders ≡ length before.recorders
   pub attached : after.attached ≡ before.attached

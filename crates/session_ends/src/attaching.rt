@@ -27,6 +27,7 @@ pub fn attach<S: Source, W: Store, G: Guest>(
     ensures store { (back : Stored) × (stores_in parts.new ≡ stores_in parts.old ++ back ∷ []) × (back.name ≡ W.name store) × (is_some back.bytes ≡ is_some (W.content store)) × (W.faults store ≤ back.faults)
         × OnErr result (Rose (W.faults store) back.faults × IfSome back.bytes (IsCut (format_next parts.old))) }
     ensures write { OnErr result (result ≡ Err SessionFault.Write) }
+    ensures players { parts.new.players ≡ parts.old.players }
     ensures same { (parts.new.desk ≡ parts.old.desk) × (parts.new.gear ≡ record parts.old.gear { playback = parts.new.gear.playback }) × (length parts.new.recorders ≡ length parts.old.recorders) }
 {
     if !start_next(parts, store) {

@@ -42,6 +42,7 @@ pub(crate) fn close_recorders<S: Source, W: Store, G: Guest>(
     ensures closed { OnOk result (ClosesAll (parts_of works.old) (parts_of works.new)) }
     ensures failed { OnErr result (CloseFails (parts_of works.old) (parts_of works.new)) }
     ensures desk { works.new.desk ≡ works.old.desk }
+    ensures readers { works.new.readers.items ≡ works.old.readers.items }
     ensures driver { works.new.driver ≡ record works.old.driver { rings = record works.old.driver.rings { rings = works.new.driver.rings.rings } } }
 {
     for recorder in 0..works.recorders.len() {

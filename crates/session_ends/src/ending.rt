@@ -37,6 +37,7 @@ pub fn end<S: Source, W: Store, G: Guest>(
     ensures order { OnErr result (StopsInOrder parts.old parts.new) }
     ensures recorders { length parts.new.recorders ≡ length parts.old.recorders }
     ensures desk { parts.new.desk ≡ parts.old.desk }
+    ensures players { parts.new.players ≡ parts.old.players }
     ensures numbers { parts.new.gear.numbers ≡ parts.old.gear.numbers }
     ensures script { parts.new.gear.script ≡ parts.old.gear.script }
     ensures capture { parts.new.gear.capture ≡ parts.old.gear.capture }

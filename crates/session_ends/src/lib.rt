@@ -6,6 +6,7 @@ mod closing;
 mod ending;
 mod laws;
 mod opening;
+mod reading;
 mod reporting;
 mod taking;
 
@@ -14,4 +15,4 @@ pub use ending::end;
 pub use opening::open;
 pub use reporting::report;
 pub use session_works::{Desk, Driver, RingLimits, SessionFault, SessionParts};
-pub use taking::take_store;
+pub use taking::{take_disk, take_store};

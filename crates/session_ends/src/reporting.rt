@@ -7,13 +7,13 @@ ghost use Rattle.jack_types.specs.Events.{IsEvent};
 ghost use Rattle.jack_types.specs.declared.commands.Change.{Change as ChangeValue};
 ghost use Rattle.jack_types.specs.declared.events.Logged.{Logged as LoggedValue};
 ghost use Rattle.session_model.specs.Histories.{accepted};
-ghost use Rattle.session_model.specs.Reports.{event_line, meter_line, recorder_lines};
+ghost use Rattle.session_model.specs.Reports.{disk_lines, event_line, meter_line, recorder_lines};
 ghost use Rattle.session_model.specs.Samples.{below};
-ghost use Rattle.report_lines.specs.Outputs.{overruns_on, text_of};
+ghost use Rattle.report_lines.specs.Outputs.{overruns_on, text_of, underruns_on};
 ghost use Rattle.recorder_files.specs.Recorders.{Recording};
 ghost use Rattle.driver_laws.specs.Keeping.{AreOfCalls};
 ghost use Rattle.session_works.specs.RunWords.{events_from, IsMet, IsOne, meters_from, text_in};
-ghost use Rattle.session_works.specs.Drivers.{IsServed, driver_of};
+ghost use Rattle.session_works.specs.Drivers.{driver_of};
 ghost use Rattle.session_works.specs.Insides.{seen};
 ghost use Rattle.session_works.specs.Parts.{session_of};
 ghost use Rattle.session_works.specs.Standings.{HasEnded};
@@ -22,7 +22,9 @@ use client_kinds::Guest;
 use jack_host::{Failed, Sink, Source, Store, WriteFailed};
 use jack_types::{ClientName, Command, Entry, Kind, Logged, Overrun, Reply};
 use recorder_files::Recorder;
-use report_lines::{put_calls, put_cycles, put_end, put_event, put_meter, put_recorder, put_title};
+use report_lines::{
+    put_calls, put_cycles, put_disk, put_end, put_event, put_meter, put_recorder, put_title,
+};
 use session_works::passed::accepted_of_legal;
 use session_works::{Driver, SessionParts, SessionWorks};
 
@@ -128,12 +130,29 @@ fn put_recorders<K: Sink, W: Store>(
     Ok(())
 }
 
+/// Puts the lines of all disks, of which there are so many.
+fn put_disks<K: Sink, S: Source, W: Store, G: Guest>(
+    out: &mut K,
+    driver: &Driver<S, W, G>,
+    disks: usize,
+) -> Result<(), Failed>
+    requires { (disks ≡ length driver.now.disks.disks) × (disks ≤ 4) }
+    ensures puts { Puts (K.content out.old) (K.content out.new) result (text_of (flat_map disk_lines (map (λ i. record { disk = i; blocks = slice_index_or driver.now.disks.played i 0; underruns = underruns_on driver.now.disks.underruns i }) (below disks)))) }
+    ensures cause { HasCause (K.faults out.old) (K.faults out.new) result }
+{
+    let underruns = driver.underruns();
+    for disk in 0..disks {
+        let played = driver.disk_played(disk as u8);
+        put_disk(out, disk as u8, played, underruns)?;
+    }
+    Ok(())
+}
+
 /// Puts the report of what the desk called, and the driver and the recorders kept.
 fn put_report<K: Sink, S: Source, W: Store, G: Guest>(
     out: &mut K,
     works: &SessionWorks<S, W, G>,
 ) -> Result<(), Failed>
-    requires served { IsServed works.now.driver.script }
     requires one { IsOne (seen G.sound works.now) }
     requires met { IsMet (seen G.sound works.now) }
     requires sound { works.now.driver.failed ≡ false }
@@ -149,11 +168,12 @@ fn put_report<K: Sink, S: Source, W: Store, G: Guest>(
     put_meters(out, history, driver)?;
     put_events(out, history, driver)?;
     put_recorders(out, works.recorders.as_slice(), driver.overruns())?;
+    put_disks(out, driver, works.readers.len())?;
     put_end(out)
 }
 
 /// Puts the report: the calls with their replies, the cycles with the number of changes that each used and the transport, the
-/// meters with their peaks, the events that were logged, and the recorders with their overruns.
+/// meters with their peaks, the events that were logged, the recorders with their overruns, and the disks with their underruns.
 pub fn report<K: Sink, S: Source, W: Store, G: Guest>(
     out: &mut K,
     parts: &SessionParts<S, W, G>,

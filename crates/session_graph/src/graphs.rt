@@ -41,9 +41,9 @@ fn place_of(ports: &[Port], id: PortId) -> Option<usize>
     ports.iter().position(|port| port.id.0 == id.0)
 }
 
-// The port of this id.
+/// The port of this id.
 #[tactic(auto, using(crate::proofs::PlaceLemmas::port_missing))]
-fn port_with(ports: &[Port], id: PortId) -> Option<&Port>
+pub(crate) fn port_with(ports: &[Port], id: PortId) -> Option<&Port>
     ensures { option_map (λ port. port.now) result ≡ port_with ports.now id }
 {
     let place = place_of(ports, id)?;

@@ -9,21 +9,20 @@ use session_threads::run_threads;
 use std::sync::Wait;
 use std::thread::Threads;
 
-impl<S: Source, W: Store + Send, G: Guest + Send> Session<S, W, G> {
+impl<S: Source + Send, W: Store + Send, G: Guest + Send> Session<S, W, G> {
     ghost use Rattle.std.specs.Prelude.{◌≡◌, ℕ, IsErrOf, IsNone, IsSome, OnErr, OnOk, length};
-    ghost use Rattle.jack_host.specs.Causes.{Rose};
     ghost use Rattle.session_model.specs.Explanations.{Given};
     ghost use Rattle.wave_pcm.specs.Readings.{SameReading};
-    ghost use Rattle.session_ends.specs.Seen.{AreLater, HasRun, IsGiven, IsReady, OneRose, Runs, SerialKept, StandsInSerial, StandsSoFar, session_of, stores_in, told_of};
+    ghost use Rattle.session_ends.specs.Seen.{AreLater, AreReadLater, HasRun, IsGiven, IsReady, OneRose, Runs, SourceRose, SerialKept, StandsInSerial, StandsSoFar, session_of, stores_in, told_of};
     ghost use Rattle.session_threads.specs.Running.{HasCome};
 
     /// Runs all phases of the script, in order. In serial mode these are the `do` calls of each, and then its cycles with the
-    /// calls of the lanes before the first and behind each. In threads mode the lanes make their calls, and the recorders fill
-    /// their files, while the cycles run; then it may wait for ever.
+    /// calls of the lanes before the first and behind each. In threads mode the lanes make their calls, the recorders fill their
+    /// files, and the readers read those of the disks, while the cycles run; then it may wait for ever.
     ///
     /// It takes no memory but for a push in `mode steal`. A fault is answered only where a count of faults rose: `Read` that
-    /// of the capture, `Write` that of a store. Behind it each store has a front of its file, and only `take_store` and
-    /// `into_capture` may be called.
+    /// of the capture or of a disk, `Write` that of a store. Behind it each store has a front of its file, and only `take_store`,
+    /// `take_disk` and `into_capture` may be called.
     pub fn run<T: Threads + Sync, R: Wait + Sync, K: Gate>(
         self,
         threads: &T,
@@ -41,7 +40,8 @@ impl<S: Source, W: Store + Send, G: Guest + Send> Session<S, W, G> {
         ensures stores { AreLater (stores_in self) (stores_in result.0) }
         ensures recorders { length result.0.recorders ≡ length self.recorders }
         ensures capture { SameReading self.gear.capture.reading result.0.gear.capture.reading }
-        ensures read { IsErrOf result.1 SessionFault.Read → Rose self.gear.capture.reading.faults result.0.gear.capture.reading.faults }
+        ensures players { AreReadLater self.players result.0.players }
+        ensures read { IsErrOf result.1 SessionFault.Read → SourceRose self result.0 }
         ensures write { IsErrOf result.1 SessionFault.Write → OneRose (stores_in self) (stores_in result.0) }
     {
         let Session {

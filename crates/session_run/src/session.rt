@@ -7,8 +7,9 @@ use session_ends::{RingLimits, SessionParts};
 use session_threads::Lanes;
 use std::marker::Model;
 
-/// A session: its desk makes the calls of a script, its driver runs the cycles, and its recorders keep what they hear. In
-/// serial mode all of them work on the caller's thread, one after the other; in threads mode they work at once.
+/// A session: its desk makes the calls of a script, its driver runs the cycles, its recorders keep what they hear, and its
+/// readers read the files of its disks. In serial mode all of them work on the caller's thread, one after the other; in threads
+/// mode they work at once.
 ///
 /// Contracts see its `Parts`, and by `session_of` the session that they make, in the words of its laws.
 #[derive(Drop)]
@@ -29,5 +30,5 @@ impl<S: Source, W: Store, G: Guest> Model for Session<S, W, G> {
 
     ghost view = { λ s. s.parts };
 
-    ghost invariant = { λ s. (s.segments.items ≡ the_segments s.parts.gear.script) × (s.limits.ring ≡ s.parts.gear.script.header.ring) × (s.limits.drain ≡ s.parts.gear.script.header.drain) × (s.is_serial ≡ is_none s.parts.gear.script.header.threads) };
+    ghost invariant = { λ s. (s.segments.items ≡ the_segments s.parts.gear.script) × (s.limits.ring ≡ s.parts.gear.script.header.ring) × (s.limits.drain ≡ s.parts.gear.script.header.drain) × (s.limits.fill ≡ s.parts.gear.script.header.fill) × (s.is_serial ≡ is_none s.parts.gear.script.header.threads) };
 }

@@ -2,8 +2,9 @@
 --     going-of, may-serve-all      what its threads may do when it begins
 --     group-behind, lanes-behind, caller-kept      the desk that came back, and the right to call the work off
 --     seen-driven      a session whose driver alone went on
---     bound-whole, bound-read, bound-write, bound-torn      the segment, by how its threads came out
---     bound-stays, bound-pairs, bound-unwritten, bound-rose      what stays, and what rose
+--     bound-whole, bound-read, bound-write, bound-torn      the segment behind the filling, by how its threads came out
+--     bound-stays, bound-pairs, bound-disks, bound-unwritten, bound-rose, bound-broke, bound-unread      what stays, and what rose
+--     segment-whole, segment-fails, segment-broke      with the filling before it
 --     on-both      what follows where both are Ok
 use Rattle.std.proofs.Common.{◌≡◌, ℕ, ◌<◌, Bool, true, false, List, length, map, slice_get, IfSome, IsOk, All, Option, Some, None, Result, Ok, Err, OnOk, refl, sym, ◌∙◌, ap, subst, arith, true≢false}
 use Rattle.std.proofs.lemmas.List.{length-map}
@@ -23,21 +24,25 @@ use Rattle.driver_laws.specs.Drivers.{Driver, run}
 use Rattle.session_works.specs.Drivers.{Gear, driver_of}
 use Rattle.session_works.specs.Cycles.{BreaksAtWrite, IsGoing, RunsInto, StaysInRun, with_end}
 use Rattle.recorder_files.specs.Recorders.{Recording, held_or, stored_of}
-use Rattle.session_works.specs.RunWords.{Session}
+use Rattle.session_works.specs.RunWords.{Playing, Session}
 use Rattle.session_works.proofs.PassedLemmas.{mapped_there, some_at}
 use Rattle.session_works.specs.SerialWords.{IsSound}
-use Rattle.thread_laws.specs.Faults.{AtCapture, AtPlayback, Drove, DroveAll, InRun}
+use Rattle.session_works.specs.disk_files.specs.Serving.{AreRead, HaveFailed as HaveBroken, IsGoing as IsReading}
+use Rattle.session_works.specs.disk_runs.specs.Readings.{DisksBroke, DisksRead, DisksServed}
+use Rattle.thread_laws.specs.Faults.{AtCapture, AtPlayback, Drove, DroveAll, InFilling, InRun}
 use Rattle.thread_laws.specs.Segments.{RingsEnded, Runs, WentOn}
 use Rattle.turn_word.specs.Turns.{Caller, Handle, IsCaller, Lock}
 use Rattle.desk_turn.specs.Lanes.{HaveRun}
 use Rattle.desk_turn.specs.Laws.{DoneBehind}
 use Rattle.session_threads.specs.Calling.{HasKept}
 use Rattle.session_threads.specs.Driving.{with_ends}
-use Rattle.session_works.specs.Insides.{ArePaired, Stays, parts_with, seen_with}
-use Rattle.session_works.specs.Parts.{HasOpenFiles, OneRose, Parts, session_of, stores_in}
-use Rattle.session_threads.specs.Phases.{HaveMade, SegmentFails, Segmented}
+use Rattle.session_works.specs.Insides.{ArePaired, Aside, DisksPaired, Stays, beside, parts_with, seen_with}
+use Rattle.session_works.specs.Parts.{HasOpenFiles, OfCapture, OneRose, Parts, SourceRose, session_of, stores_in}
+use Rattle.session_threads.specs.Phases.{Bound, BoundFails, HaveMade, SegmentFails, Segmented}
 use Rattle.session_threads.specs.Serving.{AreServed, HaveFailed, IsUntorn, MayServe, ServedBy}
 use Rattle.session_works.proofs.ReelLemmas.{all-from_places, may-give, recorders_later}
+use Rattle.session_threads.proofs.DiskLemmas.{KeepsEnds, broke-rose, disks-served, none-failed, paired-read, read-later}
+use Rattle.session_threads.proofs.PhaseLemmas.{went-nowhere}
 use Rattle.session_threads.proofs.ServeLemmas.{files-served, recorders-keep, served-at, serves-all, serves-some}
 use Rattle.session_works.proofs.PairedLemmas.{few-recorders}
 use Rattle.session_works.proofs.StayLemmas.{ends-many}
@@ -81,55 +86,81 @@ caller-kept turn opened caller after kept is = kept.same ∙ ap (λ (c : Caller 
 
 -- ---- what its threads left
 
-pub seen-driven : (sounding : Score → Sound) (desk : Desk) (gear gear_after : Gear) (recordings : List Recording) → gear_after.script ≡ gear.script → seen_with sounding desk gear_after recordings ≡ record (seen_with sounding desk gear recordings) { driver = driver_of sounding gear_after }
-seen-driven sounding desk gear gear_after recordings script = ap (λ (s : Script). record (seen_with sounding desk gear_after recordings) { script = s }) script
+pub seen-driven : (sounding : Score → Sound) (aside : Aside) (gear gear_after : Gear) (recordings : List Recording) → gear_after.script ≡ gear.script → seen_with sounding aside gear_after recordings ≡ record (seen_with sounding aside gear recordings) { driver = driver_of sounding gear_after }
+seen-driven sounding aside gear gear_after recordings script = ap (λ (s : Script). record (seen_with sounding aside gear_after recordings) { script = s }) script
 
-module _ (sounding : Score → Sound) (m : ℕ) (desk : Desk) (gear driven : Gear) (recordings recordings_after : List Recording) (desk_after : Desk) (sound : IsSound (seen_with sounding desk gear recordings)) (files : HasOpenFiles (parts_with desk gear recordings))
-    (stays : StaysInRun (driver_of sounding gear) (driver_of sounding driven)) (many : length recordings_after ≡ length recordings) (served : AreServed recordings recordings_after) (goes : GoesOn desk desk_after) (is : IsDesk desk_after) where
+module _ (sounding : Score → Sound) (m : ℕ) (desk : Desk) (gear driven : Gear) (recordings recordings_after : List Recording) (players players_after : List Playing) (desk_after : Desk)
+    (sound : IsSound (seen_with sounding (beside desk players) gear recordings)) (files : HasOpenFiles (parts_with (beside desk players) gear recordings))
+    (stays : StaysInRun (driver_of sounding gear) (driver_of sounding driven)) (many : length recordings_after ≡ length recordings) (served : AreServed recordings recordings_after)
+    (many_disks : length players_after ≡ length players) (read : AreRead players players_after) (goes : GoesOn desk desk_after) (is : IsDesk desk_after) where
+  abbrev here : Aside
+  here = beside desk players
+
   abbrev ended : Parts
-  ended = parts_with desk (with_ends driven) recordings
+  ended = parts_with here (with_ends driven) recordings
 
-  ends : RingsEnded (seen_with sounding desk driven recordings) (session_of sounding ended)
+  abbrev first : Parts
+  first = parts_with here gear recordings
+
+  abbrev last : Parts
+  last = parts_with (beside desk_after players_after) (with_ends driven) recordings_after
+
+  ends : RingsEnded (seen_with sounding here driven recordings) (session_of sounding ended)
   ends = record { same = refl }
 
-  went : WentOn (seen_with sounding desk (with_ends driven) recordings_after) (seen_with sounding desk_after (with_ends driven) recordings_after)
+  reads : DisksServed (seen_with sounding here (with_ends driven) recordings_after) (seen_with sounding (beside desk players_after) (with_ends driven) recordings_after)
+  reads = disks-served (seen_with sounding here (with_ends driven) recordings_after) players_after many_disks read
+
+  went : WentOn (seen_with sounding (beside desk players_after) (with_ends driven) recordings_after) (session_of sounding last)
   went = record { goes = goes; desk = is; same = refl }
 
   open_files : HasOpenFiles ended
   open_files = record { tapes = files.tapes; no_playback = files.no_playback; no_stores = files.no_stores }
 
-  pub bound-whole : CyclesMany m (driver_of sounding gear) (driver_of sounding driven) → All IsUntorn recordings_after
-      → Segmented m false (seen_with sounding desk gear recordings) (seen_with sounding desk_after (with_ends driven) recordings_after)
+  pub bound-whole : CyclesMany m (driver_of sounding gear) (driver_of sounding driven) → All IsUntorn recordings_after × All IsReading players_after → Bound m (session_of sounding first) (session_of sounding last)
   bound-whole cycles going = record {
-    served = seen_with sounding desk (with_ends driven) recordings_after;
-    joins = Runs (seen_with sounding desk driven recordings) (session_of sounding ended) refl (record { cycles = cycles; same = seen-driven sounding desk gear driven recordings stays.script }) ends (serves-all sounding ended recordings_after open_files many served going);
+    cycled = seen_with sounding here driven recordings;
+    ended = session_of sounding ended;
+    served = seen_with sounding here (with_ends driven) recordings_after;
+    read = seen_with sounding (beside desk players_after) (with_ends driven) recordings_after;
+    cycles = record { cycles = cycles; same = seen-driven sounding here gear driven recordings stays.script };
+    ends = ends;
+    serves = serves-all sounding ended recordings_after open_files many served going.0;
+    reads = reads;
+    going = none-failed (seen_with sounding (beside desk players_after) (with_ends driven) recordings_after) going.1;
     goes = went;
   }
 
-  fails-with : (kept : ℕ) → Drove m kept (seen_with sounding desk gear recordings) (seen_with sounding desk driven recordings) → SegmentFails m false kept (seen_with sounding desk gear recordings) (seen_with sounding desk_after (with_ends driven) recordings_after)
+  fails-with : (kept : ℕ) → Drove m kept (session_of sounding first) (seen_with sounding here driven recordings) → BoundFails m kept (session_of sounding first) (session_of sounding last)
   fails-with kept drove = record {
-    served = seen_with sounding desk (with_ends driven) recordings_after;
-    joins = InRun (seen_with sounding desk driven recordings) (session_of sounding ended) refl drove ends (serves-some sounding ended recordings_after open_files many served);
+    driven = seen_with sounding here driven recordings;
+    ended = session_of sounding ended;
+    served = seen_with sounding here (with_ends driven) recordings_after;
+    read = seen_with sounding (beside desk players_after) (with_ends driven) recordings_after;
+    drove = drove;
+    ends = ends;
+    serves = serves-some sounding ended recordings_after open_files many served;
+    reads = reads;
     goes = went;
   }
 
   -- the session when its driver was there
   abbrev before : Driver → Session
-  before driver = record (seen_with sounding desk gear recordings) { driver = driver }
+  before driver = record (seen_with sounding here gear recordings) { driver = driver }
 
-  pub bound-read : RunsInto FailsAtRead m (driver_of sounding gear) (driver_of sounding driven) → (kept : ℕ) × SegmentFails m false kept (seen_with sounding desk gear recordings) (seen_with sounding desk_after (with_ends driven) recordings_after)
+  pub bound-read : RunsInto FailsAtRead m (driver_of sounding gear) (driver_of sounding driven) → (kept : ℕ) × BoundFails m kept (session_of sounding first) (session_of sounding last)
   bound-read into =
-      (run into.2, fails-with (run into.2) (AtCapture into.0 (before into.2) into.1 refl (record { cycles = into.3; same = refl }) into.4 (seen-driven sounding desk gear driven recordings stays.script)))
+      (run into.2, fails-with (run into.2) (AtCapture into.0 (before into.2) into.1 refl (record { cycles = into.3; same = refl }) into.4 (seen-driven sounding here gear driven recordings stays.script)))
 
-  pub bound-write : RunsInto BreaksAtWrite m (driver_of sounding gear) (driver_of sounding driven) → (kept : ℕ) × SegmentFails m false kept (seen_with sounding desk gear recordings) (seen_with sounding desk_after (with_ends driven) recordings_after)
+  pub bound-write : RunsInto BreaksAtWrite m (driver_of sounding gear) (driver_of sounding driven) → (kept : ℕ) × BoundFails m kept (session_of sounding first) (session_of sounding last)
   bound-write into = (
     run (driver_of sounding driven),
     fails-with (run (driver_of sounding driven))
-        (AtPlayback into.0 (before into.2) into.1 refl (record { cycles = into.3; same = refl }) into.4.fails into.4.file (seen-driven sounding desk gear driven recordings stays.script)),
+        (AtPlayback into.0 (before into.2) into.1 refl (record { cycles = into.3; same = refl }) into.4.fails into.4.file (seen-driven sounding here gear driven recordings stays.script)),
   )
 
-  pub bound-torn : CyclesMany m (driver_of sounding gear) (driver_of sounding driven) → (kept : ℕ) × SegmentFails m false kept (seen_with sounding desk gear recordings) (seen_with sounding desk_after (with_ends driven) recordings_after)
-  bound-torn cycles = (run (driver_of sounding driven), fails-with (run (driver_of sounding driven)) (DroveAll refl (record { cycles = cycles; same = seen-driven sounding desk gear driven recordings stays.script })))
+  pub bound-torn : CyclesMany m (driver_of sounding gear) (driver_of sounding driven) → (kept : ℕ) × BoundFails m kept (session_of sounding first) (session_of sounding last)
+  bound-torn cycles = (run (driver_of sounding driven), fails-with (run (driver_of sounding driven)) (DroveAll refl (record { cycles = cycles; same = seen-driven sounding here gear driven recordings stays.script })))
 
   -- ---- what stays
 
@@ -139,20 +170,24 @@ module _ (sounding : Score → Sound) (m : ℕ) (desk : Desk) (gear driven : Gea
       let file = stays.playback tape sound.files.playback.attached in
       held-file None None gear.playback driven.playback tape file.0 sound.files.playback.attached file.1 file.2
 
-  pub bound-stays : SameReading gear.capture.reading driven.capture.reading → Stays sounding (parts_with desk gear recordings) (parts_with desk_after (with_ends driven) recordings_after)
+  pub bound-stays : SameReading gear.capture.reading driven.capture.reading → Stays sounding first last
   bound-stays capture = record {
     script = stays.script;
     scores = stays.scores;
     files = let now = files-served ended recordings_after open_files many served in record { tapes = now.tapes; no_playback = now.no_playback; no_stores = now.no_stores };
-    later = parts-later (parts_with desk gear recordings) (parts_with desk_after (with_ends driven) recordings_after) playback_later many (recorders_later ended (parts_with desk (with_ends driven) recordings_after) (recorders-keep ended recordings_after open_files many served));
+    later = parts-later first last playback_later many (recorders_later ended (parts_with here (with_ends driven) recordings_after) (recorders-keep ended recordings_after open_files many served));
     capture = capture;
     many = many;
+    players = read-later (session_of sounding first) players_after sound.going many_disks read;
   }
+
+  pub bound-disks : DisksPaired gear players → KeepsEnds gear.disks.disks driven.disks.disks → DisksPaired (with_ends driven) players_after
+  bound-disks pairs keeps = let now = paired-read gear driven players players_after pairs keeps many_disks read in record { as_many = now.as_many; few = now.few; each = now.each }
 
   pub bound-pairs : ArePaired (with_ends driven) recordings_after
   bound-pairs = record {
-    as_many = length-map driven.rings.rings with_end ∙ stays.rings.as_many ∙ ends-many sounding (parts_with desk gear recordings) sound ∙ sym many;
-    few = let low = few-recorders sounding (parts_with desk gear recordings) sound in omega (arith, many, low);
+    as_many = length-map driven.rings.rings with_end ∙ stays.rings.as_many ∙ ends-many sounding first sound ∙ sym many;
+    few = let low = few-recorders sounding first sound in omega (arith, many, low);
     each = each;
   }
     where
@@ -164,7 +199,7 @@ module _ (sounding : Score → Sound) (m : ℕ) (desk : Desk) (gear driven : Gea
           let mid = some_at driven.rings.rings recorder low_after in
           let ring_same : with_end mid.0 ≡ ring = same_Some (with_end mid.0) ring (sym (mapped_there with_end driven.rings.rings recorder mid.0 mid.1) ∙ ring_is) in
           let same = stays.rings.each recorder old.0 mid.0 old.1 mid.1 in
-          let was = some_at recordings recorder (subst (λ n. recorder < n) (ends-many sounding (parts_with desk gear recordings) sound) low) in
+          let was = some_at recordings recorder (subst (λ n. recorder < n) (ends-many sounding first sound) low) in
           let pair = sound.one.recorder_pairs recorder old.0 was.0.getting old.1 (mapped_there (λ (r : Recording). r.getting) recordings recorder was.0 was.1) in
           let it = served-at recordings recordings_after recorder was.0 now served was.1 now_is in
           let ends_same = ends-of was.0 now it it.keeps.tape_after.stopped refl in
@@ -179,23 +214,48 @@ module _ (sounding : Score → Sound) (m : ℕ) (desk : Desk) (gear driven : Gea
           ends-of old new it true stopped = let same = (it.torn stopped).fails.same in (same.table, same.room, same.most)
           ends-of old new it false going = let same = (it.whole going).serves.writes.same in (same.table, same.room, same.most)
 
-  pub bound-rose : HaveFailed recordings_after → OneRose (stores_in (parts_with desk gear recordings)) (stores_in (parts_with desk_after (with_ends driven) recordings_after))
+  pub bound-rose : HaveFailed recordings_after → OneRose (stores_in first) (stores_in last)
   bound-rose failed =
       let old = some_at recordings failed.place (subst (λ n. failed.place < n) many (slice_get_within recordings_after failed.place failed.recording failed.there)) in
       let it : ServedBy old.0 failed.recording = served-at recordings recordings_after failed.place old.0 failed.recording served old.1 failed.there in
       let stopped : it.keeps.tape_after.stopped ≡ true = subst (λ (o : Option Tape). IfSome o (λ (t : Tape). t.stopped ≡ true)) it.keeps.is failed.stopped in
-      parts-rose (parts_with desk gear recordings) (parts_with desk_after (with_ends driven) recordings_after) failed.place old.0 failed.recording (stored_of it.keeps.tape) (stored_of it.keeps.tape_after) playback_later
-      (recorders_later ended (parts_with desk (with_ends driven) recordings_after) (recorders-keep ended recordings_after open_files many served)) old.1 failed.there
+      parts-rose first last failed.place old.0 failed.recording (stored_of it.keeps.tape) (stored_of it.keeps.tape_after) playback_later
+      (recorders_later ended (parts_with here (with_ends driven) recordings_after) (recorders-keep ended recordings_after open_files many served)) old.1 failed.there
       (ap (held_or old.0.store) it.keeps.was) (ap (held_or failed.recording.store) it.keeps.is) (it.torn stopped).rose
 
   pub bound-unwritten : ((tape tape_after : Tape) → gear.playback ≡ Some tape → driven.playback ≡ Some tape_after → Rose tape.faults tape_after.faults)
-      → OneRose (stores_in (parts_with desk gear recordings)) (stores_in (parts_with desk_after (with_ends driven) recordings_after))
+      → OneRose (stores_in first) (stores_in last)
   bound-unwritten cause =
       let tape : Tape = sound.files.playback.tape in
       let file = stays.playback tape sound.files.playback.attached in
-      playback-rose (parts_with desk gear recordings) (parts_with desk_after (with_ends driven) recordings_after) (stored_of tape) (stored_of file.0) playback_later
-      (recorders_later ended (parts_with desk (with_ends driven) recordings_after) (recorders-keep ended recordings_after open_files many served))
+      playback-rose first last (stored_of tape) (stored_of file.0) playback_later
+      (recorders_later ended (parts_with here (with_ends driven) recordings_after) (recorders-keep ended recordings_after open_files many served))
       (ap (held_or None) sound.files.playback.attached) (ap (held_or None) file.1) (cause tape file.0 sound.files.playback.attached file.1)
+
+  pub bound-unread : Rose gear.capture.reading.faults driven.capture.reading.faults → SourceRose first last
+  bound-unread rose = OfCapture rose
+
+  pub bound-broke : HaveBroken players_after → SourceRose first last
+  bound-broke failed = broke-rose first last many_disks read failed
+
+-- ---- with the filling before it
+
+pub segment-whole : (many : ℕ) (session filled after : Session) → DisksRead session.script.header.ring session filled → Bound many filled after → Segmented many false session after
+segment-whole many session filled after reads bound = record {
+  served = bound.read;
+  joins = Runs filled bound.cycled bound.ended bound.served refl reads bound.cycles bound.ends bound.serves bound.reads bound.going;
+  goes = bound.goes;
+}
+
+pub segment-fails : (many kept : ℕ) (session filled after : Session) → DisksRead session.script.header.ring session filled → BoundFails many kept filled after → SegmentFails many false kept session after
+segment-fails many kept session filled after reads fails = record {
+  served = fails.read;
+  joins = InRun filled fails.driven fails.ended fails.served refl reads fails.drove fails.ends fails.serves fails.reads;
+  goes = fails.goes;
+}
+
+pub segment-broke : (many : ℕ) (session after : Session) → IsDesk after.desk → DisksBroke session.script.header.ring session after → (kept : ℕ) × SegmentFails many false kept session after
+segment-broke many session after desk broke = (run session.driver, record { served = after; joins = InFilling refl refl broke; goes = went-nowhere after desk })
 
 -- ---- outcomes
 

@@ -15,9 +15,9 @@ pub if-quiet : {T E P : Type 0} (ran : Result T E) → (is_err ran ≡ false →
 if-quiet (Ok x) quiet = quiet refl
 if-quiet (Err e) quiet = tt
 
-module _ {F P : Type 0} where
-  pub by-outcome : (outcome : Result (Unit {0}) SessionFault) (ran : Result (Unit {0}) CycleFault) → (IsErrOf outcome Read → IsErrOf ran DriverRead) → (IsErrOf outcome Write → IsErrOf ran DriverWrite ⊎ (IsOk ran × F))
-      → (IsErrOf ran DriverRead → P) → (IsErrOf ran DriverWrite → P) → (IsOk ran → F → P) → OnErr outcome P
+module _ {B F P : Type 0} where
+  pub by-outcome : (outcome : Result (Unit {0}) SessionFault) (ran : Result (Unit {0}) CycleFault) → (IsErrOf outcome Read → IsErrOf ran DriverRead ⊎ (IsOk ran × B)) → (IsErrOf outcome Write → IsErrOf ran DriverWrite ⊎ (IsOk ran × F))
+      → (IsErrOf ran DriverRead → P) → (IsErrOf ran DriverWrite → P) → (IsOk ran → P) → OnErr outcome P
   by-outcome (Ok x) ran read write at_read at_write torn = tt
-  by-outcome (Err Read) ran read write at_read at_write torn = at_read (read refl)
-  by-outcome (Err Write) ran read write at_read at_write torn = by-either (write refl) at_write (λ both. torn both.0 both.1)
+  by-outcome (Err Read) ran read write at_read at_write torn = by-either (read refl) at_read (λ both. torn both.0)
+  by-outcome (Err Write) ran read write at_read at_write torn = by-either (write refl) at_write (λ both. torn both.0)

@@ -1,45 +1,46 @@
 -- A phase in threads mode, from its front to the meeting behind it.
---     opens-sound      the parts behind its front
+--     opens-settled      the parts behind its front
 --     next-of      its cycles come next
 --     may-begin      it may be begun
---     rests      a phase without cycles
+--     went-nowhere, rests      the desk was not out; a phase without cycles
 --     phase-whole, phase-fails      all of it
 --     ran-on, ran-at      one phase more was run
 --     stands-failed      what the stores hold behind one that failed
 --     come-failed      how far the session came with it
+--     source-back      beside the desk that came back
 --     read-between, write-between, stays-over      a cause of its fault, and what stays, from its front to its end
-use Rattle.std.proofs.Common.{◌≡◌, ℕ, zero, suc, ◌+◌, ◌<◌, ◌≤◌, Bool, [], length, slice_get, Some, IsSome, refl, sym, ◌∙◌, ap, subst, arith}
+use Rattle.std.proofs.Common.{◌≡◌, ℕ, zero, suc, ◌+◌, ◌<◌, ◌≤◌, Bool, List, length, slice_get, Some, IsSome, refl, sym, ◌∙◌, ap, subst, arith}
 use Rattle.std.proofs.Math.Seq.{take-length}
 use Rattle.std.proofs.lemmas.Option.{slice_get_within}
-use Rattle.jack_host.specs.Causes.{Rose}
 use Rattle.session_model.specs.Explanations.{Given}
 use Rattle.session_model.specs.Kinds.{Sound}
 use Rattle.session_model.specs.Scripts.{Phase, Script, phases, turns}
 use Rattle.client_kinds.specs.Scores.{Score}
-use Rattle.session_works.specs.DeskWords.{MayBegin, cycles_before}
+use Rattle.session_works.specs.DeskWords.{Desk, IsDesk, MayBegin, cycles_before}
 use Rattle.driver_laws.specs.Drivers.{Driver, run, turn_of}
 use Rattle.session_works.specs.Cycles.{AreNext}
-use Rattle.session_works.specs.RunWords.{AtPhase, RanPhases, Session, StandsSoFar}
+use Rattle.session_works.specs.Drivers.{Gear}
+use Rattle.recorder_files.specs.Recorders.{Recording}
+use Rattle.session_works.specs.RunWords.{AtPhase, Playing, RanPhases, Session, StandsSoFar}
 use Rattle.script_segments.specs.declared.lines.Segment.{Segment}
-use Rattle.session_works.specs.SerialWords.{IsSound, told}
-use Rattle.session_works.proofs.PassedLemmas.{IsSound-met}
+use Rattle.session_works.specs.SerialWords.{IsSettled, IsSound, told}
 use Rattle.thread_laws.specs.Coming.{ComeBehindFault, HasCome}
-use Rattle.thread_laws.specs.Faults.{StandsUnfinished, ThreadFault}
-use Rattle.thread_laws.specs.Segments.{Rests, ThreadSegment}
-use Rattle.thread_laws.proofs.PartLemmas.{IsSound-grouped, IsSound-paced}
-use Rattle.session_works.specs.Insides.{Stays, held, parts_of}
-use Rattle.session_works.specs.Parts.{HasOpenFiles, OneRose, Parts, session_of, told_of}
+use Rattle.thread_laws.specs.Faults.{ThreadFault}
+use Rattle.thread_laws.specs.Segments.{Rests, ThreadSegment, WentOn}
+use Rattle.thread_laws.proofs.PartLemmas.{IsSettled-grouped, IsSettled-met, IsSettled-paced}
+use Rattle.session_works.specs.Insides.{Stays, beside, held, parts_of, parts_with}
+use Rattle.session_works.specs.Parts.{HasOpenFiles, OfCapture, OfDisk, OneRose, Parts, SourceRose, session_of, told_of}
 use Rattle.session_threads.specs.Laws.{FailsWithFronts, PhaseAt, PhaseBehind, UnfinishedFronts}
 use Rattle.session_threads.specs.Phases.{Opens, SegmentFails, Segmented, Settles, Stops}
 use Rattle.session_works.specs.Laws.{CycleIs, CycleThere}
 use Rattle.session_works.proofs.SegmentLemmas.{IsOfPhase}
 use Rattle.session_works.specs.declared.works.SessionWorks.{SessionWorks}
-use Rattle.session_works.proofs.StayLemmas.{stays-begun, stays-trans}
+use Rattle.session_works.proofs.StayLemmas.{source-before, source-behind, stays-begun, stays-trans}
 use Rattle.session_works.proofs.StoreLemmas.{rose-before, rose-behind}
 use Rattle.session_works.proofs.TellLemmas.{told-agrees}
 
-pub opens-sound : (done : ℕ) (session after : Session) → IsSound session → Opens done session after → IsSound after
-opens-sound done session after sound opens = IsSound-paced opens.met after (IsSound-met opens.grouped opens.met (IsSound-grouped done session opens.grouped sound opens.groups) opens.meets) opens.paces
+pub opens-settled : (done : ℕ) (session after : Session) → IsSettled session → Opens done session after → IsSettled after
+opens-settled done session after settled opens = IsSettled-paced opens.met after (IsSettled-met opens.grouped opens.met (IsSettled-grouped done session opens.grouped settled opens.groups) opens.meets) opens.paces
 
 -- the last cycle of a phase is there
 last-there : CycleThere → (script : Script) (done many : ℕ) (phase : Phase) → slice_get (phases script) done ≡ Some phase → many ≡ phase.cycles → 0 < many → cycles_before script done + many ≤ length (turns script)
@@ -70,12 +71,11 @@ may-begin session done phase sound ran there = record {
     within : slice_get (phases session.script) done ≡ Some phase → done < length (phases session.script)
     within is = slice_get_within (phases session.script) done phase is
 
-pub rests : (freewheel : Bool) (session : Session) → IsSound session → Segmented 0 freewheel session session
-rests freewheel session sound = record {
-  served = session;
-  joins = Rests refl refl;
-  goes = record { goes = record { script = refl; phase = refl; table = refl; more = sym (take-length session.desk.history) }; desk = sound.one.desk; same = refl };
-}
+pub went-nowhere : (session : Session) → IsDesk session.desk → WentOn session session
+went-nowhere session is = record { goes = record { script = refl; phase = refl; table = refl; more = sym (take-length session.desk.history) }; desk = is; same = refl }
+
+pub rests : (freewheel : Bool) (session : Session) → IsDesk session.desk → Segmented 0 freewheel session session
+rests freewheel session is = record { served = session; joins = Rests refl refl; goes = went-nowhere session is }
 
 pub phase-whole : (done many : ℕ) (freewheel : Bool) (session begun gone after : Session) → Opens done session begun → Segmented many freewheel begun gone → Settles gone after → ThreadSegment done many freewheel session after
 phase-whole done many freewheel session begun gone after opens segment settles = record {
@@ -87,6 +87,7 @@ phase-whole done many freewheel session begun gone after opens segment settles =
   heard = settles.heard;
   filled = settles.filled;
   renewed = settles.renewed;
+  told = settles.told;
   groups = opens.groups;
   meets = opens.meets;
   paces = opens.paces;
@@ -95,6 +96,7 @@ phase-whole done many freewheel session begun gone after opens segment settles =
   hears = settles.hears;
   fills = settles.fills;
   renews = settles.renews;
+  tells = settles.tells;
   meets_again = settles.meets;
 }
 
@@ -106,12 +108,14 @@ phase-fails done many kept freewheel session begun gone after opens segment stop
   served = segment.served;
   gone = gone;
   renewed = stops.renewed;
+  told = stops.told;
   groups = opens.groups;
   meets = opens.meets;
   paces = opens.paces;
   joins = segment.joins;
   goes = segment.goes;
   renews = stops.renews;
+  tells = stops.tells;
   meets_again = stops.meets;
 }
 
@@ -121,43 +125,44 @@ phase-fails done many kept freewheel session begun gone after opens segment stop
 as-phase : (session after : Session) (done : ℕ) (segment : Segment) (of : IsOfPhase session.script done segment) → ThreadSegment done segment.cycles segment.is_freewheel session after → ThreadSegment done of.phase.cycles of.phase.is_freewheel session after
 as-phase session after done segment of ran = subst (λ (s : Segment). ThreadSegment done s.cycles s.is_freewheel session after) of.is ran
 
-pub ran-on : PhaseBehind → (session after : Session) (done : ℕ) (segment : Segment) → IsOfPhase session.script done segment → IsSound session → RanPhases session done → ThreadSegment done segment.cycles segment.is_freewheel session after
-    → IsSound after × RanPhases after (done + 1)
-ran-on law session after done segment of sound ran segmented =
+pub ran-on : PhaseBehind → (session after : Session) (done : ℕ) (segment : Segment) → IsOfPhase session.script done segment → IsSettled session → RanPhases session done → ThreadSegment done segment.cycles segment.is_freewheel session after
+    → IsSettled after × RanPhases after (done + 1)
+ran-on law session after done segment of settled ran segmented =
     let next : suc done ≡ done + 1 = omega arith in
-    let behind = law session after done of.phase sound of.there ran (as-phase session after done segment of segmented) in
+    let behind = law session after done of.phase settled of.there ran (as-phase session after done segment of segmented) in
     (behind.0, subst (λ n. RanPhases after n) next behind.1)
 
-pub ran-at : PhaseAt → (given : Given) (session after : Session) (done : ℕ) (segment : Segment) → IsOfPhase session.script done segment → IsSome session.script.header.threads → IsSound session → AtPhase session given done
+pub ran-at : PhaseAt → (given : Given) (session after : Session) (done : ℕ) (segment : Segment) → IsOfPhase session.script done segment → IsSome session.script.header.threads → IsSettled session → AtPhase session given done
     → ThreadSegment done segment.cycles segment.is_freewheel session after → AtPhase after given (done + 1)
-ran-at law given session after done segment of threads sound at segmented =
+ran-at law given session after done segment of threads settled at segmented =
     let next : suc done ≡ done + 1 = omega arith in
-    subst (λ n. AtPhase after given n) next (law given session after done of.phase threads sound of.there at (as-phase session after done segment of segmented))
+    subst (λ n. AtPhase after given n) next (law given session after done of.phase threads settled of.there at (as-phase session after done segment of segmented))
 
-pub stands-failed : (sounding : Score → Sound) → FailsWithFronts → UnfinishedFronts → (given : Given) (session : Session) (parts : Parts) (done many kept : ℕ) (freewheel : Bool) → AtPhase session given done → IsSome session.script.header.threads → session.players ≡ []
+pub stands-failed : (sounding : Score → Sound) → FailsWithFronts → UnfinishedFronts → (given : Given) (session : Session) (parts : Parts) (done many kept : ℕ) (freewheel : Bool) → AtPhase session given done → IsSome session.script.header.threads
     → ThreadFault done many freewheel kept session (session_of sounding parts) → HasOpenFiles parts → StandsSoFar kept (told_of sounding parts) given
-stands-failed sounding law unfinished given session parts done many kept freewheel at threads no_disks fault files =
-    subst (λ (s : Session). StandsSoFar kept s given) (told-agrees sounding parts files) (unfinished kept (told (session_of sounding parts)) given (law given session (session_of sounding parts) done many kept freewheel at threads no_disks fault))
+stands-failed sounding law unfinished given session parts done many kept freewheel at threads fault files =
+    subst (λ (s : Session). StandsSoFar kept s given) (told-agrees sounding parts files) (unfinished kept (told (session_of sounding parts)) given (law given session (session_of sounding parts) done many kept freewheel at threads fault))
 
 pub come-failed : ComeBehindFault → (session after : Session) (done kept : ℕ) (segment : Segment) → IsOfPhase session.script done segment → RanPhases session done → ThreadFault done segment.cycles segment.is_freewheel kept session after
     → HasCome session.script after.desk.history after.driver.numbers
 come-failed law session after done kept segment of ran fault =
     law session after done kept of.phase ran of.there (subst (λ (s : Segment). ThreadFault done s.cycles s.is_freewheel kept session after) of.is fault)
 
--- ---- causes
+-- ---- causes, and what stays
 
-pub rose-between : (first before now last : ℕ) → first ≤ before → Rose before now → now ≤ last → Rose first last
-rose-between first before now last low rose high = omega (arith, low, rose, high)
+-- the desk that the lanes had came back
+pub source-back : (before : Parts) (desk other : Desk) (players : List Playing) (gear : Gear) (recordings : List Recording) → SourceRose before (parts_with (beside desk players) gear recordings) → SourceRose before (parts_with (beside other players) gear recordings)
+source-back before desk other players gear recordings (OfCapture rose) = OfCapture rose
+source-back before desk other players gear recordings (OfDisk disk old new was is rose) = OfDisk disk old new was is rose
 
 module _ (sounding : Score → Sound) {S W G : Type 0} where
-  pub read-between : (first before now last : SessionWorks S W G) → Stays sounding (parts_of first) (parts_of before) → Rose before.driver.capture.reading.faults now.driver.capture.reading.faults → Stays sounding (parts_of now) (parts_of last)
-      → Rose first.driver.capture.reading.faults last.driver.capture.reading.faults
-  read-between first before now last earlier rose later = rose-between _ _ _ _ earlier.capture.later rose later.capture.later
+  pub read-between : (first before now last : SessionWorks S W G) → Stays sounding (parts_of first) (parts_of before) → SourceRose (parts_of before) (parts_of now) → Stays sounding (parts_of now) (parts_of last) → SourceRose (parts_of first) (parts_of last)
+  read-between first before now last earlier rose later = source-behind sounding (parts_of first) (parts_of before) (parts_of last) earlier (source-before sounding (parts_of before) (parts_of now) (parts_of last) rose later)
 
   pub write-between : (first before now last : SessionWorks S W G) → Stays sounding (parts_of first) (parts_of before) → OneRose (held before) (held now) → Stays sounding (parts_of now) (parts_of last) → OneRose (held first) (held last)
   write-between first before now last earlier rose later = rose-behind (held first) (held before) (held last) earlier.later (rose-before (held before) (held now) (held last) rose later.later)
 
   -- from the front of a phase to its end
-  pub stays-over : (first begun gone last : SessionWorks S W G) (period : ℕ) → begun.driver ≡ record first.driver { reading = begun.driver.reading; set = period } → begun.recorders ≡ first.recorders → HasOpenFiles (parts_of first)
+  pub stays-over : (first begun gone last : SessionWorks S W G) (period : ℕ) → begun.driver ≡ record first.driver { reading = begun.driver.reading; set = period } → begun.recorders ≡ first.recorders → begun.readers ≡ first.readers → HasOpenFiles (parts_of first)
       → Stays sounding (parts_of begun) (parts_of gone) → Stays sounding (parts_of gone) (parts_of last) → Stays sounding (parts_of first) (parts_of last)
-  stays-over first begun gone last period driver recorders files between later = stays-trans sounding first begun last (stays-begun sounding first begun period driver recorders files) (stays-trans sounding begun gone last between later)
+  stays-over first begun gone last period driver recorders readers files between later = stays-trans sounding first begun last (stays-begun sounding first begun period driver recorders readers files) (stays-trans sounding begun gone last between later)

@@ -1,14 +1,14 @@
 -- A session's run in threads mode, told of its parts.
 --     ready-ran, ready-at      it stands before its first phase
 --     threads-whole, threads-ran, threads-fail      what the run of its phases leaves of it
-use Rattle.std.proofs.Common.{◌≡◌, ℕ, length, Option, Some, None, IsNone, IsSome, refl, sym, subst, true≢false}
+use Rattle.std.proofs.Common.{◌≡◌, ℕ, length, Option, Some, None, IsNone, IsSome, sym, subst, true≢false}
 use Rattle.session_model.specs.Explanations.{Given}
 use Rattle.session_model.specs.Kinds.{Sound}
 use Rattle.session_model.specs.Scripts.{Script, phases}
 use Rattle.client_kinds.specs.Scores.{Score}
 use Rattle.recorder_files.specs.Recorders.{Stored}
 use Rattle.session_works.specs.RunWords.{AtPhase, IsGiven, RanPhases, Runs, Session, StandsSoFar}
-use Rattle.session_works.specs.SerialWords.{IsSound}
+use Rattle.session_works.specs.SerialWords.{IsSettled}
 use Rattle.session_works.specs.Insides.{Stays, parts_of, seen}
 use Rattle.session_works.specs.Parts.{Parts, session_of, told_of}
 use Rattle.session_works.specs.Standings.{HasRun, IsReady}
@@ -31,7 +31,7 @@ module _ (sounding : Score → Sound) {S W G : Type 0} (now : Parts) (works : Se
   ready-at : AtFirst → (given : Given) → IsGiven (session_of sounding now) given → AtPhase (seen sounding works) given 0
   ready-at law given is =
       subst (λ (s : Session). AtPhase s given 0) (seen_is sounding now works playback attached view ready)
-      (law (session_of sounding now) given ready.0.new refl (files-begun sounding now ready) (tape-begun sounding now works playback attached view ready) ready.0.fresh is)
+      (law (session_of sounding now) given ready.0.new (files-begun sounding now ready) (tape-begun sounding now works playback attached view ready) ready.0.fresh is)
 
   module _ (after : SessionWorks S W G) (stays : Stays sounding (parts_of works) (parts_of after)) where
     script_after : after.driver.script ≡ now.gear.script
@@ -41,11 +41,11 @@ module _ (sounding : Score → Sound) {S W G : Type 0} (now : Parts) (works : Se
         → Runs (session_of sounding now) (session_of sounding (whole after playback attached))
     threads-whole first law ran at =
         subst (λ (s : Session). Runs (session_of sounding now) s) (sym (after_is sounding now works playback attached view ready after stays))
-        (law (session_of sounding now) (seen sounding after) threads script_after refl ran (λ given is. at given (ready-at first given is)))
+        (law (session_of sounding now) (seen sounding after) threads script_after ran (λ given is. at given (ready-at first given is)))
 
-    pub threads-ran : IsSound (seen sounding after) → RanPhases (seen sounding after) (length (phases after.driver.script)) → HasRun sounding (whole after playback attached)
-    threads-ran sound ran =
-        has-run sounding now works playback attached view ready after stays sound ran
+    pub threads-ran : IsSettled (seen sounding after) → RanPhases (seen sounding after) (length (phases after.driver.script)) → HasRun sounding (whole after playback attached)
+    threads-ran settled ran =
+        has-run sounding now works playback attached view ready after stays settled ran
         (λ none. absurd (no-threads after.driver.script.header.threads none (subst (λ (s : Script). IsSome s.header.threads) (sym script_after) threads)))
 
     pub threads-fail : AtFirst → ((kept : ℕ) × ((given : Given) → AtPhase (seen sounding works) given 0 → StandsSoFar kept (told_of sounding (parts_of after)) given))

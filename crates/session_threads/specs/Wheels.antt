@@ -1,18 +1,18 @@
 -- What the driver's thread of a freewheel segment did. No public clause cites this module.
---     HaveWheeled sounding cycles gear recordings gear_after recordings_after ran      its cycles, however they came out, with the rings emptied around each
+--     WheelBroke cycles session after      some were whole, and the next one failed
+--     HaveWheeled sounding cycles gear recordings players gear_after recordings_after players_after ran      its cycles, however they came out, with the recorders' rings emptied around each and those of the disks filled before it
 use Rattle.std.specs.Prelude.{◌≡◌, ℕ, ◌<◌, IsErrOf, List, OnErr, OnOk, Result}
-use Rattle.jack_host.specs.Causes.{Rose}
 use Rattle.session_model.specs.Kinds.{Sound}
 use Rattle.client_kinds.specs.Scores.{Score}
 use Rattle.session_works.specs.DeskWords.{Desk}
 use Rattle.session_works.specs.Drivers.{Gear}
 use Rattle.recorder_files.specs.Recorders.{Recording}
-use Rattle.session_works.specs.RunWords.{Session}
-use Rattle.session_works.specs.SerialWords.{IsSound}
+use Rattle.session_works.specs.RunWords.{Playing, Session}
+use Rattle.session_works.specs.SerialWords.{IsSettled}
 use Rattle.thread_laws.specs.Faults.{WheelFailed}
 use Rattle.thread_laws.specs.Segments.{WheeledMany}
-use Rattle.session_works.specs.Insides.{ArePaired, Stays, parts_with, seen_with}
-use Rattle.session_works.specs.Parts.{OneRose, stores_in}
+use Rattle.session_works.specs.Insides.{ArePaired, DisksPaired, Stays, beside, parts_with, seen_with}
+use Rattle.session_works.specs.Parts.{OneRose, SourceRose, stores_in}
 use Rattle.session_works.specs.declared.faults.SessionFault.{SessionFault}
 use Rattle.session_works.specs.declared.faults.SessionFault.TheVariants.{Read, Write}
 
@@ -26,11 +26,14 @@ pub record WheelBroke (cycles : ℕ) (session after : Session) : Type 0 where
   pub fails : WheelFailed kept wheeled after
 
 -- beside any desk
-pub record HaveWheeled (sounding : Score → Sound) (cycles : ℕ) (gear : Gear) (recordings : List Recording) (gear_after : Gear) (recordings_after : List Recording) (ran : Result (Unit {0}) SessionFault) : Type 0 where
-  pub wheeled : (desk : Desk) → IsSound (seen_with sounding desk gear recordings) → OnOk ran (WheeledMany cycles (seen_with sounding desk gear recordings) (seen_with sounding desk gear_after recordings_after))
-  pub failed : (desk : Desk) → IsSound (seen_with sounding desk gear recordings) → OnErr ran (WheelBroke cycles (seen_with sounding desk gear recordings) (seen_with sounding desk gear_after recordings_after))
-  pub stays : (desk : Desk) → Stays sounding (parts_with desk gear recordings) (parts_with desk gear_after recordings_after)
+pub record HaveWheeled (sounding : Score → Sound) (cycles : ℕ) (gear : Gear) (recordings : List Recording) (players : List Playing) (gear_after : Gear) (recordings_after : List Recording) (players_after : List Playing) (ran : Result (Unit {0}) SessionFault) : Type 0 where
+  pub wheeled : (desk : Desk) → IsSettled (seen_with sounding (beside desk players) gear recordings)
+      → OnOk ran (WheeledMany cycles (seen_with sounding (beside desk players) gear recordings) (seen_with sounding (beside desk players_after) gear_after recordings_after))
+  pub failed : (desk : Desk) → IsSettled (seen_with sounding (beside desk players) gear recordings)
+      → OnErr ran (WheelBroke cycles (seen_with sounding (beside desk players) gear recordings) (seen_with sounding (beside desk players_after) gear_after recordings_after))
+  pub stays : (desk : Desk) → Stays sounding (parts_with (beside desk players) gear recordings) (parts_with (beside desk players_after) gear_after recordings_after)
   pub table : gear_after.reading.table ≡ gear.reading.table
   pub pairs : ArePaired gear recordings → ArePaired gear_after recordings_after
-  pub read : IsErrOf ran Read → Rose gear.capture.reading.faults gear_after.capture.reading.faults
-  pub write : (desk : Desk) → IsErrOf ran Write → OneRose (stores_in (parts_with desk gear recordings)) (stores_in (parts_with desk gear_after recordings_after))
+  pub disks : DisksPaired gear players → DisksPaired gear_after players_after
+  pub read : (desk : Desk) → IsErrOf ran Read → SourceRose (parts_with (beside desk players) gear recordings) (parts_with (beside desk players_after) gear_after recordings_after)
+  pub write : (desk : Desk) → IsErrOf ran Write → OneRose (stores_in (parts_with (beside desk players) gear recordings)) (stores_in (parts_with (beside desk players_after) gear_after recordings_after))

@@ -1,7 +1,7 @@
 //! What the laws of a run with threads say together.
 
 ghost use Rattle.session_threads.specs.Laws.{AsManySegments, AtFirst, FailsWithFronts, PhaseAt, PhaseBehind, RestsAtFirst, RunsWithThreads, UnfinishedFronts};
-ghost use Rattle.session_works.specs.Laws.{SegmentsOfPhases, SoundAtFirst};
+ghost use Rattle.session_works.specs.Laws.{SegmentsOfPhases, SettledAtFirst};
 ghost use Rattle.thread_laws.specs.Coming.{ComeBehindFault};
 
 use script_segments::laws::segments_are_the_phases;
@@ -34,7 +34,7 @@ pub(crate) fn phases_with_threads()
 
 /// A run with threads: before its first phase, and behind all of them.
 pub(crate) fn a_run_by_phases()
-    ensures sound { SoundAtFirst }
+    ensures settled { SettledAtFirst }
     ensures rests { RestsAtFirst }
     ensures at { AtFirst }
     ensures whole { RunsWithThreads }

@@ -1,4 +1,5 @@
-//! The phases of a session in threads mode: its desk, its driver and its recorders work at once, and meet between two segments.
+//! The phases of a session in threads mode: its desk, its driver, its recorders and the readers of its disks work at once,
+//! and meet between two segments.
 #![tactic(auto)]
 
 mod joins;

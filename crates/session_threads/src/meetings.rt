@@ -9,8 +9,8 @@ ghost use Rattle.session_works.specs.RunWords.{Session as SessionValue};
 
 use client_kinds::Guest;
 use jack_host::{Source, Store};
-use serial_lanes::laws::desk_that_meets;
-use serial_lanes::{begin_group, round};
+use session_works::serial_lanes::laws::desk_that_meets;
+use session_works::serial_lanes::{begin_group, round};
 use session_works::{SessionWorks, kept_by_type, meet};
 
 /// Begins a phase behind so many others: its `do` calls are made, desk and driver meet, and the period of its cycles is set,
@@ -27,6 +27,7 @@ pub(crate) fn begin<S: Source, W: Store, G: Guest>(
     ensures group { IsDone works.new.desk 0 }
     ensures driver { works.new.driver ≡ record works.old.driver { reading = works.new.driver.reading; set = period } }
     ensures recorders { works.new.recorders ≡ works.old.recorders }
+    ensures readers { works.new.readers ≡ works.old.readers }
 {
     desk_that_meets();
     begin_group(&mut works.desk, phase);
@@ -44,6 +45,7 @@ pub(crate) fn finish_lanes<S: Source, W: Store, G: Guest>(works: &mut SessionWor
     ensures table { works.new.desk.publishing.table ≡ works.new.driver.reading.table }
     ensures driver { works.new.driver ≡ record works.old.driver { reading = works.new.driver.reading } }
     ensures recorders { works.new.recorders ≡ works.old.recorders }
+    ensures readers { works.new.readers ≡ works.old.readers }
 {
     desk_that_meets();
     meet(works);

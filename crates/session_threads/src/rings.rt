@@ -1,10 +1,9 @@
 //! How the ends of the recorders' rings learn how far the other has come.
 
 ghost use Rattle.std.specs.Prelude.{◌≡◌, ◌<◌, length, slice_set};
-ghost use Rattle.session_works.specs.DeskWords.{Desk as DeskValue};
 ghost use Rattle.driver_words.specs.Rings.{IsPair, Renews};
 ghost use Rattle.recorder_rings.specs.Sending.{ring_at};
-ghost use Rattle.session_works.specs.Insides.{ArePaired, Stays, parts_with, seen_with};
+ghost use Rattle.session_works.specs.Insides.{ArePaired, Aside, Stays, parts_with, seen_with};
 ghost use Rattle.session_works.specs.Parts.{HasOpenFiles};
 ghost use Rattle.thread_laws.specs.Segments.{Renewed};
 
@@ -20,8 +19,8 @@ pub(crate) fn renew_rings<S: Source, W: Store, G: Guest>(
     recorders: &mut Vec<Recorder<W>>,
 )
     requires pairs { ArePaired driver.old recorders.old.items }
-    ensures renewed { (desk : DeskValue) → Renewed (seen_with G.sound desk driver.old recorders.old.items) (seen_with G.sound desk driver.new recorders.new.items) }
-    ensures stays { (desk : DeskValue) → HasOpenFiles (parts_with desk driver.old recorders.old.items) → Stays G.sound (parts_with desk driver.old recorders.old.items) (parts_with desk driver.new recorders.new.items) }
+    ensures renewed { (aside : Aside) → Renewed (seen_with G.sound aside driver.old recorders.old.items) (seen_with G.sound aside driver.new recorders.new.items) }
+    ensures stays { (aside : Aside) → HasOpenFiles (parts_with aside driver.old recorders.old.items) → Stays G.sound (parts_with aside driver.old recorders.old.items) (parts_with aside driver.new recorders.new.items) }
     ensures driver { driver.new ≡ record driver.old { rings = record driver.old.rings { rings = driver.new.rings.rings } } }
 {
     for recorder in 0..recorders.len() {

@@ -1,13 +1,12 @@
 //! A session's run in threads mode.
 
 ghost use Rattle.std.specs.Prelude.{◌≡◌, ℕ, IsErrOf, IsSome, OnErr, OnOk};
-ghost use Rattle.jack_host.specs.Causes.{Rose};
 ghost use Rattle.session_model.specs.Explanations.{Given};
 ghost use Rattle.session_works.specs.RunWords.{IsGiven, Runs, StandsSoFar};
 ghost use Rattle.script_segments.specs.Segments.{segments as the_segments};
 ghost use Rattle.thread_laws.specs.Coming.{HasCome};
 ghost use Rattle.session_works.specs.Insides.{Stays};
-ghost use Rattle.session_works.specs.Parts.{OneRose, session_of, stores_in, told_of};
+ghost use Rattle.session_works.specs.Parts.{OneRose, SourceRose, session_of, stores_in, told_of};
 ghost use Rattle.session_works.specs.Standings.{HasRun, IsReady};
 
 use crate::lanes::Lanes;
@@ -22,11 +21,11 @@ use std::sync::Wait;
 use std::thread::Threads;
 
 /// Runs all phases of a session in threads mode: the lanes make their calls beside the cycles, and in a segment that is bound
-/// to the device each recorder's file is filled beside them.
+/// to the device each recorder's file is filled beside them, and each disk's file read.
 ///
 /// It may wait for ever. It takes no memory but for a push in `mode steal`.
 pub fn run_threads<
-    S: Source,
+    S: Source + Send,
     W: Store + Send,
     G: Guest + Send,
     T: Threads + Sync,
@@ -46,12 +45,13 @@ pub fn run_threads<
     requires segments { segments.now ≡ the_segments parts.gear.script }
     requires ring { limits.ring ≡ parts.gear.script.header.ring }
     requires drain { limits.drain ≡ parts.gear.script.header.drain }
+    requires fill { limits.fill ≡ parts.gear.script.header.fill }
     ensures runs { OnOk result.1 (Runs (session_of G.sound parts) (session_of G.sound result.0.0)) }
     ensures ran { OnOk result.1 (HasRun G.sound result.0.0) }
     ensures so_far { OnErr result.1 ((kept : ℕ) × ((given : Given) → IsGiven (session_of G.sound parts) given → StandsSoFar kept (told_of G.sound result.0.0) given)) }
     ensures come { OnErr result.1 (HasCome result.0.0.gear.script result.0.0.desk.history result.0.0.gear.numbers) }
     ensures stays { Stays G.sound parts result.0.0 }
-    ensures read { IsErrOf result.1 SessionFault.Read → Rose parts.gear.capture.reading.faults result.0.0.gear.capture.reading.faults }
+    ensures read { IsErrOf result.1 SessionFault.Read → SourceRose parts result.0.0 }
     ensures write { IsErrOf result.1 SessionFault.Write → OneRose (stores_in parts) (stores_in result.0.0) }
 {
     a_run_by_phases();

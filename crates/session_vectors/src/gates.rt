@@ -18,6 +18,8 @@ pub enum Held {
     EachCycle,
     /// A recorder's thread before its first look, until cycle 10 comes.
     Recorder,
+    /// A disk file's thread before its first turn, until cycle 10 comes; from then on each cycle, until that thread had a whole turn.
+    Disk,
     /// Each client, until two of a cycle are about to play.
     Clients,
     /// The clients at the places 0 and 2, which are of one worker's share where there are two, until both are about to play.
@@ -32,6 +34,7 @@ pub struct HoldingGate {
     cycles: AtomicU64,
     calls: AtomicU64,
     blocks: AtomicU64,
+    reads: AtomicU64,
     clients: AtomicU64,
     pair: AtomicU64,
     given_up: AtomicU64,
@@ -50,6 +53,7 @@ impl HoldingGate {
             cycles: AtomicU64::new(0),
             calls: AtomicU64::new(0),
             blocks: AtomicU64::new(0),
+            reads: AtomicU64::new(0),
             clients: AtomicU64::new(0),
             pair: AtomicU64::new(0),
             given_up: AtomicU64::new(0),
@@ -81,6 +85,10 @@ impl Gate for HoldingGate {
             Held::EachCycle => {
                 let looks = self.blocks.load(Ordering::SeqCst);
                 self.hold(&self.blocks, looks.saturating_add(2));
+            }
+            Held::Disk if cycle >= 10 => {
+                let reads = self.reads.load(Ordering::SeqCst);
+                self.hold(&self.reads, reads.saturating_add(2));
             }
             _ => (),
         }
@@ -115,5 +123,10 @@ impl Gate for HoldingGate {
         }
     }
 
-    fn before_turn(&self, _disk: u8) {}
+    fn before_turn(&self, _disk: u8) {
+        let reads = self.reads.fetch_add(1, Ordering::SeqCst);
+        if self.held == Held::Disk && reads == 0 {
+            self.hold(&self.cycles, 10);
+        }
+    }
 }

@@ -8,6 +8,8 @@ mod bytewise;
 #[cfg(test)]
 mod checking;
 #[cfg(test)]
+mod disks;
+#[cfg(test)]
 mod faults;
 #[cfg(test)]
 mod gates;

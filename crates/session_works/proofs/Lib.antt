@@ -4,8 +4,10 @@ pub mod RingLemmas
 pub mod ReelLemmas
 pub mod StayLemmas
 pub mod StepLemmas
+pub mod DiskLemmas
 pub mod PairedLemmas
 pub mod TurningLemmas
+pub mod PlayLemmas
 pub mod TellLemmas
 pub mod BesideLemmas
 pub mod SegmentLemmas

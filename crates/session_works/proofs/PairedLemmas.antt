@@ -1,8 +1,9 @@
--- The two ends of the recorders' rings, which belong together.
---     few-recorders, paired-sound      those of a sound session
+-- The two ends of the rings of recorders and of disks, which belong together.
+--     few-recorders, paired-sound, disks-sound      those of a sound session
 --     paired-given, paired-broken      behind blocks that left the rings, and where a file failed at it
 --     paired-driven      behind what the driver did
-use Rattle.std.proofs.Common.{◌≡◌, ℕ, ◌<◌, ◌≤◌, ◌⊎◌, inl, inr, List, length, sym, ◌∙◌, ap, subst, arith}
+--     disks-same, disks-stepped      those of disks, where their ends that get are the same, and behind a cycle
+use Rattle.std.proofs.Common.{◌≡◌, ℕ, ◌<◌, ◌≤◌, ◌⊎◌, inl, inr, List, length, slice_get, sym, ◌∙◌, ap, subst, arith}
 use Rattle.std.proofs.lemmas.Bool.{cases_lt}
 use Rattle.std.proofs.lemmas.List.{length-map}
 use Rattle.std.proofs.lemmas.Option.{slice_get_within}
@@ -11,11 +12,15 @@ use Rattle.client_kinds.specs.Scores.{Score}
 use Rattle.driver_words.specs.Rings.{Getting, IsPair, Renews, Sending}
 use Rattle.cycle_driver.specs.Gears.{Gear, driver_of}
 use Rattle.cycle_driver.specs.Runs.{KeepsRings}
+use Rattle.driver_laws.specs.Cycling.{StepsOnce}
 use Rattle.recorder_files.specs.Recorders.{Recording}
+use Rattle.run_laws.specs.Sessions.{Playing}
 use Rattle.run_laws.proofs.PlaceLemmas.{mapped_there, some_at}
+use Rattle.disk_runs.proofs.MissLemmas.{same-end}
+use Rattle.disk_runs.proofs.PlaceLemmas.{long}
 use Rattle.serial_laws.specs.Steps.{IsSound}
 use Rattle.session_works.specs.Giving.{BrokeOff, GaveUp}
-use Rattle.session_works.specs.Insides.{ArePaired}
+use Rattle.session_works.specs.Insides.{ArePaired, DisksPaired}
 use Rattle.session_works.specs.Parts.{Parts, session_of}
 use Rattle.session_works.proofs.RingLemmas.{AreEach, BrokenAt}
 use Rattle.session_works.proofs.StayLemmas.{ends-many}
@@ -95,4 +100,37 @@ paired-driven sounding gear gear_after recordings keeps pairs = record {
       let before = some_at gear.rings.rings i (subst (λ n. i < n) keeps.as_many (slice_get_within gear_after.rings.rings i ring ring_is)) in
       let same = keeps.each i before.0 ring before.1 ring_is in let pair = pairs.each i before.0 recording before.1 is in
       record { one = same.table ∙ pair.one; same_samples = same.samples ∙ pair.same_samples; same_most = same.most ∙ pair.same_most };
+}
+
+-- ---- the rings of disks
+
+pub disks-sound : (sounding : Score → Sound) (parts : Parts) → IsSound (session_of sounding parts) → DisksPaired parts.gear parts.players
+disks-sound sounding parts sound = record {
+  as_many = long (session_of sounding parts) sound.one;
+  few = few;
+  each = sound.one.disk_pairs;
+}
+  where
+    few : length parts.players < 256
+    few =
+        let many : length parts.players ≡ length parts.gear.script.header.disks = sound.one.disk_ends in
+        let least = sound.one.lawful.header.few_disks in
+        omega (arith, many, least)
+
+pub disks-same : (gear after : Gear) (players : List Playing) → after.disks.disks ≡ gear.disks.disks → DisksPaired gear players → DisksPaired after players
+disks-same gear after players same pairs = record {
+  as_many = ap length same ∙ pairs.as_many;
+  few = pairs.few;
+  each = λ disk player got player_is got_is. pairs.each disk player got player_is (ap (λ (l : List Getting). slice_get l disk) (sym same) ∙ got_is);
+}
+
+pub disks-stepped : (sounding : Score → Sound) (gear after : Gear) (players : List Playing) → StepsOnce (driver_of sounding gear) (driver_of sounding after) → DisksPaired gear players → DisksPaired after players
+disks-stepped sounding gear after players steps pairs = record {
+  as_many = steps.as_many_disks ∙ pairs.as_many;
+  few = pairs.few;
+  each = λ disk player got player_is got_is.
+      let before = some_at gear.disks.disks disk (subst (λ n. disk < n) steps.as_many_disks (slice_get_within after.disks.disks disk got got_is)) in
+      let same = same-end _ _ _ before.0 got _ _ (steps.disks disk before.0 got before.1 got_is) in
+      let pair = pairs.each disk player before.0 player_is before.1 in
+      record { one = pair.one ∙ sym same.table; same_samples = pair.same_samples ∙ sym same.samples; same_most = pair.same_most ∙ sym same.most };
 }

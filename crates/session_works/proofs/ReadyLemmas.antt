@@ -3,15 +3,15 @@
 --     files-begun      its files are begun, each of its format, and have no sample
 --     whole works playback attached      the parts of these works
 --     seen_is, script_is, tape-begun      what its works are
---     ready-sound, ready-files      they may run their phases
+--     ready-settled, ready-files      they may run their phases
 --     after_is, told_is, same_script      what works that ran are
---     run-stays, has-run, run-rose      what the run of its phases leaves of it
+--     run-stays, has-run, run-rose, run-source      what the run of its phases leaves of it
 use Rattle.std.proofs.Common.{◌≡◌, ℕ, zero, suc, ◌<◌, ◌≤◌, true, List, [], ◌∷◌, length, map, filter_map, slice_get, Contains, Option, Some, None, IsNone, refl, sym, ◌∙◌, ap, ap₂, subst, arith}
 use Rattle.std.specs.List.{cons_option}
 use Rattle.std.specs.Prelude.{IfSome}
 use Rattle.std.proofs.lemmas.Option.{same_Some, slice_get_within}
 use Rattle.jack_types.specs.declared.files.Format.{Format}
-use Rattle.session_model.specs.Grammar.{IsFormat as IsRecorderFormat}
+use Rattle.session_model.specs.Grammar.{IsFormat as IsRecorderFormat, IsScript}
 use Rattle.session_model.specs.Kinds.{Sound}
 use Rattle.session_model.specs.Rings.{samples_of_blocks}
 use Rattle.session_model.specs.Scripts.{Script, phases}
@@ -26,13 +26,13 @@ use Rattle.recorder_files.specs.Recorders.{Recording, Stored}
 use Rattle.recorder_files.proofs.Reels.{begun-may}
 use Rattle.run_laws.specs.Runs.{HasFiles, RanPhases}
 use Rattle.run_laws.specs.SerialRuns.{SerialBehind}
-use Rattle.run_laws.specs.Sessions.{Session}
+use Rattle.run_laws.specs.Sessions.{Playing, Session}
 use Rattle.run_laws.proofs.PlaceLemmas.{mapped_there, some_at}
-use Rattle.serial_laws.specs.Steps.{IsSound}
-use Rattle.session_works.specs.Drivers.{driver_of, playback_format, IsServed}
+use Rattle.serial_laws.specs.Steps.{IsSettled}
+use Rattle.session_works.specs.Drivers.{driver_of, playback_format}
 use Rattle.session_works.specs.Insides.{Stays, held, parts_of, seen}
-use Rattle.session_works.specs.Laws.{SoundAtFirst}
-use Rattle.session_works.specs.Parts.{AreLater, HasOpenFiles, OneRose, Parts, bytes_of, session_of, stores_in, told_of}
+use Rattle.session_works.specs.Laws.{SettledAtFirst}
+use Rattle.session_works.specs.Parts.{AreLater, AreReadLater, HasOpenFiles, OfCapture, OfDisk, OneRose, Parts, SourceRose, bytes_of, session_of, stores_in, told_of}
 use Rattle.session_works.specs.Standings.{HasRun, IsBegun, IsReady}
 use Rattle.session_works.specs.declared.works.SessionWorks.{SessionWorks}
 use Rattle.session_works.proofs.ReelLemmas.{all-there, picked_from}
@@ -141,7 +141,7 @@ files-begun sounding parts ready =
 
 module _ {S W G : Type 0} where
   abbrev pub whole : SessionWorks S W G → Option Stored → ℕ → Parts
-  whole works playback attached = record { desk = works.desk; gear = works.driver; recorders = works.recorders.items; playback = playback; attached = attached }
+  whole works playback attached = record { desk = works.desk; gear = works.driver; recorders = works.recorders.items; players = works.readers.items; playback = playback; attached = attached }
 
 module _ (sounding : Score → Sound) {S W G : Type 0} where
   session-whole : (works : SessionWorks S W G) (playback : Option Stored) (attached : ℕ) → playback ≡ None → session_of sounding (whole works playback attached) ≡ seen sounding works
@@ -157,15 +157,15 @@ module _ (sounding : Score → Sound) {S W G : Type 0} where
     pub seen_is : session_of sounding now ≡ seen sounding works
     seen_is = sym (ap (session_of sounding) view) ∙ session-whole works playback attached none_held
 
-    pub ready-sound : SoundAtFirst → IsSound (seen sounding works)
-    ready-sound law = subst (λ (s : Session). IsSound s) seen_is (law (session_of sounding now) ready.0.new refl (files-begun sounding now ready))
+    pub ready-settled : SettledAtFirst → IsSettled (seen sounding works)
+    ready-settled law = subst (λ (s : Session). IsSettled s) seen_is (law (session_of sounding now) ready.0.new ready.0.fresh (files-begun sounding now ready))
 
     pub script_is : works.driver.script ≡ now.gear.script
     script_is = ap (λ (p : Parts). p.gear.script) view
 
     pub ready-files : HasOpenFiles (parts_of works)
     ready-files =
-        subst (λ (p : Parts). HasOpenFiles (record { desk = p.desk; gear = p.gear; recorders = p.recorders; playback = None; attached = 0 })) (sym view)
+        subst (λ (p : Parts). HasOpenFiles (record { desk = p.desk; gear = p.gear; recorders = p.recorders; players = p.players; playback = None; attached = 0 })) (sym view)
         (record { tapes = λ i r there. let file = begun-files sounding now ready i r there in (file.0, file.1); no_playback = refl; no_stores = ready.0.no_stores })
 
     pub tape-begun : HasTape now.gear.playback []
@@ -199,12 +199,13 @@ module _ (sounding : Score → Sound) {S W G : Type 0} where
         later = subst (λ (new : List Stored). AreLater (stores_in now) new) stores_behind (subst (λ (old : List Stored). AreLater old (held after)) stores_are stays.later);
         capture = subst (λ (r : Reading). SameReading r after.driver.capture.reading) (ap (λ (p : Parts). p.gear.capture.reading) view) stays.capture;
         many = stays.many ∙ ap (λ (p : Parts). length p.recorders) view;
+        players = subst (λ (players : List Playing). AreReadLater players after.readers.items) (ap (λ (p : Parts). p.players) view) stays.players;
       }
 
-      pub has-run : IsSound (seen sounding after) → RanPhases (seen sounding after) (length (phases after.driver.script)) → (IsNone after.driver.script.header.threads → SerialBehind (seen sounding after) (length (phases after.driver.script))) → HasRun sounding (whole after playback attached)
-      has-run sound ran serial = record {
-        served = subst (λ (s : Script). IsServed s) (sym same_script) ready.0.served;
-        sound = subst (λ (s : Session). IsSound s) (sym after_is) sound;
+      pub has-run : IsSettled (seen sounding after) → RanPhases (seen sounding after) (length (phases after.driver.script)) → (IsNone after.driver.script.header.threads → SerialBehind (seen sounding after) (length (phases after.driver.script))) → HasRun sounding (whole after playback attached)
+      has-run settled ran serial = record {
+        served = subst (λ (s : Script). IsScript s) (sym same_script) ready.0.served;
+        settled = subst (λ (s : Session). IsSettled s) (sym after_is) settled;
         ran = subst (λ (s : Session). RanPhases s (length (phases after.driver.script))) (sym after_is) ran;
         serial = λ none. subst (λ (s : Session). SerialBehind s (length (phases after.driver.script))) (sym after_is) (serial none);
         files = files_now;
@@ -212,3 +213,10 @@ module _ (sounding : Score → Sound) {S W G : Type 0} where
 
       pub run-rose : OneRose (held works) (held after) → OneRose (stores_in now) (stores_in (whole after playback attached))
       run-rose rose = subst (λ (new : List Stored). OneRose (stores_in now) new) stores_behind (subst (λ (old : List Stored). OneRose old (held after)) stores_are rose)
+
+      pub run-source : SourceRose (parts_of works) (parts_of after) → SourceRose now (whole after playback attached)
+      run-source rose = subst (λ (p : Parts). SourceRose p (whole after playback attached)) view (as-whole rose)
+        where
+          as-whole : SourceRose (parts_of works) (parts_of after) → SourceRose (whole works playback attached) (whole after playback attached)
+          as-whole (OfCapture count) = OfCapture count
+          as-whole (OfDisk disk old new was is count) = OfDisk disk old new was is count

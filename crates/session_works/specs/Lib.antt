@@ -1,6 +1,7 @@
 pub mod Parts
 pub mod Insides
 pub mod Giving
+pub mod DiskSteps
 pub mod Turnings
 pub mod Standings
 pub mod Laws
@@ -9,3 +10,6 @@ pub mod Cycles
 pub mod SerialWords
 pub mod RunWords
 pub mod DeskWords
+pub use Rattle.serial_lanes
+pub use Rattle.disk_runs
+pub use Rattle.disk_runs.specs.disk_files

@@ -5,7 +5,9 @@
 --     stores_in parts      the stores that it holds, in the order of attaching
 --     AreLater before after      the same stores, later
 --     HasOpenFiles parts      each recorder has its file in the making, and no store came back
-use Rattle.std.specs.Prelude.{◌≡◌, ℕ, ◌≤◌, All, List, [], ◌∷◌, filter_map, length, map, slice_get, Option, None, Some, is_some}
+--     SourceRose before after      a read of the capture or of a disk failed
+--     IsReadLater before after, AreReadLater before after      the same disk's file, later, and those of all disks
+use Rattle.std.specs.Prelude.{◌≡◌, ℕ, ◌≤◌, false, All, List, ◌∷◌, filter_map, length, map, slice_get, Option, None, Some, is_some}
 use Rattle.jack_host.specs.Causes.{Rose}
 use Rattle.session_model.specs.Kinds.{Sound}
 use Rattle.client_kinds.specs.Scores.{Score}
@@ -13,13 +15,14 @@ use Rattle.driver_words.specs.Tapes.{Tape}
 use Rattle.control_desk.specs.Desks.{Desk}
 use Rattle.cycle_driver.specs.Gears.{Gear, driver_of}
 use Rattle.recorder_files.specs.Recorders.{Recording, Stored, held_in, held_or}
-use Rattle.run_laws.specs.Sessions.{Session}
+use Rattle.run_laws.specs.Sessions.{Playing, Session}
 
 -- `playback` is the playback's store where it came back, and `attached` is how many stores were attached
 pub record Parts : Type 0 where
   pub desk : Desk
   pub gear : Gear
   pub recorders : List Recording
+  pub players : List Playing
   pub playback : Option Stored
   pub attached : ℕ
 
@@ -28,7 +31,6 @@ abbrev pub bytes_of : Option Stored → Option (List ℕ)
 bytes_of None = None
 bytes_of (Some stored) = stored.bytes
 
--- there are no disks
 abbrev pub session_of : (sounding : Score → Sound) → Parts → Session
 session_of sounding parts = record {
   script = parts.gear.script;
@@ -37,7 +39,7 @@ session_of sounding parts = record {
   getting = map (λ (r : Recording). r.getting) parts.recorders;
   tapes = filter_map (λ (r : Recording). r.tape) parts.recorders;
   counts = map (λ (r : Recording). r.blocks) parts.recorders;
-  players = [];
+  players = parts.players;
   playback_file = bytes_of parts.playback;
   record_files = map (λ (r : Recording). bytes_of r.store) parts.recorders;
 }
@@ -76,3 +78,18 @@ pub record HasOpenFiles (parts : Parts) : Type 0 where
   pub tapes : (i : ℕ) (r : Recording) → slice_get parts.recorders i ≡ Some r → (tape : Tape) × (r.tape ≡ Some tape)
   pub no_playback : parts.playback ≡ None
   pub no_stores : All (λ (r : Recording). r.store ≡ None) parts.recorders
+
+-- the count of failed reads of one source rose: the capture's, or a disk file's
+pub data SourceRose (before after : Parts) : Type 0 where
+  OfCapture : Rose before.gear.capture.reading.faults after.gear.capture.reading.faults → SourceRose before after
+  OfDisk : (disk : ℕ) (old new : Playing) → slice_get before.players disk ≡ Some old → slice_get after.players disk ≡ Some new → Rose old.faults new.faults → SourceRose before after
+
+-- the same disk's file, later: its count of failed reads never falls, and stays where no read failed
+pub record IsReadLater (before after : Playing) : Type 0 where
+  pub format : after.format ≡ before.format
+  pub faults : before.faults ≤ after.faults
+  pub kept : after.failed ≡ false → (before.failed ≡ false) × (after.faults ≡ before.faults)
+
+pub record AreReadLater (before after : List Playing) : Type 0 where
+  pub as_many : length after ≡ length before
+  pub each : (disk : ℕ) (old new : Playing) → slice_get before disk ≡ Some old → slice_get after disk ≡ Some new → IsReadLater old new

@@ -2,4 +2,4 @@
 pub use Rattle.serial_laws.specs.Endings.{Broken, EndFails, EndTried, EndsAll, EndsOne, Finished, IsBroken, IsFinished, Left, Unfinished}
 pub use Rattle.serial_laws.specs.Faults.{StandsInSerial, TurnFails, told}
 pub use Rattle.serial_laws.specs.Openings.{AreFresh, bare}
-pub use Rattle.serial_laws.specs.Steps.{AreExact, Begun, IsReel, IsSound, KeepsOwn, Met, Rounded, Turned}
+pub use Rattle.serial_laws.specs.Steps.{AreExact, Begun, IsReel, IsSettled, IsSound, KeepsOwn, Met, Rounded, Turned}

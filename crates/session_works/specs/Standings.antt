@@ -6,17 +6,18 @@
 use Rattle.std.specs.Prelude.{◌≡◌, ℕ, suc, ◌<◌, ◌≤◌, false, [], length, map, slice_get, slice_index_or, zero, All, Option, None, Some, IsNone}
 use Rattle.jack_types.specs.Recorders.{no_format}
 use Rattle.jack_types.specs.declared.files.Format.{Format}
+use Rattle.session_model.specs.Grammar.{IsScript}
 use Rattle.session_model.specs.Kinds.{Sound}
 use Rattle.session_model.specs.Scripts.{phases}
 use Rattle.client_kinds.specs.Scores.{Score}
 use Rattle.driver_words.specs.Tapes.{HasSamples, Tape}
-use Rattle.session_works.specs.Drivers.{playback_format, IsServed}
+use Rattle.session_works.specs.Drivers.{playback_format}
 use Rattle.recorder_files.specs.Recorders.{Recording}
 use Rattle.run_laws.specs.Runs.{RanPhases}
 use Rattle.run_laws.specs.SerialRuns.{SerialBehind}
 use Rattle.run_laws.specs.Told.{IsNew}
 use Rattle.serial_laws.specs.Openings.{AreFresh, bare}
-use Rattle.serial_laws.specs.Steps.{IsSound}
+use Rattle.serial_laws.specs.Steps.{IsSettled}
 use Rattle.session_works.specs.Parts.{HasOpenFiles, Parts, session_of}
 
 -- a file of this format without samples
@@ -32,7 +33,7 @@ pub record HasFile (place attached : ℕ) (format : Format) (file : Option Tape)
 
 -- the playback is at place 0, and recorder i at place i + 1
 pub record IsAttaching (sounding : Score → Sound) (parts : Parts) : Type 0 where
-  pub served : IsServed parts.gear.script
+  pub served : IsScript parts.gear.script
   pub new : IsNew (bare (session_of sounding parts))
   pub fresh : AreFresh (session_of sounding parts)
   pub formats : map (λ (r : Recording). r.format) parts.recorders ≡ parts.gear.script.header.recorders
@@ -54,13 +55,13 @@ abbrev pub IsReady : (sounding : Score → Sound) → Parts → Type 0
 IsReady sounding parts = IsAttaching sounding parts × (parts.attached ≡ suc (length parts.recorders))
 
 pub record HasRun (sounding : Score → Sound) (parts : Parts) : Type 0 where
-  pub served : IsServed parts.gear.script
-  pub sound : IsSound (session_of sounding parts)
+  pub served : IsScript parts.gear.script
+  pub settled : IsSettled (session_of sounding parts)
   pub ran : RanPhases (session_of sounding parts) (length (phases parts.gear.script))
   pub serial : IsNone parts.gear.script.header.threads → SerialBehind (session_of sounding parts) (length (phases parts.gear.script))
   pub files : HasOpenFiles parts
 
 pub record HasEnded (sounding : Score → Sound) (parts : Parts) : Type 0 where
-  pub served : IsServed parts.gear.script
+  pub served : IsScript parts.gear.script
   pub ran : RanPhases (session_of sounding parts) (length (phases parts.gear.script))
   pub sound : parts.gear.failed ≡ false

@@ -2,7 +2,7 @@
 
 ghost use Rattle.control_desk.specs.Desks.{IsDesk};
 
-use control_desk::Desk;
+use serial_laws::control_desk::Desk;
 
 /// What a desk's type keeps.
 pub fn kept_by_type(desk: &Desk)

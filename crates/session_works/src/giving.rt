@@ -1,14 +1,13 @@
 //! How blocks leave the rings of a session's recorders.
 
 ghost use Rattle.std.specs.Prelude.{◌≡◌, ◌≤◌, ◌<◌, OnErr, OnOk, Some, length, slice_set};
-ghost use Rattle.control_desk.specs.Desks.{Desk as DeskValue};
 ghost use Rattle.disk_recorder.specs.Recordings.{MayWrite};
 ghost use Rattle.driver_words.specs.Rings.{IsPair};
-ghost use Rattle.recorder_rings.specs.Sending.{ring_at};
+ghost use Rattle.cycle_driver.specs.recorder_rings.specs.Sending.{ring_at};
 ghost use Rattle.serial_laws.specs.Faults.{BreakUp};
 ghost use Rattle.serial_laws.specs.Steps.{GiveUp, IsSound};
 ghost use Rattle.session_works.specs.Giving.{BrokeOff, GaveUp};
-ghost use Rattle.session_works.specs.Insides.{AreAble, ArePaired, Stays, parts_with, seen_with};
+ghost use Rattle.session_works.specs.Insides.{AreAble, ArePaired, Aside, Stays, parts_with, seen_with};
 ghost use Rattle.session_works.specs.Parts.{HasOpenFiles, OneRose, stores_in};
 ghost use Rattle.driver_words.specs.Tapes.{Tape};
 
@@ -37,17 +36,17 @@ fn give_up_one<S: Source, W: Store, G: Guest>(
 
 /// Writes blocks of each recorder's ring into its file, at most so many. The first file that fails ends it.
 ///
-/// Its clauses hold beside any desk, since the desk may be out with the lanes.
+/// Its clauses hold whatever is beside, since the desk may be out with the lanes.
 pub(crate) fn give_up<S: Source, W: Store, G: Guest>(
     driver: &mut Driver<S, W, G>,
     recorders: &mut Vec<Recorder<W>>,
     most: u32,
 ) -> Result<(), WriteFailed>
     requires able { AreAble G.sound driver.old recorders.old.items }
-    ensures given { (desk : DeskValue) → IsSound (seen_with G.sound desk driver.old recorders.old.items) → OnOk result (GiveUp most (seen_with G.sound desk driver.old recorders.old.items) (seen_with G.sound desk driver.new recorders.new.items)) }
-    ensures broken { (desk : DeskValue) → IsSound (seen_with G.sound desk driver.old recorders.old.items) → OnErr result (BreakUp most (seen_with G.sound desk driver.old recorders.old.items) (seen_with G.sound desk driver.new recorders.new.items)) }
-    ensures stays { (desk : DeskValue) → Stays G.sound (parts_with desk driver.old recorders.old.items) (parts_with desk driver.new recorders.new.items) }
-    ensures cause { (desk : DeskValue) → OnErr result (OneRose (stores_in (parts_with desk driver.old recorders.old.items)) (stores_in (parts_with desk driver.new recorders.new.items))) }
+    ensures given { (aside : Aside) → IsSound (seen_with G.sound aside driver.old recorders.old.items) → OnOk result (GiveUp most (seen_with G.sound aside driver.old recorders.old.items) (seen_with G.sound aside driver.new recorders.new.items)) }
+    ensures broken { (aside : Aside) → IsSound (seen_with G.sound aside driver.old recorders.old.items) → OnErr result (BreakUp most (seen_with G.sound aside driver.old recorders.old.items) (seen_with G.sound aside driver.new recorders.new.items)) }
+    ensures stays { (aside : Aside) → Stays G.sound (parts_with aside driver.old recorders.old.items) (parts_with aside driver.new recorders.new.items) }
+    ensures cause { (aside : Aside) → OnErr result (OneRose (stores_in (parts_with aside driver.old recorders.old.items)) (stores_in (parts_with aside driver.new recorders.new.items))) }
     ensures driver { driver.new ≡ record driver.old { rings = driver.new.rings } }
     ensures pairs { ArePaired driver.old recorders.old.items → ArePaired driver.new recorders.new.items }
 {

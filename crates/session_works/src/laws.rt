@@ -1,21 +1,21 @@
 //! What laws of the session's steps say together.
 
-ghost use Rattle.session_works.specs.Laws.{CycleIs, CycleThere, EmptyBehindBlocks, MayRunNext, SegmentsOfPhases, SoundBehindBlocks, SoundBehindCycle};
+ghost use Rattle.session_works.specs.Laws.{CycleIs, CycleLaws, CycleThere, SegmentsOfPhases};
 
 use script_segments::laws::segments_are_the_phases;
 use serial_laws::numbers::cycles_of_a_phase;
 use serial_laws::parts::{
-    blocks_leave_the_parts, the_driver_leaves_the_parts, the_next_cycle_may_be_run,
+    blocks_leave_the_parts, disks_leave_the_parts, the_driver_leaves_the_parts,
+    the_next_cycle_may_be_run,
 };
 
-/// The next cycle may be run, and it and the blocks around it leave a session sound.
+/// The next cycle may be run. It, the blocks around it, readings of the disks and meetings of their rings' ends leave a
+/// session sound.
 pub fn cycles_and_blocks()
-    ensures blocks { SoundBehindBlocks }
-    ensures empty { EmptyBehindBlocks }
-    ensures cycle { SoundBehindCycle }
-    ensures next { MayRunNext }
+    ensures { CycleLaws }
 {
     blocks_leave_the_parts();
+    disks_leave_the_parts();
     the_driver_leaves_the_parts();
     the_next_cycle_may_be_run();
 }

@@ -1,4 +1,5 @@
-//! The works of a session in either mode: its desk, its driver and its recorders, and a cycle with what leaves the rings around it.
+//! The works of a session in either mode: its desk, its driver, its recorders and the readers of its disks, and a cycle with
+//! what leaves the recorders' rings and what goes into those of the disks around it.
 #![tactic(auto)]
 
 mod cycles;
@@ -10,14 +11,19 @@ mod limits;
 mod meetings;
 mod parts;
 pub mod passed;
+mod reading;
 mod works;
 
-pub use control_desk::Desk;
-pub use cycle_driver::{CycleFault, Driver, end_rings, run_cycles};
+pub use cycle_driver::{CycleFault, Driver, end_rings, run_cycles, script_needs};
 pub use cycles::cycle;
 pub use desks::kept_by_type;
+pub use disk_runs::disk_files;
+pub use disk_runs::disk_files::DiskReader;
 pub use faults::SessionFault;
 pub use limits::RingLimits;
 pub use meetings::meet;
 pub use parts::SessionParts;
+pub use reading::{read_ahead, tell_all};
+pub use serial_laws::control_desk::Desk;
+pub use serial_laws::serial_lanes;
 pub use works::SessionWorks;

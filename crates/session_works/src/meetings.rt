@@ -15,6 +15,7 @@ pub fn meet<S: Source, W: Store, G: Guest>(works: &mut SessionWorks<S, W, G>)
     ensures desk { works.new.desk ≡ record works.old.desk { publishing = works.new.desk.publishing } }
     ensures driver { works.new.driver ≡ record works.old.driver { reading = works.new.driver.reading } }
     ensures recorders { works.new.recorders ≡ works.old.recorders }
+    ensures readers { works.new.readers ≡ works.old.readers }
 {
     works.desk.meet(works.driver.reader());
 }

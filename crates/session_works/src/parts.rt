@@ -21,5 +21,5 @@ impl<S: Source, W: Store, G: Guest> Model for SessionParts<S, W, G> {
 
     ghost Value = { Parts };
 
-    ghost view = { λ p. record { desk = p.works.desk; gear = p.works.driver; recorders = p.works.recorders.items; playback = option_map (λ w. record { name = W.name w; bytes = W.content w; faults = W.faults w }) p.playback; attached = p.attached } };
+    ghost view = { λ p. record { desk = p.works.desk; gear = p.works.driver; recorders = p.works.recorders.items; players = p.works.readers.items; playback = option_map (λ w. record { name = W.name w; bytes = W.content w; faults = W.faults w }) p.playback; attached = p.attached } };
 }

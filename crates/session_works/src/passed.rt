@@ -1,7 +1,7 @@
 //! Laws of a session's run and of its desk, passed on to the crates over this one.
 
-pub use control_desk::laws::{accepted_of_legal, goes_on};
 pub use run_laws::serial::{a_phase_ends, all_phases_end};
+pub use serial_laws::control_desk::laws::{accepted_of_legal, goes_on};
 pub use serial_laws::cycles::{a_cycle_goes_on, a_phase_begins};
 pub use serial_laws::endings::an_end_is_whole;
 pub use serial_laws::faults::{a_turn_that_fails_leaves_fronts, an_end_that_fails_leaves_fronts};

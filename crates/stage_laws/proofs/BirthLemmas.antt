@@ -20,9 +20,9 @@ use Rattle.session_laws.proofs.PlaceLemmas.{filter-contains}
 use Rattle.session_laws.proofs.PlanLemmas.{IsSound-opening}
 use Rattle.session_laws.proofs.SoundLemmas.{Apart-same, IsSound-replay}
 use Rattle.port_registry.specs.Registered.{open_clients}
-use Rattle.stage_feeds.specs.cycle_plan.specs.Plans.{IsPlanned, Planned, opening_of, state_of_plan}
-use Rattle.stage_feeds.specs.task_laws.specs.Calls.{HasOpened, kind_opened}
-use Rattle.stage_feeds.specs.task_laws.proofs.OpenedLemmas.{client-opened}
+use Rattle.cycle_plan.specs.Plans.{IsPlanned, Planned, opening_of, state_of_plan}
+use Rattle.task_laws.specs.Calls.{HasOpened, kind_opened}
+use Rattle.task_laws.proofs.OpenedLemmas.{client-opened}
 
 module _ (start : State) (changes : List Change) (lawful : AreLawful start changes) where
   listed : (change : Change) (m : Contains changes change) → slice_get changes m.0 ≡ Some change

@@ -11,20 +11,20 @@ use Rattle.session_model.specs.Activation.{link_at, place_among}
 use Rattle.session_model.specs.Benches.{node_at}
 use Rattle.session_model.specs.Commands.{replay}
 use Rattle.session_model.specs.Kinds.{Sound}
-use Rattle.stage_feeds.specs.client_kinds.specs.Scores.{Score}
+use Rattle.client_kinds.specs.Scores.{Score}
 use Rattle.port_registry.specs.Registered.{open_client, open_clients}
-use Rattle.stage_feeds.specs.cycle_plan.specs.Plans.{IsPlanned, Planned, links_of, nodes_of, opening_of, state_of_plan}
-use Rattle.stage_feeds.specs.client_kinds.specs.Standings.{HasGuest, Standing}
-use Rattle.stage_feeds.specs.client_benches.specs.Seen.{Seen, has_room_at, moved_to}
-use Rattle.stage_feeds.specs.client_wiring.specs.Wirings.{Wired, wired, wired_of}
-use Rattle.stage_feeds.specs.bench_rack.specs.Racks.{Racked, bench_at}
-use Rattle.stage_feeds.specs.client_tasks.specs.Fillings.{AreJoints, last_place}
-use Rattle.stage_feeds.specs.client_tasks.specs.Tasks.{AreSet, HasRooms, IsSet}
-use Rattle.stage_feeds.specs.client_seats.specs.Owners.{Owned, owner_at}
-use Rattle.stage_feeds.specs.client_seats.specs.Seatings.{HasBench, HavePeriod, IsNobodys, IsSeating, memory_of, standing_at}
-use Rattle.stage_feeds.specs.client_seats.proofs.MemoryLemmas.{found_past, memory-owned, owned_or_not}
-use Rattle.stage_feeds.specs.client_seats.proofs.PlayLemmas.{IsSeating-played}
-use Rattle.stage_feeds.specs.driver_laws.specs.Drivers.{Remembered}
+use Rattle.cycle_plan.specs.Plans.{IsPlanned, Planned, links_of, nodes_of, opening_of, state_of_plan}
+use Rattle.client_kinds.specs.Standings.{HasGuest, Standing}
+use Rattle.client_benches.specs.Seen.{Seen, has_room_at, moved_to}
+use Rattle.client_wiring.specs.Wirings.{Wired, wired, wired_of}
+use Rattle.bench_rack.specs.Racks.{Racked, bench_at}
+use Rattle.client_tasks.specs.Fillings.{AreJoints, last_place}
+use Rattle.client_tasks.specs.Tasks.{AreSet, HasRooms, IsSet}
+use Rattle.client_seats.specs.Owners.{Owned, owner_at}
+use Rattle.client_seats.specs.Seatings.{HasBench, HavePeriod, IsNobodys, IsSeating, memory_of, standing_at}
+use Rattle.client_seats.proofs.MemoryLemmas.{found_past, memory-owned, owned_or_not}
+use Rattle.client_seats.proofs.PlayLemmas.{IsSeating-played}
+use Rattle.driver_laws.specs.Drivers.{Remembered}
 use Rattle.stage_laws.specs.Casts.{Casts, GoesOnIn}
 use Rattle.stage_laws.specs.Stages.{IsStaffed, Staged}
 use Rattle.stage_laws.proofs.WholeLemmas.{same-bench-of}

@@ -9,10 +9,10 @@ use Rattle.jack_types.specs.declared.moments.Moment.{Moment}
 use Rattle.session_model.specs.Benches.{Signal, Task, mixed}
 use Rattle.session_model.specs.Kinds.{GuestTurn, Memory, Sound, guest_played, guest_turn, outputs_by, play, silent}
 use Rattle.session_model.specs.Samples.{below}
-use Rattle.stage_feeds.specs.client_kinds.specs.Scores.{Score}
+use Rattle.client_kinds.specs.Scores.{Score}
 use Rattle.session_laws.proofs.SequentialLemmas.{length-below}
-use Rattle.stage_feeds.specs.client_benches.specs.Seen.{Remembered, kept_after, own_sounds, task_in}
-use Rattle.stage_feeds.specs.client_benches.specs.declared.benches.Stint.{Stint}
+use Rattle.client_benches.specs.Seen.{Remembered, kept_after, own_sounds, task_in}
+use Rattle.client_benches.specs.declared.benches.Stint.{Stint}
 
 length-outputs : (outputs : ℕ) (at : ℕ → List ℤ) → length (outputs_by outputs at) ≡ outputs
 length-outputs outputs at = length-map (below outputs) at ∙ length-below outputs

@@ -12,17 +12,17 @@ use Rattle.session_model.specs.Benches.{node_at}
 use Rattle.session_model.specs.Commands.{replay, shares}
 use Rattle.session_model.specs.State.{OpenClient, State}
 use Rattle.port_registry.specs.Registered.{open_clients}
-use Rattle.stage_feeds.specs.cycle_plan.specs.Plans.{IsPlanned, Planned, opening_of, state_of_plan}
-use Rattle.stage_feeds.specs.driver_laws.specs.Drivers.{Remembered}
-use Rattle.stage_feeds.specs.task_laws.specs.Calls.{AreOwners, HasOpened}
-use Rattle.stage_feeds.specs.task_laws.proofs.OpenedLemmas.{owners-later}
-use Rattle.stage_feeds.specs.client_benches.specs.Seen.{Seen, new_bench}
-use Rattle.stage_feeds.specs.client_wiring.specs.Keeping.{GoesOn}
-use Rattle.stage_feeds.specs.bench_rack.specs.Racks.{Racked}
-use Rattle.stage_feeds.specs.client_seats.specs.Owners.{Owned, owner_at}
-use Rattle.stage_feeds.specs.client_seats.specs.Seatings.{HasNoPast, IsSeating, kind_at}
-use Rattle.stage_feeds.specs.client_seats.specs.Moves.{LostGuest, kinds_of}
-use Rattle.stage_feeds.specs.client_seats.proofs.PlaceLemmas.{owner_within}
+use Rattle.cycle_plan.specs.Plans.{IsPlanned, Planned, opening_of, state_of_plan}
+use Rattle.driver_laws.specs.Drivers.{Remembered}
+use Rattle.task_laws.specs.Calls.{AreOwners, HasOpened}
+use Rattle.task_laws.proofs.OpenedLemmas.{owners-later}
+use Rattle.client_benches.specs.Seen.{Seen, new_bench}
+use Rattle.client_wiring.specs.Keeping.{GoesOn}
+use Rattle.bench_rack.specs.Racks.{Racked}
+use Rattle.client_seats.specs.Owners.{Owned, owner_at}
+use Rattle.client_seats.specs.Seatings.{HasNoPast, IsSeating, kind_at}
+use Rattle.client_seats.specs.Moves.{LostGuest, kinds_of}
+use Rattle.client_seats.proofs.PlaceLemmas.{owner_within}
 use Rattle.stage_laws.specs.Known.{AreKnown, SeatsPlan}
 use Rattle.stage_laws.proofs.BirthLemmas.{client-kind, node-open, node-opened, opened-bound}
 use Rattle.stage_laws.proofs.OpenLemmas.{WasOpen, open-before}

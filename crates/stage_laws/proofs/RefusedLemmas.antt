@@ -8,16 +8,16 @@ use Rattle.session_model.specs.Commands.{shares}
 use Rattle.session_model.specs.Scripts.{Script}
 use Rattle.session_model.specs.State.{OpenClient}
 use Rattle.port_registry.specs.Registered.{open_clients}
-use Rattle.stage_feeds.specs.cycle_plan.specs.Plans.{IsPlanned, Planned, opening_of, state_of_plan}
-use Rattle.stage_feeds.specs.driver_laws.specs.Keeping.{AreOfCalls}
-use Rattle.stage_feeds.specs.task_laws.specs.Calls.{HasOpened, guests_needed, open_kinds}
-use Rattle.stage_feeds.specs.task_laws.proofs.EnoughLemmas.{free-bench}
-use Rattle.stage_feeds.specs.task_laws.proofs.KindLemmas.{guests-among}
-use Rattle.stage_feeds.specs.task_laws.proofs.OpenedLemmas.{kind-of_script}
-use Rattle.stage_feeds.specs.bench_rack.specs.Racks.{Racked}
-use Rattle.stage_feeds.specs.client_seats.specs.Owners.{Owned, owner_at}
-use Rattle.stage_feeds.specs.client_seats.specs.Seatings.{GuestPlays, IsNobodys, IsRefused, IsSeating, NoBench, NoGuest, OtherKind, kind_at}
-use Rattle.stage_feeds.specs.client_seats.specs.Moves.{kinds_of}
+use Rattle.cycle_plan.specs.Plans.{IsPlanned, Planned, opening_of, state_of_plan}
+use Rattle.driver_laws.specs.Keeping.{AreOfCalls}
+use Rattle.task_laws.specs.Calls.{HasOpened, guests_needed, open_kinds}
+use Rattle.task_laws.proofs.EnoughLemmas.{free-bench}
+use Rattle.task_laws.proofs.KindLemmas.{guests-among}
+use Rattle.task_laws.proofs.OpenedLemmas.{kind-of_script}
+use Rattle.bench_rack.specs.Racks.{Racked}
+use Rattle.client_seats.specs.Owners.{Owned, owner_at}
+use Rattle.client_seats.specs.Seatings.{GuestPlays, IsNobodys, IsRefused, IsSeating, NoBench, NoGuest, OtherKind, kind_at}
+use Rattle.client_seats.specs.Moves.{kinds_of}
 use Rattle.stage_laws.specs.Known.{AreKnown}
 use Rattle.stage_laws.proofs.BirthLemmas.{node-open, node-opened, opened-once}
 use Rattle.stage_laws.proofs.KnownLemmas.{one-guest, owner-opened, there-kind}

@@ -14,21 +14,21 @@ use Rattle.session_model.specs.Activation.{given_to}
 use Rattle.session_model.specs.Benches.{Signal}
 use Rattle.session_model.specs.Samples.{silence}
 use Rattle.session_model.specs.Kinds.{Sound}
-use Rattle.stage_feeds.specs.client_kinds.specs.Scores.{Score}
+use Rattle.client_kinds.specs.Scores.{Score}
 use Rattle.port_registry.specs.Registered.{open_clients}
-use Rattle.stage_feeds.specs.cycle_plan.specs.Plans.{Planned}
+use Rattle.cycle_plan.specs.Plans.{Planned}
 use Rattle.driver_words.specs.Feeding.{Fed}
-use Rattle.stage_feeds.specs.client_kinds.specs.Standings.{HasGuest, Standing}
-use Rattle.stage_feeds.specs.client_benches.specs.Seen.{Remembered as Kept, Seen, kept_after, kept_gives, new_bench}
-use Rattle.stage_feeds.specs.client_wiring.specs.Wirings.{Wired, wired_of}
-use Rattle.stage_feeds.specs.bench_rack.specs.Racks.{Racked, bench_at}
-use Rattle.stage_feeds.specs.client_tasks.specs.Fillings.{AreJoints, known_at}
-use Rattle.stage_feeds.specs.client_tasks.specs.Tasks.{AreSet, HasRooms, turn_of, widths_at}
-use Rattle.stage_feeds.specs.client_seats.specs.Owners.{owner_at}
-use Rattle.stage_feeds.specs.client_seats.specs.Moves.{kinds_of}
-use Rattle.stage_feeds.specs.client_seats.specs.Seatings.{HasBench, HavePeriod, IsSameBench, IsSeating, kind_at, standing_at}
-use Rattle.stage_feeds.specs.client_seats.proofs.PlayLemmas.{IsSameBench-played, IsSeating-played}
-use Rattle.stage_feeds.specs.task_laws.proofs.PlayingLemmas.{empty-kept, idle-kept}
+use Rattle.client_kinds.specs.Standings.{HasGuest, Standing}
+use Rattle.client_benches.specs.Seen.{Remembered as Kept, Seen, kept_after, kept_gives, new_bench}
+use Rattle.client_wiring.specs.Wirings.{Wired, wired_of}
+use Rattle.bench_rack.specs.Racks.{Racked, bench_at}
+use Rattle.client_tasks.specs.Fillings.{AreJoints, known_at}
+use Rattle.client_tasks.specs.Tasks.{AreSet, HasRooms, turn_of, widths_at}
+use Rattle.client_seats.specs.Owners.{owner_at}
+use Rattle.client_seats.specs.Moves.{kinds_of}
+use Rattle.client_seats.specs.Seatings.{HasBench, HavePeriod, IsSameBench, IsSeating, kind_at, standing_at}
+use Rattle.client_seats.proofs.PlayLemmas.{IsSameBench-played, IsSeating-played}
+use Rattle.task_laws.proofs.PlayingLemmas.{empty-kept, idle-kept}
 use Rattle.stage_feeds.specs.Feeding.{Feeds, fed_from}
 use Rattle.stage_feeds.proofs.FeedingLemmas.{same-fed, set-fed, used-up}
 use Rattle.stage_laws.specs.Stages.{IsStaffed, Staged}

@@ -11,16 +11,16 @@ use Rattle.session_model.specs.Benches.{node_at}
 use Rattle.session_model.specs.Kinds.{first}
 use Rattle.session_model.specs.Samples.{silence}
 use Rattle.session_model.specs.Kinds.{Sound}
-use Rattle.stage_feeds.specs.client_kinds.specs.Scores.{Score}
+use Rattle.client_kinds.specs.Scores.{Score}
 use Rattle.port_registry.specs.Registered.{open_clients}
-use Rattle.stage_feeds.specs.cycle_plan.specs.Plans.{Planned}
-use Rattle.stage_feeds.specs.client_benches.specs.Seen.{kept_after, kept_gives}
-use Rattle.stage_feeds.specs.client_wiring.specs.Wirings.{wired_of}
-use Rattle.stage_feeds.specs.bench_rack.specs.Racks.{Racked, bench_at, moved}
-use Rattle.stage_feeds.specs.client_tasks.specs.Fillings.{AreJoints, known_at, last_place}
-use Rattle.stage_feeds.specs.client_tasks.specs.Tasks.{AreSet, HasRooms}
-use Rattle.stage_feeds.specs.client_seats.specs.Owners.{owner_at}
-use Rattle.stage_feeds.specs.client_seats.specs.Seatings.{HasBench, HavePeriod, IsNobodys, IsSeating, memory_of, standing_at}
+use Rattle.cycle_plan.specs.Plans.{Planned}
+use Rattle.client_benches.specs.Seen.{kept_after, kept_gives}
+use Rattle.client_wiring.specs.Wirings.{wired_of}
+use Rattle.bench_rack.specs.Racks.{Racked, bench_at, moved}
+use Rattle.client_tasks.specs.Fillings.{AreJoints, known_at, last_place}
+use Rattle.client_tasks.specs.Tasks.{AreSet, HasRooms}
+use Rattle.client_seats.specs.Owners.{owner_at}
+use Rattle.client_seats.specs.Seatings.{HasBench, HavePeriod, IsNobodys, IsSeating, memory_of, standing_at}
 use Rattle.stage_laws.specs.Stages.{Staged}
 
 pub record Casts (sounding : Score → Sound) (old : Staged) (last plan : Planned) (moment : Moment) (period : ℕ) (new : Staged) : Type 0 where

@@ -6,13 +6,13 @@ use Rattle.std.specs.List.{Contains}
 use Rattle.session_model.specs.Benches.{node_at}
 use Rattle.session_model.specs.State.{OpenClient}
 use Rattle.port_registry.specs.Registered.{open_clients}
-use Rattle.stage_feeds.specs.cycle_plan.specs.Plans.{Planned, state_of_plan}
-use Rattle.stage_feeds.specs.driver_laws.specs.Drivers.{Remembered}
-use Rattle.stage_feeds.specs.task_laws.specs.Calls.{AreOwners}
-use Rattle.stage_feeds.specs.bench_rack.specs.Racks.{Racked}
-use Rattle.stage_feeds.specs.client_seats.specs.Owners.{Owned, owner_at}
-use Rattle.stage_feeds.specs.client_seats.specs.Seatings.{kind_at}
-use Rattle.stage_feeds.specs.client_seats.specs.Moves.{LostGuest, kinds_of}
+use Rattle.cycle_plan.specs.Plans.{Planned, state_of_plan}
+use Rattle.driver_laws.specs.Drivers.{Remembered}
+use Rattle.task_laws.specs.Calls.{AreOwners}
+use Rattle.bench_rack.specs.Racks.{Racked}
+use Rattle.client_seats.specs.Owners.{Owned, owner_at}
+use Rattle.client_seats.specs.Seatings.{kind_at}
+use Rattle.client_seats.specs.Moves.{LostGuest, kinds_of}
 
 -- each owner was opened by the plan's changes, with its bench's kind, and owns one bench; who lost its guest was born by then, and is closed
 pub record AreKnown (plan : Planned) (rack : Racked) (owned : Owned) : Type 0 where

@@ -3,14 +3,3 @@ pub mod Casts
 pub mod Performances
 pub mod Standing
 pub mod Known
-pub use Rattle.stage_feeds.specs.bench_rack
-pub use Rattle.stage_feeds.specs.client_benches
-pub use Rattle.stage_feeds.specs.client_seats
-pub use Rattle.stage_feeds.specs.client_tasks
-pub use Rattle.stage_feeds.specs.client_wiring
-pub use Rattle.stage_feeds.specs.cycle_plan
-pub use Rattle.stage_feeds.specs.device_periods
-pub use Rattle.stage_feeds.specs.disk_feeds
-pub use Rattle.stage_feeds.specs.driver_laws
-pub use Rattle.stage_feeds
-pub use Rattle.stage_feeds.specs.task_laws

@@ -3,9 +3,9 @@
 use Rattle.std.specs.Prelude.{◌≡◌, ℕ, List, ℤ, Option}
 use Rattle.jack_types.specs.declared.moments.Moment.{Moment}
 use Rattle.session_model.specs.Kinds.{Sound}
-use Rattle.stage_feeds.specs.client_kinds.specs.Scores.{Score}
-use Rattle.stage_feeds.specs.cycle_plan.specs.Plans.{Planned}
-use Rattle.stage_feeds.specs.bench_rack.specs.Racks.{Racked}
+use Rattle.client_kinds.specs.Scores.{Score}
+use Rattle.cycle_plan.specs.Plans.{Planned}
+use Rattle.bench_rack.specs.Racks.{Racked}
 use Rattle.driver_words.specs.Feeding.{Fed}
 use Rattle.stage_feeds.specs.Feeding.{Feeds}
 use Rattle.stage_laws.specs.Casts.{ArePlaces, Casts, Fills, Performs}

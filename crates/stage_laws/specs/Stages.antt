@@ -7,16 +7,16 @@ use Rattle.jack_types.specs.declared.moments.Moment.{Moment}
 use Rattle.jack_types.specs.declared.ports.Client.{Client}
 use Rattle.session_model.specs.Benches.{Bench}
 use Rattle.session_model.specs.Kinds.{Sound}
-use Rattle.stage_feeds.specs.client_kinds.specs.Scores.{Score}
+use Rattle.client_kinds.specs.Scores.{Score}
 use Rattle.port_registry.specs.Registered.{open_clients}
-use Rattle.stage_feeds.specs.cycle_plan.specs.Plans.{Planned}
-use Rattle.stage_feeds.specs.client_benches.specs.Seen.{bench_in}
-use Rattle.stage_feeds.specs.client_wiring.specs.Wirings.{Wired}
-use Rattle.stage_feeds.specs.bench_rack.specs.Racks.{Racked, bench_at}
-use Rattle.stage_feeds.specs.client_tasks.specs.Fillings.{AreJoints}
-use Rattle.stage_feeds.specs.client_tasks.specs.Tasks.{AreSet, HasRooms, widths_at}
-use Rattle.stage_feeds.specs.client_seats.specs.Owners.{Owned}
-use Rattle.stage_feeds.specs.client_seats.specs.Seatings.{HasBench}
+use Rattle.cycle_plan.specs.Plans.{Planned}
+use Rattle.client_benches.specs.Seen.{bench_in}
+use Rattle.client_wiring.specs.Wirings.{Wired}
+use Rattle.bench_rack.specs.Racks.{Racked, bench_at}
+use Rattle.client_tasks.specs.Fillings.{AreJoints}
+use Rattle.client_tasks.specs.Tasks.{AreSet, HasRooms, widths_at}
+use Rattle.client_seats.specs.Owners.{Owned}
+use Rattle.client_seats.specs.Seatings.{HasBench}
 
 -- the benches and who owns them; how many nodes the crew has, and the greatest period; how the clients of the last plan are wired, and at which
 -- places its kept outputs stood in the cycle before; the nodes that played last, and that cycle's period, 0 before the first; whether each of their

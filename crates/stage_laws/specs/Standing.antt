@@ -5,11 +5,11 @@
 --     StandsOn staged plan      and, where each has one, what it is set to
 use Rattle.std.specs.Prelude.{◌≡◌, ℕ, ◌+◌, ◌*◌, ◌≤◌, true, false, [], length, min, None}
 use Rattle.port_registry.specs.Registered.{open_clients}
-use Rattle.stage_feeds.specs.cycle_plan.specs.Plans.{IsPlanned, Planned}
-use Rattle.stage_feeds.specs.client_benches.specs.Seen.{cleared}
-use Rattle.stage_feeds.specs.client_wiring.specs.Wirings.{wired_of}
-use Rattle.stage_feeds.specs.bench_rack.specs.Racks.{bench_at}
-use Rattle.stage_feeds.specs.client_seats.specs.Seatings.{HavePeriod, IsRefused, IsSeating, standing_at}
+use Rattle.cycle_plan.specs.Plans.{IsPlanned, Planned}
+use Rattle.client_benches.specs.Seen.{cleared}
+use Rattle.client_wiring.specs.Wirings.{wired_of}
+use Rattle.bench_rack.specs.Racks.{bench_at}
+use Rattle.client_seats.specs.Seatings.{HavePeriod, IsRefused, IsSeating, standing_at}
 use Rattle.stage_laws.specs.Known.{AreKnown}
 use Rattle.stage_laws.specs.Stages.{IsStaffed, Staged}
 

@@ -4,9 +4,3 @@
 
 pub mod owning;
 pub mod stages;
-
-pub use stage_feeds;
-pub use stage_feeds::{
-    bench_crew, bench_rack, client_seats, client_tasks, client_wiring, cycle_plan, device_periods,
-    disk_feeds, task_laws,
-};

@@ -4,17 +4,17 @@ ghost use Rattle.std.specs.Prelude.{◌≡◌, ◌≤◌, [], ℕ, None, length}
 ghost use Rattle.std.specs.List.Sorted.{IsPermutation};
 ghost use Rattle.session_model.specs.Scripts.{Script};
 ghost use Rattle.port_registry.specs.Registered.{open_clients};
-ghost use Rattle.stage_feeds.specs.cycle_plan.specs.Plans.{IsPlanned, Planned};
-ghost use Rattle.stage_feeds.specs.driver_laws.specs.Keeping.{AreOfCalls};
-ghost use Rattle.stage_feeds.specs.task_laws.specs.Calls.{guests_needed, open_kinds};
-ghost use Rattle.stage_feeds.specs.client_wiring.specs.Keeping.{GoesOn};
-ghost use Rattle.stage_feeds.specs.bench_rack.specs.Racks.{Racked};
-ghost use Rattle.stage_feeds.specs.client_seats.specs.Owners.{Owned, owner_at};
-ghost use Rattle.stage_feeds.specs.client_seats.specs.Seatings.{HasNoPast, IsRefused, IsSeating};
-ghost use Rattle.stage_feeds.specs.client_seats.specs.Moves.{kinds_of};
+ghost use Rattle.cycle_plan.specs.Plans.{IsPlanned, Planned};
+ghost use Rattle.driver_laws.specs.Keeping.{AreOfCalls};
+ghost use Rattle.task_laws.specs.Calls.{guests_needed, open_kinds};
+ghost use Rattle.client_wiring.specs.Keeping.{GoesOn};
+ghost use Rattle.bench_rack.specs.Racks.{Racked};
+ghost use Rattle.client_seats.specs.Owners.{Owned, owner_at};
+ghost use Rattle.client_seats.specs.Seatings.{HasNoPast, IsRefused, IsSeating};
+ghost use Rattle.client_seats.specs.Moves.{kinds_of};
 ghost use Rattle.stage_laws.specs.Known.{AreKnown, SeatsPlan};
 
-use stage_feeds::cycle_plan::laws::one_client_of_each;
+use cycle_plan::laws::one_client_of_each;
 
 /// Where nobody owns a bench and nobody lost a guest, all is known of the owners, whatever the plan.
 pub fn nobody_is_known_at_first()

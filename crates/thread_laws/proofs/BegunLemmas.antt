@@ -12,7 +12,7 @@ use Rattle.run_laws.specs.Sessions.{Session}
 use Rattle.thread_laws.specs.Laws.{Took}
 use Rattle.thread_laws.specs.Segments.{WheeledMany}
 use Rattle.thread_laws.proofs.TakeLemmas.{numbers_many, numbers_wheeled, rising-one, rising_more, took-none, took-same}
-use Rattle.thread_laws.specs.Faults.{AtCapture, AtDraining, AtEmptying, AtPlayback, AtWheelCapture, AtWheelPlayback, Drove, DroveAll, InRun, InWheel, JoinFailed, WheelFailed}
+use Rattle.thread_laws.specs.Faults.{AtCapture, AtDraining, AtEmptying, AtPlayback, AtWheelCapture, AtWheelDisk, AtWheelPlayback, Drove, DroveAll, InFilling, InRun, InWheel, JoinFailed, WheelFailed}
 
 -- so many numbers more, none above that of the plan that the reader holds
 pub record Begun (many : ℕ) (driver after : Driver) : Type 0 where
@@ -79,10 +79,12 @@ begun-wheeled zero session after same = begun-none session.driver after.driver (
 begun-wheeled (suc many) session after wheels =
     let once = wheels.2 in
     let steps = once.cycles.cycles.steps in
-    let emptied : Took many session.driver once.emptied.driver =
-    took-same many session.driver wheels.0.driver once.emptied.driver (ap (λ (s : Session). s.driver.numbers) once.empties.same) (ap (λ (s : Session). s.driver.reading.least) once.empties.same) (numbers_wheeled many session wheels.0 wheels.1) in
-    begun-same (suc many) session.driver once.cycled.driver after.driver (ap (λ (s : Session). s.driver.numbers) once.drains.same) (ap (λ (s : Session). s.driver.reading) once.drains.same)
-    (begun-once many session.driver once.emptied.driver once.cycled.driver steps.taken steps.number _ steps.takes steps.begins steps.numbers emptied)
+    let read : Took many session.driver once.read.driver =
+    took-same many session.driver wheels.0.driver once.read.driver (ap (λ (s : Session). s.driver.numbers) once.reads.same ∙ ap (λ (s : Session). s.driver.numbers) once.empties.same)
+    (ap (λ (s : Session). s.driver.reading.least) once.reads.same ∙ ap (λ (s : Session). s.driver.reading.least) once.empties.same) (numbers_wheeled many session wheels.0 wheels.1) in
+    begun-same (suc many) session.driver once.cycled.driver after.driver (ap (λ (s : Session). s.driver.numbers) once.drains.same ∙ ap (λ (s : Session). s.driver.numbers) once.tells.same)
+    (ap (λ (s : Session). s.driver.reading) once.drains.same ∙ ap (λ (s : Session). s.driver.reading) once.tells.same)
+    (begun-once many session.driver once.read.driver once.cycled.driver steps.taken steps.number _ steps.takes steps.begins steps.numbers read)
 
 -- so many, at most `most`
 abbrev pub BegunSome : ℕ → Driver → Driver → Type 0
@@ -98,42 +100,73 @@ begun-drove many kept session after (AtPlayback whole before fewer count cycles 
 
 -- the cycle of a freewheel segment that failed, behind so many others
 module _ (whole kept : ℕ) (session wheeled after : Session) (wheels : WheeledMany whole session wheeled) where
-  emptied-took : (emptied : Session) → emptied.driver.numbers ≡ wheeled.driver.numbers → emptied.driver.reading.least ≡ wheeled.driver.reading.least → Took whole session.driver emptied.driver
-  emptied-took emptied numbers least = took-same whole session.driver wheeled.driver emptied.driver numbers least (numbers_wheeled whole session wheeled wheels)
+  -- none is taken where the rings are emptied and filled
+  read-took : (read : Session) → read.driver.numbers ≡ wheeled.driver.numbers → read.driver.reading.least ≡ wheeled.driver.reading.least → Took whole session.driver read.driver
+  read-took read numbers least = took-same whole session.driver wheeled.driver read.driver numbers least (numbers_wheeled whole session wheeled wheels)
 
   begun-wheel : WheelFailed kept wheeled after → BegunSome (suc whole) session.driver after.driver
   begun-wheel (AtEmptying count breaks) =
       (whole, omega arith, begun-same whole session.driver wheeled.driver after.driver (ap (λ (s : Session). s.driver.numbers) breaks.same) (ap (λ (s : Session). s.driver.reading) breaks.same) (begun-wheeled whole session wheeled wheels))
-  begun-wheel (AtWheelCapture emptied count empties fails same) = (
+  begun-wheel (AtWheelDisk emptied count empties breaks) = (
+    whole,
+    omega arith,
+    begun-same whole session.driver wheeled.driver after.driver (ap (λ (s : Session). s.driver.numbers) breaks.same ∙ ap (λ (s : Session). s.driver.numbers) empties.same)
+        (ap (λ (s : Session). s.driver.reading) breaks.same ∙ ap (λ (s : Session). s.driver.reading) empties.same) (begun-wheeled whole session wheeled wheels),
+  )
+  begun-wheel (AtWheelCapture emptied read failed count empties reads fails same tells) = (
     suc whole,
     omega arith,
-    begun-once whole session.driver emptied.driver after.driver fails.taken fails.number _ fails.takes fails.begins fails.numbers
-        (emptied-took emptied (ap (λ (s : Session). s.driver.numbers) empties.same) (ap (λ (s : Session). s.driver.reading.least) empties.same)),
+    begun-same (suc whole) session.driver failed.driver after.driver (ap (λ (s : Session). s.driver.numbers) tells.same) (ap (λ (s : Session). s.driver.reading) tells.same)
+        (begun-once whole session.driver read.driver failed.driver fails.taken fails.number _ fails.takes fails.begins fails.numbers
+        (read-took read (ap (λ (s : Session). s.driver.numbers) reads.same ∙ ap (λ (s : Session). s.driver.numbers) empties.same)
+        (ap (λ (s : Session). s.driver.reading.least) reads.same ∙ ap (λ (s : Session). s.driver.reading.least) empties.same))),
   )
-  begun-wheel (AtWheelPlayback emptied count empties fails stays same) =
+  begun-wheel (AtWheelPlayback emptied read failed count empties reads fails stays same tells) =
       let steps = fails.steps in (
         suc whole,
         omega arith,
-        begun-once whole session.driver emptied.driver after.driver steps.taken steps.number _ steps.takes steps.begins steps.numbers
-            (emptied-took emptied (ap (λ (s : Session). s.driver.numbers) empties.same) (ap (λ (s : Session). s.driver.reading.least) empties.same)),
+        begun-same (suc whole) session.driver failed.driver after.driver (ap (λ (s : Session). s.driver.numbers) tells.same) (ap (λ (s : Session). s.driver.reading) tells.same)
+            (begun-once whole session.driver read.driver failed.driver steps.taken steps.number _ steps.takes steps.begins steps.numbers
+            (read-took read (ap (λ (s : Session). s.driver.numbers) reads.same ∙ ap (λ (s : Session). s.driver.numbers) empties.same)
+            (ap (λ (s : Session). s.driver.reading.least) reads.same ∙ ap (λ (s : Session). s.driver.reading.least) empties.same))),
       )
-  begun-wheel (AtDraining emptied cycled count empties cycles breaks) =
+  begun-wheel (AtDraining emptied read cycled told count empties reads cycles tells breaks) =
       let steps = cycles.cycles.steps in (
         suc whole,
         omega arith,
-        begun-same (suc whole) session.driver cycled.driver after.driver (ap (λ (s : Session). s.driver.numbers) breaks.same) (ap (λ (s : Session). s.driver.reading) breaks.same)
-            (begun-once whole session.driver emptied.driver cycled.driver steps.taken steps.number _ steps.takes steps.begins steps.numbers
-            (emptied-took emptied (ap (λ (s : Session). s.driver.numbers) empties.same) (ap (λ (s : Session). s.driver.reading.least) empties.same))),
+        begun-same (suc whole) session.driver cycled.driver after.driver (ap (λ (s : Session). s.driver.numbers) breaks.same ∙ ap (λ (s : Session). s.driver.numbers) tells.same)
+            (ap (λ (s : Session). s.driver.reading) breaks.same ∙ ap (λ (s : Session). s.driver.reading) tells.same)
+            (begun-once whole session.driver read.driver cycled.driver steps.taken steps.number _ steps.takes steps.begins steps.numbers
+            (read-took read (ap (λ (s : Session). s.driver.numbers) reads.same ∙ ap (λ (s : Session). s.driver.numbers) empties.same)
+            (ap (λ (s : Session). s.driver.reading.least) reads.same ∙ ap (λ (s : Session). s.driver.reading.least) empties.same))),
       )
 
+-- the same from an earlier session, where nothing was taken between
+begun-from : (many : ℕ) (earlier driver after : Driver) → driver.numbers ≡ earlier.numbers → driver.reading.least ≡ earlier.reading.least → Begun many driver after → Begun many earlier after
+begun-from many earlier driver after numbers least begun = record {
+  took = record {
+    more = begun.took.more;
+    numbers = begun.took.numbers ∙ ap (λ ns. ns ++ begun.took.more) numbers;
+    count = begun.took.count;
+    rising = begun.took.rising;
+    low = subst (λ n. All (λ number. n ≤ number) begun.took.more) least begun.took.low;
+    high = begun.took.high;
+    least = let p = begun.took.least in omega (arith, p, least);
+  };
+  held = begun.held;
+}
+
 pub begun-join : (many : ℕ) (freewheel : Bool) (kept : ℕ) (session after : Session) → JoinFailed many freewheel kept session after → BegunSome many session.driver after.driver
-begun-join many freewheel kept session after (InRun driven ended in_run drove ends serves) =
-    let some = begun-drove many kept session driven drove in (
+begun-join many freewheel kept session after (InFilling in_run count breaks) =
+    (0, omega arith, begun-none session.driver after.driver (ap (λ (s : Session). s.driver.numbers) breaks.same) (ap (λ (s : Session). s.driver.reading.least) breaks.same))
+begun-join many freewheel kept session after (InRun filled driven ended served in_run reads drove ends serves readers) =
+    let some = begun-drove many kept filled driven drove in (
       some.0,
       some.1,
-      begun-same some.0 session.driver driven.driver after.driver
-          (ap (λ (s : Session). s.driver.numbers) serves.same ∙ ap (λ (s : Session). s.driver.numbers) ends.same)
-          (ap (λ (s : Session). s.driver.reading) serves.same ∙ ap (λ (s : Session). s.driver.reading) ends.same) some.2,
+      begun-from some.0 session.driver filled.driver after.driver (ap (λ (s : Session). s.driver.numbers) reads.same) (ap (λ (s : Session). s.driver.reading.least) reads.same)
+          (begun-same some.0 filled.driver driven.driver after.driver
+          (ap (λ (s : Session). s.driver.numbers) readers.same ∙ ap (λ (s : Session). s.driver.numbers) serves.same ∙ ap (λ (s : Session). s.driver.numbers) ends.same)
+          (ap (λ (s : Session). s.driver.reading) readers.same ∙ ap (λ (s : Session). s.driver.reading) serves.same ∙ ap (λ (s : Session). s.driver.reading) ends.same) some.2),
     )
 begun-join many freewheel kept session after (InWheel whole wheeled in_wheel fewer wheels fails) =
     let some = begun-wheel whole kept session wheeled after wheels fails in
@@ -166,22 +199,30 @@ wheeled-stays (suc many) session after wheels =
     let once = wheels.2 in
     stays-then session wheels.0 after (wheeled-stays many session wheels.0 wheels.1)
     (stays-by wheels.0 after
-    (ap (λ (s : Session). s.script) once.drains.same ∙ ap (λ (s : Session). s.script) once.cycles.same ∙ ap (λ (s : Session). s.script) once.empties.same)
-    (ap (λ (s : Session). s.desk) once.drains.same ∙ ap (λ (s : Session). s.desk) once.cycles.same ∙ ap (λ (s : Session). s.desk) once.empties.same))
+    (ap (λ (s : Session). s.script) once.drains.same ∙ ap (λ (s : Session). s.script) once.tells.same ∙ ap (λ (s : Session). s.script) once.cycles.same ∙ ap (λ (s : Session). s.script) once.reads.same ∙ ap (λ (s : Session). s.script) once.empties.same)
+    (ap (λ (s : Session). s.desk) once.drains.same ∙ ap (λ (s : Session). s.desk) once.tells.same ∙ ap (λ (s : Session). s.desk) once.cycles.same ∙ ap (λ (s : Session). s.desk) once.reads.same ∙ ap (λ (s : Session). s.desk) once.empties.same))
 
 wheel-stays : (kept : ℕ) (session after : Session) → WheelFailed kept session after → JoinStays session after
 wheel-stays kept session after (AtEmptying count breaks) = stays-by session after (ap (λ (s : Session). s.script) breaks.same) (ap (λ (s : Session). s.desk) breaks.same)
-wheel-stays kept session after (AtWheelCapture emptied count empties fails same) =
-    stays-by session after (ap (λ (s : Session). s.script) same ∙ ap (λ (s : Session). s.script) empties.same) (ap (λ (s : Session). s.desk) same ∙ ap (λ (s : Session). s.desk) empties.same)
-wheel-stays kept session after (AtWheelPlayback emptied count empties fails stays same) =
-    stays-by session after (ap (λ (s : Session). s.script) same ∙ ap (λ (s : Session). s.script) empties.same) (ap (λ (s : Session). s.desk) same ∙ ap (λ (s : Session). s.desk) empties.same)
-wheel-stays kept session after (AtDraining emptied cycled count empties cycles breaks) =
-    stays-by session after (ap (λ (s : Session). s.script) breaks.same ∙ ap (λ (s : Session). s.script) cycles.same ∙ ap (λ (s : Session). s.script) empties.same)
-    (ap (λ (s : Session). s.desk) breaks.same ∙ ap (λ (s : Session). s.desk) cycles.same ∙ ap (λ (s : Session). s.desk) empties.same)
+wheel-stays kept session after (AtWheelDisk emptied count empties breaks) =
+    stays-by session after (ap (λ (s : Session). s.script) breaks.same ∙ ap (λ (s : Session). s.script) empties.same)
+    (ap (λ (s : Session). s.desk) breaks.same ∙ ap (λ (s : Session). s.desk) empties.same)
+wheel-stays kept session after (AtWheelCapture emptied read failed count empties reads fails same tells) =
+    stays-by session after (ap (λ (s : Session). s.script) tells.same ∙ ap (λ (s : Session). s.script) same ∙ ap (λ (s : Session). s.script) reads.same ∙ ap (λ (s : Session). s.script) empties.same)
+    (ap (λ (s : Session). s.desk) tells.same ∙ ap (λ (s : Session). s.desk) same ∙ ap (λ (s : Session). s.desk) reads.same ∙ ap (λ (s : Session). s.desk) empties.same)
+wheel-stays kept session after (AtWheelPlayback emptied read failed count empties reads fails stays same tells) =
+    stays-by session after (ap (λ (s : Session). s.script) tells.same ∙ ap (λ (s : Session). s.script) same ∙ ap (λ (s : Session). s.script) reads.same ∙ ap (λ (s : Session). s.script) empties.same)
+    (ap (λ (s : Session). s.desk) tells.same ∙ ap (λ (s : Session). s.desk) same ∙ ap (λ (s : Session). s.desk) reads.same ∙ ap (λ (s : Session). s.desk) empties.same)
+wheel-stays kept session after (AtDraining emptied read cycled told count empties reads cycles tells breaks) =
+    stays-by session after (ap (λ (s : Session). s.script) breaks.same ∙ ap (λ (s : Session). s.script) tells.same ∙ ap (λ (s : Session). s.script) cycles.same ∙ ap (λ (s : Session). s.script) reads.same ∙ ap (λ (s : Session). s.script) empties.same)
+    (ap (λ (s : Session). s.desk) breaks.same ∙ ap (λ (s : Session). s.desk) tells.same ∙ ap (λ (s : Session). s.desk) cycles.same ∙ ap (λ (s : Session). s.desk) reads.same ∙ ap (λ (s : Session). s.desk) empties.same)
 
 pub join-stays : (many : ℕ) (freewheel : Bool) (kept : ℕ) (session after : Session) → JoinFailed many freewheel kept session after → JoinStays session after
-join-stays many freewheel kept session after (InRun driven ended in_run drove ends serves) =
-    stays-then session driven after (drove-stays many kept session driven drove)
-    (stays-by driven after (ap (λ (s : Session). s.script) serves.same ∙ ap (λ (s : Session). s.script) ends.same) (ap (λ (s : Session). s.desk) serves.same ∙ ap (λ (s : Session). s.desk) ends.same))
+join-stays many freewheel kept session after (InFilling in_run count breaks) = stays-by session after (ap (λ (s : Session). s.script) breaks.same) (ap (λ (s : Session). s.desk) breaks.same)
+join-stays many freewheel kept session after (InRun filled driven ended served in_run reads drove ends serves readers) =
+    stays-then session driven after
+    (stays-then session filled driven (stays-by session filled (ap (λ (s : Session). s.script) reads.same) (ap (λ (s : Session). s.desk) reads.same)) (drove-stays many kept filled driven drove))
+    (stays-by driven after (ap (λ (s : Session). s.script) readers.same ∙ ap (λ (s : Session). s.script) serves.same ∙ ap (λ (s : Session). s.script) ends.same)
+    (ap (λ (s : Session). s.desk) readers.same ∙ ap (λ (s : Session). s.desk) serves.same ∙ ap (λ (s : Session). s.desk) ends.same))
 join-stays many freewheel kept session after (InWheel whole wheeled in_wheel fewer wheels fails) =
     stays-then session wheeled after (wheeled-stays whole session wheeled wheels) (wheel-stays kept wheeled after fails)

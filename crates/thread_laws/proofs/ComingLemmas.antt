@@ -60,7 +60,7 @@ module _ (done many kept : ℕ) (freewheel : Bool) (session after : Session) (fa
   phase-gone = goes-gone.phase ∙ phase-grouped
 
   pub history-gone : after.desk.history ≡ fault.gone.desk.history
-  history-gone = ap (λ (s : Session). s.desk.history) fault.meets_again.same ∙ ap (λ (s : Session). s.desk.history) fault.renews.same
+  history-gone = ap (λ (s : Session). s.desk.history) fault.meets_again.same ∙ ap (λ (s : Session). s.desk.history) fault.tells.same ∙ ap (λ (s : Session). s.desk.history) fault.renews.same
 
   front-gone : session.desk.history ≡ take (length session.desk.history) fault.gone.desk.history
   front-gone = front-front session.desk.history fault.grouped.desk.history fault.gone.desk.history (front-group done session fault.grouped fault.groups) goes-gone.more
@@ -70,12 +70,12 @@ module _ (done many kept : ℕ) (freewheel : Bool) (session after : Session) (fa
   numbers-before : fault.paced.driver.numbers ≡ session.driver.numbers
   numbers-before = ap (λ (s : Session). s.driver.numbers) fault.paces.same ∙ ap (λ (s : Session). s.driver.numbers) fault.meets.same ∙ ap (λ (s : Session). s.driver.numbers) fault.groups.same
 
-  reading-renewed : fault.renewed.driver.reading ≡ fault.served.driver.reading
-  reading-renewed = ap (λ (s : Session). s.driver.reading) fault.renews.same ∙ ap (λ (s : Session). s.driver.reading) fault.goes.same
+  reading-told : fault.told.driver.reading ≡ fault.served.driver.reading
+  reading-told = ap (λ (s : Session). s.driver.reading) fault.tells.same ∙ ap (λ (s : Session). s.driver.reading) fault.renews.same ∙ ap (λ (s : Session). s.driver.reading) fault.goes.same
 
   numbers-after : after.driver.numbers ≡ session.driver.numbers ++ begun.took.more
   numbers-after =
-      ap (λ (s : Session). s.driver.numbers) fault.meets_again.same ∙ ap (λ (s : Session). s.driver.numbers) fault.renews.same ∙ ap (λ (s : Session). s.driver.numbers) fault.goes.same
+      ap (λ (s : Session). s.driver.numbers) fault.meets_again.same ∙ ap (λ (s : Session). s.driver.numbers) fault.tells.same ∙ ap (λ (s : Session). s.driver.numbers) fault.renews.same ∙ ap (λ (s : Session). s.driver.numbers) fault.goes.same
       ∙ begun.took.numbers ∙ ap (λ ns. ns ++ begun.took.more) numbers-before
 
   least-paced : fault.paced.driver.reading.least ≡ length fault.grouped.desk.publishing.all
@@ -87,9 +87,10 @@ module _ (done many kept : ℕ) (freewheel : Bool) (session after : Session) (fa
   -- the plan that the reader holds is a front of what is published
   held-after : length fault.served.driver.reading.held ≤ length fault.gone.desk.publishing.all
   held-after =
-      let front = front-short fault.renewed.driver.reading.held fault.renewed.desk.publishing.all fault.meets_again.meets.met.held in
-      let reading = ap (λ (r : Reading). length r.held) reading-renewed in
-      let published = ap (λ (s : Session). length s.desk.publishing.all) fault.renews.same in
+      let front = front-short fault.told.driver.reading.held fault.told.desk.publishing.all fault.meets_again.meets.met.held in
+      let reading = ap (λ (r : Reading). length r.held) reading-told in
+      let published : length fault.told.desk.publishing.all ≡ length fault.gone.desk.publishing.all =
+      ap (λ (s : Session). length s.desk.publishing.all) fault.tells.same ∙ ap (λ (s : Session). length s.desk.publishing.all) fault.renews.same in
       omega (arith, front, reading, published)
 
   high-after : All (λ number. number ≤ length fault.gone.desk.publishing.all) begun.took.more

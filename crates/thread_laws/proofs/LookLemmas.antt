@@ -1,5 +1,5 @@
 -- What many cycles do at a recorder's ring.
---     run-many, script-many, rings-many      so many cycles more, the same script, as many rings
+--     run-many, script-many, rings-many, disks-many      so many cycles more, the same script, as many rings
 --     Fits-many      what fits behind them fits before
 --     looks_many      each overrun that is new came in one of them, and its look was not below what the ring knew
 use Rattle.std.proofs.Common.{◌≡◌, ℕ, zero, suc, ◌+◌, ◌≤◌, Bool, List, [], ◌∷◌, ◌++◌, length, slice_get, All, Some, ℤ, sym, ◌∙◌, ap, subst, arith}
@@ -31,6 +31,10 @@ script-many (suc n) driver after cycles = cycles.2.steps.script ∙ script-many 
 pub rings-many : (n : ℕ) (driver after : Driver) → CyclesMany n driver after → length after.rings ≡ length driver.rings
 rings-many zero driver after same = ap (λ (d : Driver). length d.rings) same
 rings-many (suc n) driver after cycles = cycles.2.steps.as_many ∙ rings-many n driver cycles.0 cycles.1
+
+pub disks-many : (n : ℕ) (driver after : Driver) → CyclesMany n driver after → length after.disks ≡ length driver.disks
+disks-many zero driver after same = ap (λ (d : Driver). length d.disks) same
+disks-many (suc n) driver after cycles = cycles.2.steps.as_many_disks ∙ disks-many n driver cycles.0 cycles.1
 
 pub Fits-many : (n : ℕ) (driver after : Driver) (course : Course) → CyclesMany n driver after → Fits after course → Fits driver course
 Fits-many zero driver after course same fits = subst (λ (d : Driver). Fits d course) same fits

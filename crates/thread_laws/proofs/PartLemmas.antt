@@ -2,20 +2,16 @@
 --     IsSound-open, IsSoundBut-sound      with no end at a ring they are sound
 --     IsSoundBut-grouped, -met, -paced, -went, -rounded      they belong together as before
 --     IsSound-grouped, -paced, -went      also where no ring has an end
---     IsSound-rest      and between two segments, where the rings are at rest
-use Rattle.std.proofs.Common.{◌≡◌, ℕ, suc, ◌<◌, false, [], length, All, IsSome, refl, sym, ◌∙◌, ap, subst, arith}
-use Rattle.std.proofs.lemmas.Option.{slice_get_within}
+--     IsSettled-grouped, -met, -paced      and where both ends of each disk's ring know how far the other is
+use Rattle.std.proofs.Common.{◌≡◌, ℕ, suc, false, length, All, refl, sym, ◌∙◌, ap, subst}
 use Rattle.graph_word.specs.Publications.{Publishing, Reading, last_row}
 use Rattle.driver_words.specs.Rings.{Sending}
 use Rattle.control_desk.specs.Desks.{Desk, IsDesk, base_of}
-use Rattle.session_model.specs.Explanations.{Given}
-use Rattle.session_model.specs.Scripts.{Script}
-use Rattle.run_laws.specs.Runs.{AtPhase, HasFiles}
+use Rattle.disk_runs.proofs.AloneLemmas.{DisksTell-alone}
+use Rattle.run_laws.specs.Runs.{HasFiles}
 use Rattle.run_laws.specs.Sessions.{IsOne, Session}
-use Rattle.run_laws.proofs.PlaceLemmas.{some_at}
-use Rattle.serial_laws.specs.Steps.{IsSound, Met, Rounded}
-use Rattle.serial_laws.proofs.EachLemmas.{All-places}
-use Rattle.serial_laws.proofs.MeetLemmas.{IsDesk-seen}
+use Rattle.serial_laws.specs.Steps.{IsSettled, IsSound, Met, Rounded}
+use Rattle.serial_laws.proofs.MeetLemmas.{DisksTell-met, IsDesk-seen, IsSound-met}
 use Rattle.thread_laws.specs.Parts.{IsSoundBut}
 use Rattle.thread_laws.specs.Segments.{Grouped, Paced, WentOn}
 use Rattle.thread_laws.proofs.RestLemmas.{turned_to}
@@ -25,10 +21,10 @@ abbrev pub NoEnd : Session → Type 0
 NoEnd session = All (λ (ring : Sending). ring.ended ≡ false) session.driver.rings
 
 pub IsSound-open : (session : Session) → IsSoundBut session → NoEnd session → IsSound session
-IsSound-open session sound no_end = record { one = sound.one; misses = sound.misses; files = sound.files; no_end = no_end; no_disks = sound.no_disks }
+IsSound-open session sound no_end = record { one = sound.one; misses = sound.misses; files = sound.files; no_end = no_end; room = sound.room; going = sound.going }
 
 pub IsSoundBut-sound : (session : Session) → IsSound session → IsSoundBut session
-IsSoundBut-sound session sound = record { one = sound.one; misses = sound.misses; files = sound.files; no_disks = sound.no_disks }
+IsSoundBut-sound session sound = record { one = sound.one; misses = sound.misses; files = sound.files; room = sound.room; going = sound.going }
 
 -- another desk over the same script and publication, and a driver whose reader or period changed
 abbrev turned : Session → Desk → ℕ → ℕ → Session
@@ -73,7 +69,8 @@ IsSoundBut-turned session desk least set sound is script table =
         samples = files.samples;
         counted = files.counted;
       };
-      no_disks = sound.no_disks;
+      room = sound.room;
+      going = sound.going;
     }
 
 pub IsSoundBut-grouped : (done : ℕ) (session after : Session) → IsSoundBut session → Grouped done session after → IsSoundBut after
@@ -120,18 +117,21 @@ pub IsSound-went : (session after : Session) → IsSound session → WentOn sess
 IsSound-went session after sound went =
     IsSound-open after (IsSoundBut-went session after (IsSoundBut-sound session sound) went) (NoEnd-left session after sound (ap (λ (s : Session). s.driver.rings) went.same))
 
--- between two segments of threads mode the parts are sound, for no ring has an end
-pub IsSound-rest : (session : Session) (given : Given) (done : ℕ) → IsSome session.script.header.threads → session.players ≡ [] → AtPhase session given done → IsSound session
-IsSound-rest session given done threads no_disks at =
-    let one : IsOne session = at.ran.one in
-    record {
-      one = one;
-      misses = at.ran.misses;
-      files = at.files;
-      no_end = All-places (λ (ring : Sending). ring.ended ≡ false) session.driver.rings (λ recorder ring here.
-          let low : recorder < length session.driver.rings = slice_get_within session.driver.rings recorder ring here in
-          let rings : length session.driver.rings ≡ length session.script.header.recorders = one.rings.recorders ∙ ap (λ (s : Script). length s.header.recorders) one.driver_script in
-          let got = some_at session.getting recorder (omega (arith, low, rings, one.recorder_ends)) in
-          (at.rings threads recorder ring got.0 here got.1).open_ended);
-      no_disks = no_disks;
-    }
+-- nor do they touch a disk's ring
+pub IsSettled-grouped : (done : ℕ) (session after : Session) → IsSettled session → Grouped done session after → IsSettled after
+IsSettled-grouped done session after settled grouped = record {
+  sound = IsSound-grouped done session after settled.sound grouped;
+  tells = DisksTell-alone session after (ap (λ (s : Session). s.players) grouped.same) (ap (λ (s : Session). s.driver.disks) grouped.same) settled.tells;
+}
+
+pub IsSettled-met : (session after : Session) → IsSettled session → Met session after → IsSettled after
+IsSettled-met session after settled met = record {
+  sound = IsSound-met session after settled.sound met;
+  tells = DisksTell-met session after met settled.tells;
+}
+
+pub IsSettled-paced : (session after : Session) → IsSettled session → Paced session after → IsSettled after
+IsSettled-paced session after settled paced = record {
+  sound = IsSound-paced session after settled.sound paced;
+  tells = DisksTell-alone session after (ap (λ (s : Session). s.players) paced.same) (ap (λ (s : Session). s.driver.disks) paced.same) settled.tells;
+}

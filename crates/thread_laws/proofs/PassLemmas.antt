@@ -1,6 +1,8 @@
 -- Steps of a phase in threads mode that leave the recorders' rings.
 --     LeavesRings session after      a step that leaves the rings, their other ends, the files and the overruns
 --     LeavesRings-grouped, -met, -paced, -went, -rounded      these do
+--     LeavesDisks session after      a step that leaves the players, and the ends that get
+--     LeavesDisks-grouped, -met, -paced, -went, -rounded, -renewed      these do
 --     HasEach session      each recorder has two ends, a file and a count
 --     IsGot session      of each ring all is got, or a get answered its end
 use Rattle.std.proofs.Common.{◌≡◌, ◌⊎◌, ℕ, suc, true, length, slice_get, Some, sym, ◌∙◌, ap}
@@ -10,7 +12,7 @@ use Rattle.control_desk.specs.Desks.{Desk}
 use Rattle.run_laws.specs.Sessions.{Session}
 use Rattle.serial_laws.specs.Steps.{IsSound, Met, Rounded}
 use Rattle.serial_laws.proofs.GiveLemmas.{many-counts, many-rings, many-tapes}
-use Rattle.thread_laws.specs.Segments.{Grouped, Paced, WentOn}
+use Rattle.thread_laws.specs.Segments.{Grouped, Paced, Renewed, WentOn}
 use Rattle.thread_laws.proofs.RestLemmas.{LeavesLosses, LeavesLosses-both, LeavesLosses-turned, turned_to}
 
 pub record LeavesRings (session after : Session) : Type 0 where
@@ -58,6 +60,62 @@ LeavesRings-went session after went = LeavesRings-turned session after after.des
 
 pub LeavesRings-rounded : (session after : Session) → Rounded session after → LeavesRings session after
 LeavesRings-rounded session after rounded = LeavesRings-turned session after after.desk session.driver.reading.least session.driver.set rounded.same
+
+-- ---- the disks
+
+pub record LeavesDisks (session after : Session) : Type 0 where
+  pub script : after.script ≡ session.script
+  pub players : after.players ≡ session.players
+  pub disks : after.driver.disks ≡ session.driver.disks
+
+pub LeavesDisks-both : (session between after : Session) → LeavesDisks session between → LeavesDisks between after → LeavesDisks session after
+LeavesDisks-both session between after one two = record {
+  script = two.script ∙ one.script;
+  players = two.players ∙ one.players;
+  disks = two.disks ∙ one.disks;
+}
+
+pub LeavesDisks-grouped : (done : ℕ) (session after : Session) → Grouped done session after → LeavesDisks session after
+LeavesDisks-grouped done session after grouped = record {
+  script = ap (λ (s : Session). s.script) grouped.same;
+  players = ap (λ (s : Session). s.players) grouped.same;
+  disks = ap (λ (s : Session). s.driver.disks) grouped.same;
+}
+
+pub LeavesDisks-met : (session after : Session) → Met session after → LeavesDisks session after
+LeavesDisks-met session after met = record {
+  script = ap (λ (s : Session). s.script) met.same;
+  players = ap (λ (s : Session). s.players) met.same;
+  disks = ap (λ (s : Session). s.driver.disks) met.same;
+}
+
+pub LeavesDisks-paced : (session after : Session) → Paced session after → LeavesDisks session after
+LeavesDisks-paced session after paced = record {
+  script = ap (λ (s : Session). s.script) paced.same;
+  players = ap (λ (s : Session). s.players) paced.same;
+  disks = ap (λ (s : Session). s.driver.disks) paced.same;
+}
+
+pub LeavesDisks-went : (session after : Session) → WentOn session after → LeavesDisks session after
+LeavesDisks-went session after went = record {
+  script = ap (λ (s : Session). s.script) went.same;
+  players = ap (λ (s : Session). s.players) went.same;
+  disks = ap (λ (s : Session). s.driver.disks) went.same;
+}
+
+pub LeavesDisks-rounded : (session after : Session) → Rounded session after → LeavesDisks session after
+LeavesDisks-rounded session after rounded = record {
+  script = ap (λ (s : Session). s.script) rounded.same;
+  players = ap (λ (s : Session). s.players) rounded.same;
+  disks = ap (λ (s : Session). s.driver.disks) rounded.same;
+}
+
+pub LeavesDisks-renewed : (session after : Session) → Renewed session after → LeavesDisks session after
+LeavesDisks-renewed session after renewed = record {
+  script = ap (λ (s : Session). s.script) renewed.same;
+  players = ap (λ (s : Session). s.players) renewed.same;
+  disks = ap (λ (s : Session). s.driver.disks) renewed.same;
+}
 
 -- ---- each recorder has its parts
 

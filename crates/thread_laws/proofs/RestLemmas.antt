@@ -1,5 +1,5 @@
 -- A recorder's ring between two segments of threads mode.
---     LeavesLosses session after      a step that leaves the overruns, and behind which no course fits that did not before
+--     LeavesLosses session after      a step that leaves overruns and underruns, and behind which no course fits that did not before
 --     ComesBehind given session recorder      each of its overruns came behind what was kept when its segment began
 --     ComesBehind-left, ComesBehind-many      so it is behind such a step, and behind the cycles of a segment
 --     RingAtRest-left, RingAtRest-renewed      the ring is at rest behind such a step, and behind a meeting of its ends that finds all got
@@ -41,12 +41,14 @@ Fits-turned driver least set rings course fits = record {
 
 pub record LeavesLosses (session after : Session) : Type 0 where
   pub overruns : after.driver.overruns ≡ session.driver.overruns
+  pub underruns : after.driver.underruns ≡ session.driver.underruns
   pub script : after.script ≡ session.script
   pub fits : (course : Course) → Fits after.driver course → Fits session.driver course
 
 pub LeavesLosses-turned : (session after : Session) (least set : ℕ) (rings : List Sending) → after.script ≡ session.script → after.driver ≡ turned_to session.driver least set rings → LeavesLosses session after
 LeavesLosses-turned session after least set rings script driver = record {
   overruns = ap (λ (d : Driver). d.overruns) driver;
+  underruns = ap (λ (d : Driver). d.underruns) driver;
   script = script;
   fits = λ course fits. Fits-turned session.driver least set rings course (subst (λ (d : Driver). Fits d course) driver fits);
 }
@@ -54,6 +56,7 @@ LeavesLosses-turned session after least set rings script driver = record {
 pub LeavesLosses-both : (session between after : Session) → LeavesLosses session between → LeavesLosses between after → LeavesLosses session after
 LeavesLosses-both session between after one two = record {
   overruns = two.overruns ∙ one.overruns;
+  underruns = two.underruns ∙ one.underruns;
   script = two.script ∙ one.script;
   fits = λ course fits. one.fits course (two.fits course fits);
 }

@@ -253,7 +253,8 @@ module _ (session after : Session) (sound : IsSoundBut session) (ends : EndsStay
         one = IsOne-ends;
         misses = record { overruns = sound.misses.overruns; underruns = sound.misses.underruns };
         files = HasFiles-ends;
-        no_disks = sound.no_disks;
+        room = sound.room;
+        going = sound.going;
       } in
       subst IsSoundBut (sym ends.same) behind
 

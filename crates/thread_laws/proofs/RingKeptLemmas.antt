@@ -1,6 +1,6 @@
 -- What was kept of what was given is kept by each step of a phase in threads mode.
 --     KeepsOwn-turned      a reader, rings or a period that changed, where no ring's bound fell
---     KeepsOwn-grouped, -met, -paced, -went, -rounded, -cycled, -ended, -served, -renewed
+--     KeepsOwn-grouped, -met, -paced, -went, -rounded, -cycled, -ended, -served, -readers, -renewed
 use Rattle.std.proofs.Common.{◌≡◌, ℕ, zero, suc, List, length, map, slice_get, Some, refl, sym, ◌∙◌, ap, subst, arith, le_refl}
 use Rattle.std.proofs.lemmas.Option.{slice_get_within}
 use Rattle.session_model.specs.Courses.{Course}
@@ -17,6 +17,7 @@ use Rattle.driver_laws.proofs.MeetingLemmas.{Keeps-met}
 use Rattle.driver_laws.proofs.PlaceLemmas.{there_too}
 use Rattle.run_laws.specs.Sessions.{KeepsAny, Session}
 use Rattle.run_laws.proofs.PlaceLemmas.{some_at}
+use Rattle.disk_runs.specs.Readings.{DisksServed}
 use Rattle.serial_laws.specs.Steps.{KeepsOwn, Met, Rounded}
 use Rattle.thread_laws.specs.Parts.{IsSoundBut}
 use Rattle.thread_laws.specs.Segments.{CycledMany, Grouped, Paced, Renewed, RingsEnded, Served, WentOn, with_end}
@@ -76,6 +77,9 @@ module _ (given : Given) where
 
   pub KeepsOwn-served : (session after : Session) → Served session after → KeepsOwn given session → KeepsOwn given after
   KeepsOwn-served session after served = KeepsOwn-same session after (ap (λ (s : Session). s.script) served.same) (ap (λ (s : Session). s.driver) served.same)
+
+  pub KeepsOwn-readers : (session after : Session) → DisksServed session after → KeepsOwn given session → KeepsOwn given after
+  KeepsOwn-readers session after served = KeepsOwn-same session after (ap (λ (s : Session). s.script) served.same) (ap (λ (s : Session). s.driver) served.same)
 
   pub KeepsOwn-met : (session after : Session) → Met session after → KeepsOwn given session → KeepsOwn given after
   KeepsOwn-met session after met =

@@ -1,6 +1,7 @@
 -- What the files tell behind a `run` segment that failed.
 --     playback_of script      the format of the playback
 --     Tells script course kept state      each file that tells has a front of what the course gives in so many cycles
+--     Tells-left      so they have where they are left
 --     AreFrontsOf, fronts-renewed      where both ends of each ring met, what was got is a front of what was put
 --     AreFilled-set      a meeting, and another period, change nothing of the files
 --     Tells-run      behind the join of a `run` segment
@@ -37,6 +38,16 @@ pub record Tells (script : Script) (course : Course) (kept : ℕ) (state : Sessi
   pub playback : HasUnfinished (playback_of script) (played_so_far course kept) (bytes_in state.driver.playback)
   pub records : (recorder : ℕ) (tape : Tape) → slice_get state.tapes recorder ≡ Some tape
       → HasUnfinished (format_at script recorder) (samples_of_blocks (kept_blocks course (overruns_on state.driver.overruns recorder) recorder kept)) tape.bytes
+
+-- where playback, overruns and files are left
+pub Tells-left : (script : Script) (course : Course) (kept : ℕ) (session after : Session) → after.driver.playback ≡ session.driver.playback → after.driver.overruns ≡ session.driver.overruns → after.tapes ≡ session.tapes
+    → Tells script course kept session → Tells script course kept after
+Tells-left script course kept session after playback overruns tapes tells = record {
+  playback = subst (λ p. HasUnfinished (playback_of script) (played_so_far course kept) (bytes_in p)) (sym playback) tells.playback;
+  records = λ recorder tape there.
+      subst (λ os. HasUnfinished (format_at script recorder) (samples_of_blocks (kept_blocks course (overruns_on os recorder) recorder kept)) tape.bytes) (sym overruns)
+      (tells.records recorder tape (ap (λ ts. slice_get ts recorder) (sym tapes) ∙ there));
+}
 
 -- what was got from each ring is a front of what was put into it
 abbrev pub AreFrontsOf : Session → Type 0

@@ -8,21 +8,18 @@ use Rattle.std.specs.Prelude.{◌≡◌, ℕ, ◌+◌, ◌≤◌, ◌<◌, Bool,
 use Rattle.session_model.specs.Explanations.{Given}
 use Rattle.session_model.specs.Playback.{playback_format}
 use Rattle.session_model.specs.Recorders.{recorder_format}
-use Rattle.driver_words.specs.Tapes.{HasUnfinished, SameFile, Tape}
+use Rattle.driver_words.specs.Tapes.{HasUnfinished}
 use Rattle.disk_recorder.specs.Recordings.{Fails}
 use Rattle.session_model.specs.Rings.{samples_of_blocks}
 use Rattle.driver_laws.specs.Cycling.{FailsAtRead, FailsAtWrite}
-use Rattle.driver_laws.specs.Drivers.{Driver, overruns_on, run}
+use Rattle.driver_laws.specs.Drivers.{overruns_on, run}
 use Rattle.driver_laws.specs.Keeping.{kept_blocks, played_so_far}
 use Rattle.recorder_files.specs.Recorders.{Reel}
 use Rattle.run_laws.specs.Sessions.{Session, course_in}
-use Rattle.serial_laws.specs.Faults.{BreakUp}
+use Rattle.serial_laws.specs.Faults.{BreakUp, StaysOne}
 use Rattle.serial_laws.specs.Steps.{Cycled, GiveUp, IsReel, Met}
+use Rattle.disk_runs.specs.Readings.{DisksBroke, DisksRead, DisksServed, DisksTold}
 use Rattle.thread_laws.specs.Segments.{CycledMany, Grouped, Paced, Renewed, RingsEnded, ServesReel, WentOn, WheeledMany}
-
--- one playback file, before and behind
-abbrev pub StaysOne : Driver → Driver → Type 0
-StaysOne driver after = (tape tape_after : Tape) → driver.playback ≡ Some tape → after.playback ≡ Some tape_after → SameFile tape tape_after
 
 -- what the driver's thread did of so many cycles: all; or fewer, and the next failed. `kept` cycles were really played: one that failed at the capture was not, and of one that failed at the playback a front was
 pub data Drove (many kept : ℕ) (session after : Session) : Type 0 where
@@ -44,20 +41,25 @@ pub record ServedSome (session after : Session) : Type 0 where
   pub counts : length after.counts ≡ length session.counts
   pub same : after ≡ record session { getting = after.getting; tapes = after.tapes; counts = after.counts }
 
--- a freewheel cycle that failed: where the rings were emptied before it, in the cycle, or where they were emptied behind it
+-- a freewheel cycle that failed: where the recorders' rings were emptied before it, where a disk was read, in the cycle, or where the rings were emptied behind it
 pub data WheelFailed (kept : ℕ) (session after : Session) : Type 0 where
   AtEmptying : kept ≡ run session.driver → BreakUp session.script.header.ring session after → WheelFailed kept session after
-  AtWheelCapture : (emptied : Session) → kept ≡ run session.driver → GiveUp session.script.header.ring session emptied → FailsAtRead emptied.driver after.driver → after ≡ record emptied { driver = after.driver } → WheelFailed kept session after
-  AtWheelPlayback : (emptied : Session) → kept ≡ run after.driver → GiveUp session.script.header.ring session emptied → FailsAtWrite emptied.driver after.driver → StaysOne emptied.driver after.driver
-      → after ≡ record emptied { driver = after.driver } → WheelFailed kept session after
-  AtDraining : (emptied cycled : Session) → kept ≡ run cycled.driver → GiveUp session.script.header.ring session emptied → Cycled emptied cycled → BreakUp session.script.header.ring cycled after → WheelFailed kept session after
+  AtWheelDisk : (emptied : Session) → kept ≡ run session.driver → GiveUp session.script.header.ring session emptied → DisksBroke session.script.header.ring emptied after → WheelFailed kept session after
+  AtWheelCapture : (emptied read failed : Session) → kept ≡ run session.driver → GiveUp session.script.header.ring session emptied → DisksRead session.script.header.ring emptied read → FailsAtRead read.driver failed.driver
+      → failed ≡ record read { driver = failed.driver } → DisksTold failed after → WheelFailed kept session after
+  AtWheelPlayback : (emptied read failed : Session) → kept ≡ run after.driver → GiveUp session.script.header.ring session emptied → DisksRead session.script.header.ring emptied read → FailsAtWrite read.driver failed.driver
+      → StaysOne read.driver failed.driver → failed ≡ record read { driver = failed.driver } → DisksTold failed after → WheelFailed kept session after
+  AtDraining : (emptied read cycled told : Session) → kept ≡ run cycled.driver → GiveUp session.script.header.ring session emptied → DisksRead session.script.header.ring emptied read → Cycled read cycled → DisksTold cycled told
+      → BreakUp session.script.header.ring told after → WheelFailed kept session after
 
--- what stands behind the join of a segment that failed: in a `run` segment the rings ended in each case, so each recorder's thread came to its end
+-- what stands behind the join of a segment that failed: where a disk could not be read before a `run` segment, no cycle was played; else the rings ended in each case, so each recorder's thread came to its end, and each reader read on or broke
 pub data JoinFailed (many : ℕ) (freewheel : Bool) (kept : ℕ) (session after : Session) : Type 0 where
-  InRun : (driven ended : Session) → freewheel ≡ false → Drove many kept session driven → RingsEnded driven ended → ServedSome ended after → JoinFailed many freewheel kept session after
+  InFilling : freewheel ≡ false → kept ≡ run session.driver → DisksBroke session.script.header.ring session after → JoinFailed many freewheel kept session after
+  InRun : (filled driven ended served : Session) → freewheel ≡ false → DisksRead session.script.header.ring session filled → Drove many kept filled driven → RingsEnded driven ended → ServedSome ended served → DisksServed served after
+      → JoinFailed many freewheel kept session after
   InWheel : (whole : ℕ) (wheeled : Session) → freewheel ≡ true → whole < many → WheeledMany whole session wheeled → WheelFailed kept wheeled after → JoinFailed many freewheel kept session after
 
--- a phase that failed: its front, and a meeting; the join; the desk comes back, the rings are renewed, and desk and driver meet once more. The lanes do not go on
+-- a phase that failed: its front, and a meeting; the join; the desk comes back, the recorders' rings are renewed, both ends of the disks' tell how far they are, and desk and driver meet once more. The lanes do not go on
 pub record ThreadFault (done many : ℕ) (freewheel : Bool) (kept : ℕ) (session after : Session) : Type 0 where
   pub grouped : Session
   pub met : Session
@@ -65,13 +67,15 @@ pub record ThreadFault (done many : ℕ) (freewheel : Bool) (kept : ℕ) (sessio
   pub served : Session
   pub gone : Session
   pub renewed : Session
+  pub told : Session
   pub groups : Grouped done session grouped
   pub meets : Met grouped met
   pub paces : Paced met paced
   pub joins : JoinFailed many freewheel kept paced served
   pub goes : WentOn served gone
   pub renews : Renewed gone renewed
-  pub meets_again : Met renewed after
+  pub tells : DisksTold renewed told
+  pub meets_again : Met told after
 
 -- behind a fault of the run no file is finished: those that tell hold a front of what the `kept` cycles gave that were really played, by the session's own lists, and no more
 pub record StandsUnfinished (kept : ℕ) (session : Session) (given : Given) : Type 0 where

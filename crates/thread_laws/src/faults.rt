@@ -1,6 +1,6 @@
 //! What stands behind a phase in threads mode that failed.
 
-ghost use Rattle.std.specs.Prelude.{◌≡◌, ℕ, Bool, IsSome, []};
+ghost use Rattle.std.specs.Prelude.{ℕ, Bool, IsSome};
 ghost use Rattle.session_model.specs.Explanations.{Given};
 ghost use Rattle.run_laws.specs.Runs.{AtPhase};
 ghost use Rattle.run_laws.specs.Sessions.{Session};
@@ -11,16 +11,17 @@ ghost use Rattle.thread_laws.specs.Faults.{StandsUnfinished, ThreadFault};
 ghost use Rattle.thread_laws.specs.FaultLaws.{EndStands, KeptWithin};
 
 use crate::desks::{groups_are_of_their_phase, later_calls_are_of_later_stages};
-use control_desk::laws::{accepted_by_stages, accepted_of_legal};
-use run_laws::runs::numbers_are_published;
+use run_laws::runs::{numbers_are_published, players_put_their_files};
+use serial_laws::control_desk::laws::{accepted_by_stages, accepted_of_legal};
 use serial_laws::numbers::cycles_of_a_phase;
 
 /// Behind a phase that failed, in whatever schedule, each file holds a front of what was really played, or kept.
 pub fn a_phase_that_fails_leaves_fronts()
-    ensures { (given : Given) (session after : Session) (done many kept : ℕ) (freewheel : Bool) → AtPhase session given done → IsSome session.script.header.threads → session.players ≡ []
+    ensures { (given : Given) (session after : Session) (done many kept : ℕ) (freewheel : Bool) → AtPhase session given done → IsSome session.script.header.threads
         → ThreadFault done many freewheel kept session after → StandsUnfinished kept (told after) given }
 {
     accepted_of_legal();
+    players_put_their_files();
 }
 
 /// It played all cycles of the earlier phases, and some of its own.

@@ -7,7 +7,7 @@ ghost use Rattle.driver_laws.specs.Drivers.{run};
 ghost use Rattle.driver_laws.specs.Segments.{cycles_before};
 ghost use Rattle.run_laws.specs.Runs.{HasFiles};
 ghost use Rattle.run_laws.specs.Sessions.{Session};
-ghost use Rattle.serial_laws.specs.Steps.{IsSound, KeepsOwn};
+ghost use Rattle.serial_laws.specs.Steps.{IsSettled, IsSound, KeepsOwn};
 ghost use Rattle.thread_laws.specs.Parts.{IsSoundBut};
 ghost use Rattle.thread_laws.specs.Rests.{AreNext};
 ghost use Rattle.thread_laws.specs.Segments.{Renewed, RingsEnded, Served, ThreadSegment};
@@ -26,8 +26,8 @@ pub fn ends_leave_the_parts()
 pub fn a_phase_leaves_the_parts()
     ensures next { (session : Session) (done : ℕ) (phase : Phase) → slice_get (phases session.script) done ≡ Some phase → run session.driver ≡ cycles_before session.script done
         → AreNext phase.cycles phase.is_freewheel session }
-    ensures sound { (session after : Session) (done many : ℕ) (freewheel : Bool) → IsSound session → AreNext many freewheel session
-        → ThreadSegment done many freewheel session after → IsSound after }
-    ensures kept { (given : Given) (session after : Session) (done many : ℕ) (freewheel : Bool) → IsSound session → AreNext many freewheel session
+    ensures settled { (session after : Session) (done many : ℕ) (freewheel : Bool) → IsSettled session → AreNext many freewheel session
+        → ThreadSegment done many freewheel session after → IsSettled after }
+    ensures kept { (given : Given) (session after : Session) (done many : ℕ) (freewheel : Bool) → IsSettled session → AreNext many freewheel session
         → ThreadSegment done many freewheel session after → KeepsOwn given session → KeepsOwn given after }
 {}

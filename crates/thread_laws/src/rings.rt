@@ -1,6 +1,6 @@
 //! What the cycles of a segment leave of a recorder's ring and of its overruns.
 
-ghost use Rattle.std.specs.Prelude.{◌≡◌, ◌+◌, ◌++◌, ◌<◌, ◌≤◌, ℕ, All, Bool, IsSome, List, Some, [], slice_get};
+ghost use Rattle.std.specs.Prelude.{◌≡◌, ◌+◌, ◌++◌, ◌<◌, ◌≤◌, ℕ, All, Bool, IsSome, List, Some, slice_get};
 ghost use Rattle.jack_types.specs.declared.replies.Overrun.{Overrun as OverrunValue};
 ghost use Rattle.session_model.specs.Courses.{Course};
 ghost use Rattle.session_model.specs.Explanations.{Given};
@@ -12,6 +12,7 @@ ghost use Rattle.driver_laws.specs.Keeping.{kept_blocks};
 ghost use Rattle.driver_laws.specs.Segments.{cycles_before};
 ghost use Rattle.run_laws.specs.Runs.{AtPhase};
 ghost use Rattle.run_laws.specs.Sessions.{Session};
+ghost use Rattle.serial_laws.specs.Steps.{IsSettled};
 ghost use Rattle.thread_laws.specs.Rests.{LooksOn, RingsAtRest};
 ghost use Rattle.thread_laws.specs.Segments.{ThreadSegment};
 
@@ -32,6 +33,6 @@ pub fn cycles_look_no_lower()
 
 /// Behind a phase of threads mode each ring is at rest again.
 pub fn rings_come_to_rest()
-    ensures { (given : Given) (session after : Session) (done many : ℕ) (freewheel : Bool) → IsSome session.script.header.threads → session.players ≡ [] → AtPhase session given done
+    ensures { (given : Given) (session after : Session) (done many : ℕ) (freewheel : Bool) → IsSome session.script.header.threads → IsSettled session → AtPhase session given done
         → run session.driver + many ≤ cycles_before session.script (done + 1) → ThreadSegment done many freewheel session after → RingsAtRest given after }
 {}

@@ -102,13 +102,50 @@ pub fn of_rate(alloc: Global, name: &str, script: u32, given: u32) -> Result<Rea
     )
 }
 
-/// The script has another number of channels than a file that it is played with.
+/// The script has another number of channels than its capture.
 pub fn of_channels(alloc: Global, name: &str, script: u32, given: u32) -> Result<Reason, AllocError>
+    ensures { IfOk result IsReason }
+{
+    of_line(
+        alloc,
+        "the script has capture {0}, {1} has {2}: sox {3} -c {0} new.wav",
+        name,
+        script,
+        given,
+    )
+}
+
+/// A `disk` line of the script has another number of channels than its file.
+pub fn of_disk_channels(
+    alloc: Global,
+    name: &str,
+    script: u32,
+    given: u32,
+) -> Result<Reason, AllocError>
+    ensures { IfOk result IsReason }
+{
+    of_line(
+        alloc,
+        "the script has disk {0}, {1} has {2}: sox {3} -c {0} new.wav",
+        name,
+        script,
+        given,
+    )
+}
+
+// A line of the script, and its file, have other numbers of channels.
+fn of_line<'a>(
+    alloc: Global,
+    sentence: &'static str,
+    name: &'a str,
+    script: u32,
+    given: u32,
+) -> Result<Reason, AllocError>
     ensures { IfOk result IsReason }
 {
     line_of(
         alloc,
-        "the script has capture {0}, {1} has {2}: sox {3} -c {0} new.wav",
+        sentence,
         &[
             Number(u64::from(script)),
             Shown(name.as_bytes()),

@@ -26,7 +26,7 @@ pub use captures::{Capture, of_capture};
 pub use checked_files::{of_checked_file, of_exchange};
 pub use checks::of_check;
 pub use command_line::{of_foreign_word, of_words};
-pub use differing::{of_channels, of_disks, of_guests, of_rate, of_records};
+pub use differing::{of_channels, of_disk_channels, of_disks, of_guests, of_rate, of_records};
 pub use failures::{
     of_closing, of_graph, of_input, of_making, of_open_output, of_report, of_summary, of_verdict,
     of_writing, standing_in,
@@ -34,7 +34,7 @@ pub use failures::{
 pub use feeds::{Channel, of_feeds};
 pub use formats::{Made, made_by};
 pub use graphs::of_wrong;
-pub use losses::{of_lost_blocks, of_rings};
+pub use losses::{of_fills, of_lost_blocks, of_rings, of_underruns};
 pub use reason_text::Reason;
 pub use refusals::of_refusals;
 pub use rereading::read_again;

@@ -299,7 +299,7 @@ fn wrong_name(faulty: &Faulty<'_>, fault: NameFault) -> &'static str {
 fn wrong_choice(faulty: &Faulty<'_>, given: u64) -> &'static str {
     let name = word_at(faulty.line, 0);
     if name == b"jackd".as_slice() && given == 3 {
-        "disk files are not played yet"
+        "a session with disk files is played, and not checked yet"
     } else if name == b"jackd".as_slice() {
         "version {0} is none; 1, 2 and 3 are"
     } else if name == b"period".as_slice() {

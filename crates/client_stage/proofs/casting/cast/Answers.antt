@@ -4,13 +4,13 @@ use Rattle.session_model.specs.Benches.{node_at}
 use Rattle.session_model.specs.Kinds.{first}
 use Rattle.port_registry.specs.Registered.{open_clients}
 use Rattle.client_kinds.specs.Standings.{HasGuest, Standing}
-use Rattle.stage_laws.specs.client_benches.specs.Seen.{Remembered as Kept, Seen, cleared}
-use Rattle.stage_laws.specs.client_wiring.specs.Wirings.{Wired}
-use Rattle.stage_laws.specs.bench_rack.specs.Racks.{bench_at}
-use Rattle.stage_laws.specs.client_tasks.specs.Fillings.{AreJoints}
-use Rattle.stage_laws.specs.client_tasks.specs.Tasks.{AreSet}
-use Rattle.stage_laws.specs.client_seats.specs.Seatings.{AreApart, HasBench, HasNoPast, HavePeriod, IsNobodys, IsRefused, IsSeating, memory_of, standing_at}
-use Rattle.stage_laws.specs.client_seats.proofs.PlaceLemmas.{open_within, within_open}
+use Rattle.client_benches.specs.Seen.{Remembered as Kept, Seen, cleared}
+use Rattle.client_wiring.specs.Wirings.{Wired}
+use Rattle.bench_rack.specs.Racks.{bench_at}
+use Rattle.client_tasks.specs.Fillings.{AreJoints}
+use Rattle.client_tasks.specs.Tasks.{AreSet}
+use Rattle.client_seats.specs.Seatings.{AreApart, HasBench, HasNoPast, HavePeriod, IsNobodys, IsRefused, IsSeating, memory_of, standing_at}
+use Rattle.client_seats.proofs.PlaceLemmas.{open_within, within_open}
 use Rattle.stage_laws.proofs.GoingLemmas.{memory-same}
 use Rattle.client_stage.proofs.CastLemmas.{AreApart-plan, cleared-same, fresh-seated, kinds-cast, memories-cast, nodes-within, others-seated, periods-cast, seating-same, seats-cast, standings-cleared, unfed-cast}
 use Rattle.client_stage.proofs.RestLemmas.{fresh-cast}

@@ -1,8 +1,8 @@
 use Rattle.std.proofs.Common.{[], length, sym, ap, subst}
-use Rattle.stage_laws.specs.client_benches.specs.Seen.{Seen}
-use Rattle.stage_laws.specs.client_tasks.specs.Fillings.{AreJoints}
-use Rattle.stage_laws.specs.client_tasks.specs.Tasks.{AreSet}
-use Rattle.stage_laws.specs.client_wiring.specs.Wirings.{Wired}
+use Rattle.client_benches.specs.Seen.{Seen}
+use Rattle.client_tasks.specs.Fillings.{AreJoints}
+use Rattle.client_tasks.specs.Tasks.{AreSet}
+use Rattle.client_wiring.specs.Wirings.{Wired}
 use Rattle.client_stage.proofs.laws.a_cast_is_the_stages.Goals as goal
 
 pub returns : goal.returns

@@ -3,16 +3,16 @@ use Rattle.std.proofs.lemmas.List.{length-map}
 use Rattle.session_model.specs.Activation.{AreLinks, link_at, place_among, sequential}
 use Rattle.session_model.specs.Samples.{silence}
 use Rattle.port_registry.specs.Registered.{open_client}
-use Rattle.stage_laws.specs.client_benches.specs.Seen.{Seen, kept_after, kept_gives}
-use Rattle.stage_laws.specs.client_wiring.specs.Wirings.{Wired, wired_of}
-use Rattle.stage_laws.specs.client_wiring.specs.declared.joints.Joint.{Joint}
-use Rattle.stage_laws.specs.bench_rack.specs.Racks.{Racked, bench_at}
-use Rattle.stage_laws.specs.client_tasks.specs.Fillings.{AreJoints, known_at}
-use Rattle.stage_laws.specs.client_tasks.specs.Tasks.{AreSet, HasRooms}
-use Rattle.stage_laws.specs.client_tasks.proofs.PlanLemmas.{few-links}
-use Rattle.stage_laws.specs.client_seats.specs.Seatings.{standing_at}
-use Rattle.stage_laws.specs.stage_feeds.specs.Feeding.{Feeds}
-use Rattle.stage_laws.specs.stage_feeds.proofs.FeedingLemmas.{rooms-fed}
+use Rattle.client_benches.specs.Seen.{Seen, kept_after, kept_gives}
+use Rattle.client_wiring.specs.Wirings.{Wired, wired_of}
+use Rattle.client_wiring.specs.declared.joints.Joint.{Joint}
+use Rattle.bench_rack.specs.Racks.{Racked, bench_at}
+use Rattle.client_tasks.specs.Fillings.{AreJoints, known_at}
+use Rattle.client_tasks.specs.Tasks.{AreSet, HasRooms}
+use Rattle.client_tasks.proofs.PlanLemmas.{few-links}
+use Rattle.client_seats.specs.Seatings.{standing_at}
+use Rattle.stage_feeds.specs.Feeding.{Feeds}
+use Rattle.stage_feeds.proofs.FeedingLemmas.{rooms-fed}
 use Rattle.client_stage.proofs.PerformLemmas.{feeds-of, more-nodes, rooms-filled}
 use Rattle.client_stage.proofs.PlayLemmas.{others-filled}
 use Rattle.client_stage.proofs.performing.perform.Goals as goal

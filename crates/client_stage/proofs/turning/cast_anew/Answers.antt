@@ -1,6 +1,6 @@
 use Rattle.std.proofs.Common.{◌≡◌, ◌≤◌, ap, arith, length, subst, ◌∙◌}
-use Rattle.stage_laws.specs.client_wiring.specs.Wirings.{Wired, wired_of}
-use Rattle.stage_laws.specs.client_tasks.proofs.PlanLemmas.{few-joints}
+use Rattle.client_wiring.specs.Wirings.{Wired, wired_of}
+use Rattle.client_tasks.proofs.PlanLemmas.{few-joints}
 use Rattle.client_stage.proofs.turning.cast_anew.Goals as goal
 
 pub place_last-requires : goal.place_last-requires

@@ -4,11 +4,11 @@ use Rattle.std.specs.List.Sorted.{IsPermutation}
 use Rattle.std.proofs.lemmas.List.{length-map}
 use Rattle.std.proofs.lemmas.List.Sorted.{IsPermutation-refl}
 use Rattle.port_registry.specs.Registered.{open_client}
-use Rattle.stage_laws.specs.client_wiring.specs.Wirings.{Wired, wired_of}
-use Rattle.stage_laws.specs.bench_rack.specs.Racks.{Racked}
-use Rattle.stage_laws.specs.client_tasks.specs.Fillings.{last_place}
-use Rattle.stage_laws.specs.client_seats.specs.Moves.{kinds_of}
-use Rattle.stage_laws.specs.client_seats.specs.Seatings.{HavePeriod, standing_at}
+use Rattle.client_wiring.specs.Wirings.{Wired, wired_of}
+use Rattle.bench_rack.specs.Racks.{Racked}
+use Rattle.client_tasks.specs.Fillings.{last_place}
+use Rattle.client_seats.specs.Moves.{kinds_of}
+use Rattle.client_seats.specs.Seatings.{HavePeriod, standing_at}
 use Rattle.stage_laws.specs.Known.{AreKnown}
 use Rattle.stage_laws.specs.Casts.{Casts, GoesOnIn}
 use Rattle.stage_laws.proofs.GoingLemmas.{same-nodes}

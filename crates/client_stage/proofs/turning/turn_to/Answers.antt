@@ -1,6 +1,6 @@
 use Rattle.std.proofs.Common.{sym, subst}
 use Rattle.std.specs.List.Sorted.{IsPermutation}
-use Rattle.stage_laws.specs.client_seats.specs.Moves.{kinds_of}
+use Rattle.client_seats.specs.Moves.{kinds_of}
 use Rattle.client_stage.specs.Insides.{staged_by}
 use Rattle.client_stage.proofs.CastLemmas.{kinds-same}
 use Rattle.client_stage.proofs.RestLemmas.{recalls-rested, stands-rested, standings-rested}

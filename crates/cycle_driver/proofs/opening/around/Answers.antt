@@ -2,7 +2,7 @@ use Rattle.std.proofs.Common.{None, sym, ◌∙◌, ap, subst}
 use Rattle.jack_types.specs.declared.scripts.Header.{Header}
 use Rattle.session_model.specs.Grammar.{IsScript}
 use Rattle.session_model.specs.Scripts.{Script}
-use Rattle.cycle_works.specs.driver_laws.specs.Drivers.{greatest_period}
+use Rattle.driver_laws.specs.Drivers.{greatest_period}
 use Rattle.cycle_works.specs.Gears.{with_playback}
 use Rattle.cycle_driver.proofs.opening.around.Goals as goal
 

@@ -1,16 +1,22 @@
-use Rattle.std.proofs.Common.{arith, ◌≡◌, ◌+◌, suc, Err, sym, ◌∙◌, ap, subst}
+use Rattle.std.proofs.Common.{arith, ◌≡◌, ◌+◌, suc, Err, length, sym, ◌∙◌, ap, subst}
 use Rattle.std.proofs.lemmas.Option.{same_Some}
+use Rattle.session_model.specs.Scripts.{Script}
 use Rattle.driver_words.specs.Tapes.{SameFile, Tape}
 use Rattle.wave_pcm.specs.Readings.{SameReading}
 use Rattle.cycle_driver.specs.Gears.{Gear, driver_of}
-use Rattle.cycle_works.specs.driver_laws.specs.Cycling.{CyclesMany, MayCycle}
-use Rattle.cycle_works.specs.driver_laws.specs.Drivers.{Driver, run}
+use Rattle.driver_laws.specs.Cycling.{CyclesMany, MayCycle}
+use Rattle.driver_laws.specs.Drivers.{Driver, run}
 use Rattle.cycle_driver.specs.Runs.{IsGoing, StaysInRun}
 use Rattle.cycle_driver.proofs.RunLemmas.{by-fault, going-next, may-next, reading-then, run-next, stays-ran, stays-then, stays-unread, stays-unwritten}
 use Rattle.cycle_driver.proofs.running.run_cycles.Goals as goal
 
 pub give_way-rest-requires : goal.give_way-rest-requires
-give_way-rest-requires g c = record { all = c.loop-cycle.invariant.stays.rings.as_many ∙ c.requires.many }
+give_way-rest-requires g c =
+    let inv = c.loop-cycle.invariant in
+    record {
+      all = inv.stays.rings.as_many ∙ c.requires.many;
+      all_disks = inv.going.rings.disks ∙ ap (λ (s : Script). length s.header.disks) inv.stays.script ∙ sym c.requires.going.rings.disks ∙ c.requires.many_disks;
+    }
 
 pub cycle-requires-after_bounds : goal.cycle-requires-after_bounds
 cycle-requires-after_bounds g c κs within =

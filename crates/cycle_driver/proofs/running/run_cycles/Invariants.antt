@@ -1,8 +1,8 @@
 use Rattle.std.proofs.Common.{◌≡◌, ◌+◌}
 use Rattle.wave_pcm.specs.Readings.{SameReading}
 use Rattle.cycle_driver.specs.Gears.{driver_of}
-use Rattle.cycle_works.specs.driver_laws.specs.Cycling.{CyclesMany}
-use Rattle.cycle_works.specs.driver_laws.specs.Drivers.{run}
+use Rattle.driver_laws.specs.Cycling.{CyclesMany}
+use Rattle.driver_laws.specs.Drivers.{run}
 use Rattle.cycle_driver.specs.Runs.{IsGoing, StaysInRun}
 use Rattle.cycle_driver.proofs.running.run_cycles.Given as goal
 

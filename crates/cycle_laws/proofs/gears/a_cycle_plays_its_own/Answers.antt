@@ -8,8 +8,8 @@ use Rattle.plan_transport.specs.driver_laws.specs.Drivers.{Driver, content_now}
 use Rattle.plan_transport.specs.driver_laws.specs.Keeping.{AreOfCalls}
 use Rattle.plan_transport.specs.driver_laws.specs.Playing.{fed_now, own_course, settled_now, with_fed}
 use Rattle.playback_laws.specs.client_wiring.specs.Keeping.{GoesOn}
-use Rattle.play_laws.specs.midi_wiring.specs.Hearings.{HearsPlan}
-use Rattle.play_laws.specs.midi_wiring.specs.Keeping.{BringsCarried}
+use Rattle.midi_wiring.specs.Hearings.{HearsPlan}
+use Rattle.midi_wiring.specs.Keeping.{BringsCarried}
 use Rattle.play_laws.specs.Plays.{IsSettledOn}
 use Rattle.cycle_laws.specs.Gears.{driver_of}
 use Rattle.cycle_laws.proofs.FeedLemmas.{fed-now, first-now}

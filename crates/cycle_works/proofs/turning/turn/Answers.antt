@@ -11,7 +11,7 @@ use Rattle.midi_stage.specs.driver_laws.specs.Keeping.{AreOfCalls}
 use Rattle.midi_stage.specs.Standing.{device_of}
 use Rattle.transport.specs.Standings.{HasTarget}
 use Rattle.cycle_laws.specs.Gears.{StandsOn}
-use Rattle.cycle_laws.specs.cycle_blocks.specs.Blocks.{Sends}
+use Rattle.cycle_blocks.specs.Blocks.{Sends}
 use Rattle.cycle_works.specs.Insides.{gear_of}
 use Rattle.cycle_laws.proofs.FrontLemmas.{front-front}
 use Rattle.cycle_works.proofs.ResultLemmas.{any-err, either, last-row}

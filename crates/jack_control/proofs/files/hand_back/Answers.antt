@@ -16,6 +16,7 @@ handing-init g c = record {
   report = refl;
   ended = λ ended. ended;
   capture = refl;
+  players = refl;
   reads = refl;
   lent = refl;
 }
@@ -46,6 +47,7 @@ handing-preserved-then-is_err g c = record {
   report = c.in-Some.ensures.report ∙ c.handing.invariant.report;
   ended = λ ended. c.in-Some.ensures.ended (c.handing.invariant.ended ended);
   capture = c.in-Some.ensures.capture ∙ c.handing.invariant.capture;
+  players = c.in-Some.ensures.players ∙ c.handing.invariant.players;
   reads = c.hand_one.ensures.reads ∙ c.handing.invariant.reads;
   lent = let before = c.handing.invariant.lent in let lent = c.hand_one.ensures.lent in let one = ap length c.in-Some.ensures.taken in omega (arith, before, lent, one);
 }
@@ -69,6 +71,7 @@ handing-preserved g c = record {
   report = c.in-Some.ensures.report ∙ c.handing.invariant.report;
   ended = λ ended. c.in-Some.ensures.ended (c.handing.invariant.ended ended);
   capture = c.in-Some.ensures.capture ∙ c.handing.invariant.capture;
+  players = c.in-Some.ensures.players ∙ c.handing.invariant.players;
   reads = c.hand_one.ensures.reads ∙ c.handing.invariant.reads;
   lent = let before = c.handing.invariant.lent in let lent = c.hand_one.ensures.lent in let one = ap length c.in-Some.ensures.taken in omega (arith, before, lent, one);
 }

@@ -19,6 +19,7 @@ invariant-handing g l = record {
   report : text_in (session_of g.G.Guest.sound l.session) ≡ text_in (session_of g.G.Guest.sound l.fn.session);
   ended : HasEnded g.G.Guest.sound l.fn.session → HasEnded g.G.Guest.sound l.session;
   capture : l.session.gear.capture ≡ l.fn.session.gear.capture;
+  players : l.session.players ≡ l.fn.session.players;
   reads : g.H.Host.read_faults l.host ≡ g.H.Host.read_faults l.fn.host;
   lent : g.H.Host.lent l.host + length (stores_in l.fn.session) ≡ g.H.Host.lent l.fn.host + length (stores_in l.session);
 }

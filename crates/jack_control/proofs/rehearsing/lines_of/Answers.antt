@@ -23,7 +23,7 @@ unreachable-requires-in_default-file g c =
     (ap (λ guests. map g.G.Guest.sound (map g.G.Guest.score guests)) c.new-guests.ensures.items) c.in-Ok-play_silently.ensures.played in
     let told = played-told (rehearsal c.args.number) rehearsal_format (rehearsal_script c.args.number) (rehearsal_capture c.args.number) (serial (rehearsal c.args.number).script) c.in_ok-made.made
     (host_files c.in_ok-host.host) (host_files c.play_silently.new.host) c.in-Some.names c.in-Ok-play_silently.history.items c.in_ok-made.ensures.script c.in_ok-made.ensures.capture c.in_ok-host.ensures.files
-    play_is (c.rehearsal_is_a_script.ensures.spelled c.args.number) (c.rehearsal_is_a_wave.ensures.wave c.args.number) (subst Reads c.capture.ensures c.forward_reading.ensures.wave) refl refl refl
+    play_is (c.rehearsal_is_a_script.ensures.spelled c.args.number) (c.rehearsal_is_a_wave.ensures.wave c.args.number) (subst Reads c.capture.ensures c.forward_reading.ensures.wave) refl refl refl refl
     (c.no_disk_has_no_underrun.ensures.rehearsals c.args.number) plays c.in-Ok-play_silently.ensures.history in
     none_text _ (c.in_default-file.ensures ∙ told.1)
 
@@ -35,7 +35,7 @@ summary-requires g c =
     (ap (λ guests. map g.G.Guest.sound (map g.G.Guest.score guests)) c.new-guests.ensures.items) c.in-Ok-play_silently.ensures.played in
     let told = played-told (rehearsal c.args.number) rehearsal_format (rehearsal_script c.args.number) (rehearsal_capture c.args.number) (serial (rehearsal c.args.number).script) c.in_ok-made.made
     (host_files c.in_ok-host.host) (host_files c.play_silently.new.host) c.in-Some.names c.in-Ok-play_silently.history.items c.in_ok-made.ensures.script c.in_ok-made.ensures.capture c.in_ok-host.ensures.files
-    play_is (c.rehearsal_is_a_script.ensures.spelled c.args.number) (c.rehearsal_is_a_wave.ensures.wave c.args.number) (subst Reads c.capture.ensures c.forward_reading.ensures.wave) refl refl refl
+    play_is (c.rehearsal_is_a_script.ensures.spelled c.args.number) (c.rehearsal_is_a_wave.ensures.wave c.args.number) (subst Reads c.capture.ensures c.forward_reading.ensures.wave) refl refl refl refl
     (c.no_disk_has_no_underrun.ensures.rehearsals c.args.number) plays c.in-Ok-play_silently.ensures.history in
     record {
       history_is = c.deref-2.ensures.value ∙ told.0;

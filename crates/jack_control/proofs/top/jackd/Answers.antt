@@ -1,5 +1,5 @@
 use Rattle.std.proofs.Common.{◌≡◌, ◌≢◌, ◌⊎◌, ◌∙◌, ap, Err, inl, inr, map, refl, subst, sym}
-use Rattle.check_command.specs.Answers.{CheckStatus, IsDecided, IsVerdictCut, IsWrongAt}
+use Rattle.check_command.specs.Answers.{CheckStatus, HasCheckRefusal, IsDecided, IsVerdictCut, IsWrongAt}
 use Rattle.check_command.specs.Cases.{HasCase, IfCase, LacksCase, OfCase}
 use Rattle.check_command.specs.Lines.{IsExplained as HasExplanation}
 use Rattle.jack_types.specs.declared.replies.Row.{Row}
@@ -250,7 +250,7 @@ returns-in-Some-clause-check_write g c = λ e check is.
 
 pub returns-in-Some-clause-check_exact : goal.returns-in-Some-clause-check_exact
 returns-in-Some-clause-check_exact g c = λ check is.
-    subst (λ (q : Check). (status : Status) → HasRefusal (g.H.Host.files c.args.host.now) (map g.G.Guest.sound (map g.G.Guest.score c.args.guests.items)) q.play status → ¬ Rose (g.H.Host.read_faults c.args.host.now) (g.H.Host.read_faults c.check_named.new.host) → (c.check_named.result ≡ status) ⊎ (c.check_named.result ≡ NoMemory))
+    subst (λ (q : Check). (status : Status) → HasCheckRefusal (g.H.Host.files c.args.host.now) (map g.G.Guest.sound (map g.G.Guest.score c.args.guests.items)) q status → ¬ Rose (g.H.Host.read_faults c.args.host.now) (g.H.Host.read_faults c.check_named.new.host) → (c.check_named.result ≡ status) ⊎ (c.check_named.result ≡ NoMemory))
     (c.words_name_one_check.ensures _ c.in-Some.checked check c.in-Some.ensures.lawful is) c.check_named.ensures.exact
 
 -- ---- the words are those of no check

@@ -2,8 +2,8 @@ use Rattle.std.proofs.Common.{◌≡◌, ℕ, sym, ◌∙◌, subst}
 use Rattle.session_model.specs.Benches.{Task, node_at, task_of}
 use Rattle.port_registry.specs.Registered.{open_clients}
 use Rattle.event_laws.specs.client_benches.specs.Seen.{Remembered}
-use Rattle.stage_laws.specs.client_seats.specs.Seatings.{HasNoPast}
-use Rattle.stage_laws.specs.bench_rack.specs.Racks.{bench_at}
+use Rattle.client_seats.specs.Seatings.{HasNoPast}
+use Rattle.bench_rack.specs.Racks.{bench_at}
 use Rattle.event_laws.specs.midi_wiring.specs.Hearings.{HearsPlan}
 use Rattle.event_laws.specs.Crews.{heard_task, with_midi_of}
 use Rattle.play_laws.proofs.PlayLemmas.{audio-known, plays, ready, scores-known}

@@ -1,19 +1,19 @@
 use Rattle.std.proofs.Common.{Err, refl, ◌∙◌, ap, arith}
 use Rattle.session_works.proofs.SegmentLemmas.{of-phase}
 use Rattle.serial_run.proofs.PhaseLemmas.{next-in, phase-begins, phase-ends, phase-fails, phase-keeps, stays-begun, turned-keeps, turned-on}
-use Rattle.session_works.proofs.StayLemmas.{stays-trans}
+use Rattle.session_works.proofs.StayLemmas.{source-behind, stays-trans}
 use Rattle.session_works.proofs.StoreLemmas.{rose-behind}
 use Rattle.session_works.proofs.TurningLemmas.{caught}
-use Rattle.session_works.specs.Insides.{held}
+use Rattle.session_works.specs.Insides.{held, parts_of}
 use Rattle.session_works.proofs.ResultLemmas.{on-err}
 use Rattle.serial_run.proofs.phases.run_phase.Goals as goal
 
 pub loop-init : goal.loop-init
 loop-init g c = record {
-  inside = phase-begins g.G.Guest.sound {S = g.row.S.Denot} {W = g.row.W.Denot} {G = g.row.G.Denot} c.a_phase_by_cycles.ensures.front c.a_phase_by_cycles.ensures.begun c.args.works.now c.begin.new.works c.period.new.self c.args.phase c.args.segment (of-phase c.a_phase_by_cycles.ensures.segments c.args.works.now.driver.script c.args.works.now.driver.script c.args.phase c.args.segment refl c.requires.there) c.requires.sound c.requires.behind c.begin.ensures.begun c.begin.ensures.group c.period.ensures;
+  inside = phase-begins g.G.Guest.sound {S = g.row.S.Denot} {W = g.row.W.Denot} {G = g.row.G.Denot} c.a_phase_by_cycles.ensures.front c.a_phase_by_cycles.ensures.begun c.a_phase_by_cycles.ensures.begun_tells c.args.works.now c.begin.new.works c.period.new.self c.args.phase c.args.segment (of-phase c.a_phase_by_cycles.ensures.segments c.args.works.now.driver.script c.args.works.now.driver.script c.args.phase c.args.segment refl c.requires.there) c.requires.settled c.requires.behind c.begin.ensures.begun c.begin.ensures.group c.period.ensures;
   within = omega arith;
-  stays = stays-begun g.G.Guest.sound {S = g.row.S.Denot} {W = g.row.W.Denot} {G = g.row.G.Denot} c.args.works.now c.begin.new.works c.period.new.self c.args.segment.period c.requires.files c.begin.ensures.driver c.begin.ensures.recorders c.period.ensures;
-  kept = phase-keeps g.G.Guest.sound {S = g.row.S.Denot} {W = g.row.W.Denot} {G = g.row.G.Denot} c.a_phase_by_cycles.ensures.kept_front c.args.works.now c.begin.new.works c.period.new.self c.args.phase c.args.segment (of-phase c.a_phase_by_cycles.ensures.segments c.args.works.now.driver.script c.args.works.now.driver.script c.args.phase c.args.segment refl c.requires.there) c.requires.sound c.requires.behind c.begin.ensures.begun c.period.ensures;
+  stays = stays-begun g.G.Guest.sound {S = g.row.S.Denot} {W = g.row.W.Denot} {G = g.row.G.Denot} c.args.works.now c.begin.new.works c.period.new.self c.args.segment.period c.requires.files c.begin.ensures.driver c.begin.ensures.recorders c.begin.ensures.readers c.period.ensures;
+  kept = phase-keeps g.G.Guest.sound {S = g.row.S.Denot} {W = g.row.W.Denot} {G = g.row.G.Denot} c.a_phase_by_cycles.ensures.kept_front c.args.works.now c.begin.new.works c.period.new.self c.args.phase c.args.segment (of-phase c.a_phase_by_cycles.ensures.segments c.args.works.now.driver.script c.args.works.now.driver.script c.args.phase c.args.segment refl c.requires.there) c.requires.settled.sound c.requires.behind c.begin.ensures.begun c.period.ensures;
 }
 
 pub turn-requires-clause-left : goal.turn-requires-clause-left
@@ -38,6 +38,11 @@ pub returns-in_err-turn-clause-write : goal.returns-in_err-turn-clause-write
 returns-in_err-turn-clause-write g c is =
     rose-behind (held c.args.works.now) (held c.loop.works) (held c.turn.new.works) c.loop.invariant.stays.later
     (c.turn.ensures.write (c.in_err-turn.was ∙ ap Err (caught c.from_residual.result c.in_err-turn.field-0.0 _ c.from_residual.ensures.1 is)))
+
+pub returns-in_err-turn-clause-read : goal.returns-in_err-turn-clause-read
+returns-in_err-turn-clause-read g c is =
+    source-behind g.G.Guest.sound (parts_of c.args.works.now) (parts_of c.loop.works) (parts_of c.turn.new.works) c.loop.invariant.stays
+    (c.turn.ensures.read (c.in_err-turn.was ∙ ap Err (caught c.from_residual.result c.in_err-turn.field-0.0 _ c.from_residual.ensures.1 is)))
 
 pub loop-preserved : goal.loop-preserved
 loop-preserved g c = record {

@@ -1,6 +1,5 @@
 use Rattle.std.proofs.Common.{◌≡◌, Some, ap}
 use Rattle.recorder_files.specs.Recorders.{Recording}
-use Rattle.session_ends.specs.Closings.{Failed}
 use Rattle.session_ends.proofs.CloseLemmas.{closed-of, failed-giving, failed-of}
 use Rattle.session_works.proofs.ResultLemmas.{on-err}
 use Rattle.session_ends.proofs.closing.close_recorder.Goals as goal

@@ -54,6 +54,7 @@ loop-recorder-preserved g c = record {
   each = closed-more c.args.ring c.loop-recorder.recorder c.args.works.now.driver.rings.rings c.args.works.now.recorders.items c.loop-recorder.works.driver.rings.rings c.loop-recorder.works.recorders.items c.producer.result.now c.close_recorder.new.producer c.index_mut-one.result.now c.close_recorder.new.recorder ring there
       c.in_ok-close_recorder.ensures.closed c.loop-recorder.invariant.each;
   desk = c.loop-recorder.invariant.desk;
+  readers = c.loop-recorder.invariant.readers;
   driver = ap (λ (d : Gear). record d { rings = record d.rings { rings = set c.loop-recorder.works.driver.rings.rings c.loop-recorder.recorder c.close_recorder.new.producer } }) c.loop-recorder.invariant.driver;
   end = c.loop-recorder.invariant.end;
 }

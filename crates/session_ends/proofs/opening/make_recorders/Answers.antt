@@ -21,7 +21,7 @@ overflow_mul-samples g c =
     let formats = c.as_slice-formats.ensures.value ∙ ap (λ (h : Header). h.recorders) c.header-header.ensures.value in
     let there = subst (λ (fs : List Format). c.loop-recorder.recorder < length fs) formats c.loop-recorder-test.true in
     let channels = c.from.ensures ∙ ap (λ (fs : List Format). (get_or fs c.loop-recorder.recorder no_format).channels) formats in
-    let few = few-channels c.args.script.now c.requires.served c.loop-recorder.recorder there in
+    let few = few-channels c.args.script.now c.requires.lawful c.loop-recorder.recorder there in
     let product = mul-le c.greatest_period-period.result c.from.result 4096 8 c.greatest_period-period.ensures.high (subst (λ n. n ≤ 8) (sym channels) few) in
     omega (arith, product)
 

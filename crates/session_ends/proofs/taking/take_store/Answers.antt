@@ -10,7 +10,7 @@ use Rattle.session_ends.proofs.TakeLemmas.{ended-stays, if-none, report-stays, s
 use Rattle.session_ends.proofs.taking.take_store.Goals as goal
 
 pub returns-in-Some-clause-report : goal.returns-in-Some-clause-report
-returns-in-Some-clause-report g c = report-stays g.G.Guest.sound c.args.parts.now after gear (ap (λ (p : Parts). p.desk) c.parts.view_is) (ap (λ (p : Parts). map (λ (r : Recording). r.getting) p.recorders) c.parts.view_is) (ap (λ (p : Parts). map (λ (r : Recording). r.blocks) p.recorders) c.parts.view_is)
+returns-in-Some-clause-report g c = report-stays g.G.Guest.sound c.args.parts.now after gear (ap (λ (p : Parts). p.desk) c.parts.view_is) (ap (λ (p : Parts). map (λ (r : Recording). r.getting) p.recorders) c.parts.view_is) (ap (λ (p : Parts). map (λ (r : Recording). r.blocks) p.recorders) c.parts.view_is) (ap (λ (p : Parts). p.players) c.parts.view_is)
   where
     after : Parts
     after = record (parts_of {S = g.row.S.Denot} {W = g.row.W.Denot} {G = g.row.G.Denot} c.parts.inside.works) { gear = c.close-file.new.self; recorders = c.parts.inside.works.recorders.items; playback = option_map {T = g.row.W.Denot} {U = Stored} (λ w. record { name = g.W.Store.name w; bytes = g.W.Store.content w; faults = g.W.Store.faults w }) c.take-store.new.self; attached = c.parts.inside.attached }
@@ -19,7 +19,7 @@ returns-in-Some-clause-report g c = report-stays g.G.Guest.sound c.args.parts.no
     gear = c.close-file.ensures.after ∙ ap (λ (p : Parts). record p.gear { playback = None }) c.parts.view_is
 
 pub returns-in-Some-clause-ended : goal.returns-in-Some-clause-ended
-returns-in-Some-clause-ended g c = ended-stays g.G.Guest.sound c.args.parts.now after gear (ap (λ (p : Parts). p.desk) c.parts.view_is) (ap (λ (p : Parts). map (λ (r : Recording). r.getting) p.recorders) c.parts.view_is) (ap (λ (p : Parts). map (λ (r : Recording). r.blocks) p.recorders) c.parts.view_is)
+returns-in-Some-clause-ended g c = ended-stays g.G.Guest.sound c.args.parts.now after gear (ap (λ (p : Parts). p.desk) c.parts.view_is) (ap (λ (p : Parts). map (λ (r : Recording). r.getting) p.recorders) c.parts.view_is) (ap (λ (p : Parts). map (λ (r : Recording). r.blocks) p.recorders) c.parts.view_is) (ap (λ (p : Parts). p.players) c.parts.view_is)
   where
     after : Parts
     after = record (parts_of {S = g.row.S.Denot} {W = g.row.W.Denot} {G = g.row.G.Denot} c.parts.inside.works) { gear = c.close-file.new.self; recorders = c.parts.inside.works.recorders.items; playback = option_map {T = g.row.W.Denot} {U = Stored} (λ w. record { name = g.W.Store.name w; bytes = g.W.Store.content w; faults = g.W.Store.faults w }) c.take-store.new.self; attached = c.parts.inside.attached }
@@ -28,7 +28,7 @@ returns-in-Some-clause-ended g c = ended-stays g.G.Guest.sound c.args.parts.now 
     gear = c.close-file.ensures.after ∙ ap (λ (p : Parts). record p.gear { playback = None }) c.parts.view_is
 
 pub returns-in-Some-store-clause-report : goal.returns-in-Some-store-clause-report
-returns-in-Some-store-clause-report g c = report-stays g.G.Guest.sound c.args.parts.now after gear (ap (λ (p : Parts). p.desk) c.parts.view_is) (ap (λ (p : Parts). map (λ (r : Recording). r.getting) p.recorders) c.parts.view_is) (ap (λ (p : Parts). map (λ (r : Recording). r.blocks) p.recorders) c.parts.view_is)
+returns-in-Some-store-clause-report g c = report-stays g.G.Guest.sound c.args.parts.now after gear (ap (λ (p : Parts). p.desk) c.parts.view_is) (ap (λ (p : Parts). map (λ (r : Recording). r.getting) p.recorders) c.parts.view_is) (ap (λ (p : Parts). map (λ (r : Recording). r.blocks) p.recorders) c.parts.view_is) (ap (λ (p : Parts). p.players) c.parts.view_is)
   where
     after : Parts
     after = record (parts_of {S = g.row.S.Denot} {W = g.row.W.Denot} {G = g.row.G.Denot} c.parts.inside.works) { gear = c.close-file.new.self; recorders = c.parts.inside.works.recorders.items; playback = option_map {T = g.row.W.Denot} {U = Stored} (λ w. record { name = g.W.Store.name w; bytes = g.W.Store.content w; faults = g.W.Store.faults w }) c.take-store.new.self; attached = c.parts.inside.attached }
@@ -37,7 +37,7 @@ returns-in-Some-store-clause-report g c = report-stays g.G.Guest.sound c.args.pa
     gear = c.close-file.ensures.after ∙ ap (λ (p : Parts). record p.gear { playback = None }) c.parts.view_is
 
 pub returns-in-Some-store-clause-ended : goal.returns-in-Some-store-clause-ended
-returns-in-Some-store-clause-ended g c = ended-stays g.G.Guest.sound c.args.parts.now after gear (ap (λ (p : Parts). p.desk) c.parts.view_is) (ap (λ (p : Parts). map (λ (r : Recording). r.getting) p.recorders) c.parts.view_is) (ap (λ (p : Parts). map (λ (r : Recording). r.blocks) p.recorders) c.parts.view_is)
+returns-in-Some-store-clause-ended g c = ended-stays g.G.Guest.sound c.args.parts.now after gear (ap (λ (p : Parts). p.desk) c.parts.view_is) (ap (λ (p : Parts). map (λ (r : Recording). r.getting) p.recorders) c.parts.view_is) (ap (λ (p : Parts). map (λ (r : Recording). r.blocks) p.recorders) c.parts.view_is) (ap (λ (p : Parts). p.players) c.parts.view_is)
   where
     after : Parts
     after = record (parts_of {S = g.row.S.Denot} {W = g.row.W.Denot} {G = g.row.G.Denot} c.parts.inside.works) { gear = c.close-file.new.self; recorders = c.parts.inside.works.recorders.items; playback = option_map {T = g.row.W.Denot} {U = Stored} (λ w. record { name = g.W.Store.name w; bytes = g.W.Store.content w; faults = g.W.Store.faults w }) c.take-store.new.self; attached = c.parts.inside.attached }
@@ -46,7 +46,7 @@ returns-in-Some-store-clause-ended g c = ended-stays g.G.Guest.sound c.args.part
     gear = c.close-file.ensures.after ∙ ap (λ (p : Parts). record p.gear { playback = None }) c.parts.view_is
 
 pub returns-clause-report : goal.returns-clause-report
-returns-clause-report g c = report-stays g.G.Guest.sound c.args.parts.now after gear (ap (λ (p : Parts). p.desk) c.parts.view_is) (c.take_recorded.ensures.getting ∙ ap (λ (p : Parts). map (λ (r : Recording). r.getting) p.recorders) c.parts.view_is) (c.take_recorded.ensures.blocks ∙ ap (λ (p : Parts). map (λ (r : Recording). r.blocks) p.recorders) c.parts.view_is)
+returns-clause-report g c = report-stays g.G.Guest.sound c.args.parts.now after gear (ap (λ (p : Parts). p.desk) c.parts.view_is) (c.take_recorded.ensures.getting ∙ ap (λ (p : Parts). map (λ (r : Recording). r.getting) p.recorders) c.parts.view_is) (c.take_recorded.ensures.blocks ∙ ap (λ (p : Parts). map (λ (r : Recording). r.blocks) p.recorders) c.parts.view_is) (ap (λ (p : Parts). p.players) c.parts.view_is)
   where
     after : Parts
     after = record (parts_of {S = g.row.S.Denot} {W = g.row.W.Denot} {G = g.row.G.Denot} c.parts.inside.works) { gear = c.close-file.new.self; recorders = c.take_recorded.new.recorders.items; playback = option_map {T = g.row.W.Denot} {U = Stored} (λ w. record { name = g.W.Store.name w; bytes = g.W.Store.content w; faults = g.W.Store.faults w }) c.take-store.new.self; attached = c.parts.inside.attached }
@@ -55,7 +55,7 @@ returns-clause-report g c = report-stays g.G.Guest.sound c.args.parts.now after 
     gear = c.close-file.ensures.after ∙ ap (λ (p : Parts). record p.gear { playback = None }) c.parts.view_is
 
 pub returns-clause-ended : goal.returns-clause-ended
-returns-clause-ended g c = ended-stays g.G.Guest.sound c.args.parts.now after gear (ap (λ (p : Parts). p.desk) c.parts.view_is) (c.take_recorded.ensures.getting ∙ ap (λ (p : Parts). map (λ (r : Recording). r.getting) p.recorders) c.parts.view_is) (c.take_recorded.ensures.blocks ∙ ap (λ (p : Parts). map (λ (r : Recording). r.blocks) p.recorders) c.parts.view_is)
+returns-clause-ended g c = ended-stays g.G.Guest.sound c.args.parts.now after gear (ap (λ (p : Parts). p.desk) c.parts.view_is) (c.take_recorded.ensures.getting ∙ ap (λ (p : Parts). map (λ (r : Recording). r.getting) p.recorders) c.parts.view_is) (c.take_recorded.ensures.blocks ∙ ap (λ (p : Parts). map (λ (r : Recording). r.blocks) p.recorders) c.parts.view_is) (ap (λ (p : Parts). p.players) c.parts.view_is)
   where
     after : Parts
     after = record (parts_of {S = g.row.S.Denot} {W = g.row.W.Denot} {G = g.row.G.Denot} c.parts.inside.works) { gear = c.close-file.new.self; recorders = c.take_recorded.new.recorders.items; playback = option_map {T = g.row.W.Denot} {U = Stored} (λ w. record { name = g.W.Store.name w; bytes = g.W.Store.content w; faults = g.W.Store.faults w }) c.take-store.new.self; attached = c.parts.inside.attached }

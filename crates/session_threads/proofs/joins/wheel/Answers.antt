@@ -9,6 +9,7 @@ returns-clause-wheeled g c = record {
   stays = c.wheel_cycles-ran.ensures.stays;
   table = c.wheel_cycles-ran.ensures.table;
   pairs = c.wheel_cycles-ran.ensures.pairs;
+  disks = c.wheel_cycles-ran.ensures.disks;
   read = c.wheel_cycles-ran.ensures.read;
   write = c.wheel_cycles-ran.ensures.write;
 }

@@ -8,7 +8,7 @@ use Rattle.session_works.specs.Insides.{parts_with, seen_with}
 use Rattle.session_works.specs.Parts.{Parts, session_of}
 use Rattle.session_threads.proofs.RenewLemmas.{RenewedUpTo, may-renew, renewed-all, renewed-keep, renewed-more, renewed-parts}
 use Rattle.session_works.proofs.RingLemmas.{AreEach}
-use Rattle.session_works.proofs.StayLemmas.{stays-given}
+use Rattle.session_works.proofs.StayLemmas.{stay-given}
 use Rattle.session_threads.proofs.rings.renew_rings.Goals as goal
 
 pub renew_one-requires-clause-there : goal.renew_one-requires-clause-there
@@ -60,17 +60,17 @@ loop-recorder-preserved g c = record {
         c.renew_one.ensures.driver ∙ ap₂ (λ (gear : Gear) (xs : List Sending). record gear { rings = record gear.rings { rings = xs } }) c.loop-recorder.invariant.driver (sym (ap (λ (gear : Gear). gear.rings.rings) c.renew_one.ensures.driver))
 
 pub returns-clause-renewed : goal.returns-clause-renewed
-returns-clause-renewed g c desk =
-    subst (λ (parts : Parts). Renewed (seen_with g.G.Guest.sound desk c.args.driver.now c.args.recorders.now.items) (session_of g.G.Guest.sound parts)) (sym (ap (λ (gear : Gear). parts_with desk gear c.loop-recorder.recorders.items) c.loop-recorder.invariant.driver))
-    (renewed-parts g.G.Guest.sound (parts_with desk c.args.driver.now c.args.recorders.now.items) c.loop-recorder.driver.rings.rings c.loop-recorder.recorders.items (sym many)
+returns-clause-renewed g c aside =
+    subst (λ (parts : Parts). Renewed (seen_with g.G.Guest.sound aside c.args.driver.now c.args.recorders.now.items) (session_of g.G.Guest.sound parts)) (sym (ap (λ (gear : Gear). parts_with aside gear c.loop-recorder.recorders.items) c.loop-recorder.invariant.driver))
+    (renewed-parts g.G.Guest.sound (parts_with aside c.args.driver.now c.args.recorders.now.items) c.loop-recorder.driver.rings.rings c.loop-recorder.recorders.items (sym many)
     (renewed-all c.loop-recorder.recorder _ _ _ _ (subst (λ n. n ≤ c.loop-recorder.recorder) (c.len-recorder-end.ensures ∙ c.args.recorders.now.ok.0) c.loop-recorder-test.false) c.loop-recorder.invariant.renewed))
   where
     many : length c.args.recorders.now.items ≡ length c.args.driver.now.rings.rings
     many = sym c.requires.pairs.as_many
 
 pub returns-clause-stays : goal.returns-clause-stays
-returns-clause-stays g c desk files =
-    stays-given g.G.Guest.sound {S = g.row.S.Denot} {W = g.row.W.Denot} {G = g.row.G.Denot} (record { desk = desk; driver = c.args.driver.now; recorders = c.args.recorders.now }) (record { desk = desk; driver = c.loop-recorder.driver; recorders = c.loop-recorder.recorders }) c.loop-recorder.invariant.driver files
+returns-clause-stays g c aside files =
+    stay-given g.G.Guest.sound aside c.args.driver.now c.loop-recorder.driver c.args.recorders.now.items c.loop-recorder.recorders.items c.loop-recorder.invariant.driver files
     c.loop-recorder.invariant.renewed.recordings_same
-    (renewed-keep (parts_with desk c.args.driver.now c.args.recorders.now.items) (parts_with desk c.loop-recorder.driver c.loop-recorder.recorders.items) files
+    (renewed-keep (parts_with aside c.args.driver.now c.args.recorders.now.items) (parts_with aside c.loop-recorder.driver c.loop-recorder.recorders.items) files
     (c.loop-recorder.invariant.renewed.rings_same ∙ c.requires.pairs.as_many ∙ sym c.loop-recorder.invariant.renewed.recordings_same) (renewed-all c.loop-recorder.recorder _ _ _ _ (subst (λ n. n ≤ c.loop-recorder.recorder) (c.len-recorder-end.ensures ∙ c.args.recorders.now.ok.0) c.loop-recorder-test.false) c.loop-recorder.invariant.renewed))

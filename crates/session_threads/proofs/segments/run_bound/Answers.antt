@@ -1,107 +1,59 @@
-use Rattle.std.proofs.Common.{All, List, arith, ◌≡◌, ℕ, false, OnErr, OnOk, Some, get_or, refl, sym, ◌∙◌, ap, subst}
-use Rattle.std.proofs.lemmas.Option.{slice_get-get_or}
-use Rattle.std.proofs.lemmas.Result.{on_ok_weaker}
-use Rattle.jack_host.specs.Causes.{Rose}
-use Rattle.session_works.specs.DeskWords.{Desk, GoesOn}
+use Rattle.std.proofs.Common.{sym, ◌∙◌, ap, subst}
+use Rattle.std.proofs.lemmas.Result.{on_err_weaker, on_ok_weaker}
 use Rattle.session_works.specs.Drivers.{Gear}
-use Rattle.recorder_files.specs.Recorders.{Recording}
-use Rattle.turn_word.specs.Turns.{Handle, pass_of}
-use Rattle.desk_turn.specs.Lanes.{IsOpen}
-use Rattle.session_works.specs.Insides.{ArePaired, Stays, parts_with, seen_with}
-use Rattle.session_works.specs.Parts.{OneRose, stores_in}
-use Rattle.session_threads.specs.Phases.{SegmentFails, Segmented}
-use Rattle.session_threads.specs.Serving.{HaveFailed, IsUntorn}
-use Rattle.session_threads.proofs.BoundLemmas.{bound-pairs, bound-read, bound-rose, bound-stays, bound-torn, bound-unwritten, bound-whole, bound-write, caller-kept, going-of, group-behind, lanes-behind, may-serve-all, on-both}
-use Rattle.session_threads.proofs.OutcomeLemmas.{by-either, by-outcome}
-use Rattle.session_works.proofs.PairedLemmas.{few-recorders}
-use Rattle.session_works.proofs.StayLemmas.{ends-many}
-use Rattle.session_works.proofs.ResultLemmas.{of-ok, on-ok_any}
+use Rattle.session_works.specs.disk_runs.specs.Readings.{DisksBroke, DisksRead}
+use Rattle.session_works.specs.Insides.{beside, held, parts_with, seen_with}
+use Rattle.session_works.proofs.BesideLemmas.{files-beside}
+use Rattle.session_works.proofs.PairedLemmas.{disks-sound, paired-sound}
+use Rattle.session_works.proofs.ResultLemmas.{at-err, at-ok}
+use Rattle.session_works.proofs.StayLemmas.{source-behind, stay-disks, stays-trans}
+use Rattle.session_works.proofs.StoreLemmas.{rose-behind}
+use Rattle.session_threads.proofs.BoundLemmas.{segment-broke, segment-fails, segment-whole}
+use Rattle.session_threads.proofs.DiskLemmas.{may-read-all, next-read, pairs-read}
 use Rattle.session_threads.proofs.segments.run_bound.Goals as goal
 
-pub run_beside-passes-requires-clause-four : goal.run_beside-passes-requires-clause-four
-run_beside-passes-requires-clause-four g c κs within = c.open-turn.ensures.open.many ∙ c.open-turn.ensures.turn.1
+pub read_ahead-requires-clause-pairs : goal.read_ahead-requires-clause-pairs
+read_ahead-requires-clause-pairs g c = disks-sound g.G.Guest.sound (parts_with (beside c.args.rig.works.desk c.args.rig.works.readers.items) c.args.rig.works.driver c.args.rig.works.recorders.items) c.requires.settled.sound
 
-pub run_beside-passes-requires-clause-open : goal.run_beside-passes-requires-clause-open
-run_beside-passes-requires-clause-open g c κs within k d low =
-    let all = c.open-turn.ensures.open in let p : Handle Desk = get_or c.open-turn.result.1.items k d in
-    let is : p ≡ pass_of c.open-turn.result.0.table c.open-turn.result.0.passes (Some c.args.rig.works.desk) k p = all.each k p (slice_get-get_or c.open-turn.result.1.items k d low) in
-    subst (IsOpen c.open-turn.result.0.table) (sym is) (record { table_is = refl; live = omega arith; free = refl; opened = c.args.rig.works.desk; open_is = refl; begun = c.requires.begun.0; group = c.requires.begun.1 })
+pub read_ahead-requires-clause-going : goal.read_ahead-requires-clause-going
+read_ahead-requires-clause-going g c = may-read-all (seen_with g.G.Guest.sound (beside c.args.rig.works.desk c.args.rig.works.readers.items) c.args.rig.works.driver c.args.rig.works.recorders.items) c.requires.settled.sound.going
 
-pub run_beside-passes-requires-clause-may : goal.run_beside-passes-requires-clause-may
-run_beside-passes-requires-clause-may g c κs within = may-serve-all g.G.Guest.sound (parts_with c.args.rig.works.desk c.args.rig.works.driver c.args.rig.works.recorders.items) c.requires.sound c.requires.files
+pub run_filled-requires-clause-sound : goal.run_filled-requires-clause-sound
+run_filled-requires-clause-sound g c κs within = c.cycles_and_blocks.ensures.read c.args.ring (seen_with g.G.Guest.sound (beside c.args.rig.works.desk c.args.rig.works.readers.items) c.args.rig.works.driver c.args.rig.works.recorders.items) (seen_with g.G.Guest.sound (beside c.args.rig.works.desk c.read_ahead.new.readers.items) c.read_ahead.new.driver c.args.rig.works.recorders.items) c.requires.settled.sound (at-ok c.read_ahead.result _ c.in-Ok.is c.read_ahead.ensures.read c.args.rig.works.desk c.args.rig.works.recorders.items)
 
-pub run_beside-passes-requires-clause-few : goal.run_beside-passes-requires-clause-few
-run_beside-passes-requires-clause-few g c κs within = few-recorders g.G.Guest.sound (parts_with c.args.rig.works.desk c.args.rig.works.driver c.args.rig.works.recorders.items) c.requires.sound
+pub run_filled-requires-clause-files : goal.run_filled-requires-clause-files
+run_filled-requires-clause-files g c κs within = files-beside (beside c.args.rig.works.desk c.args.rig.works.readers.items) (beside c.args.rig.works.desk c.read_ahead.new.readers.items) c.args.rig.works.driver c.read_ahead.new.driver c.args.rig.works.recorders.items c.requires.files
 
-pub run_beside-passes-requires-clause-many : goal.run_beside-passes-requires-clause-many
-run_beside-passes-requires-clause-many g c κs within = ends-many g.G.Guest.sound (parts_with c.args.rig.works.desk c.args.rig.works.driver c.args.rig.works.recorders.items) c.requires.sound
+pub run_filled-requires-clause-next : goal.run_filled-requires-clause-next
+run_filled-requires-clause-next g c κs within = next-read c.args.rig.works.driver c.read_ahead.new.driver c.read_ahead.ensures.driver g.G.Guest.sound _ _ c.requires.next
 
-pub run_beside-passes-requires-clause-going : goal.run_beside-passes-requires-clause-going
-run_beside-passes-requires-clause-going g c κs within = going-of (seen_with g.G.Guest.sound c.args.rig.works.desk c.args.rig.works.driver c.args.rig.works.recorders.items) c.requires.sound
+pub returns-in-Ok-clause-whole : goal.returns-in-Ok-clause-whole
+returns-in-Ok-clause-whole g c = on_ok_weaker c.run_filled.result.1 (segment-whole _ (seen_with g.G.Guest.sound (beside c.args.rig.works.desk c.args.rig.works.readers.items) c.args.rig.works.driver c.args.rig.works.recorders.items) (seen_with g.G.Guest.sound (beside c.args.rig.works.desk c.read_ahead.new.readers.items) c.read_ahead.new.driver c.args.rig.works.recorders.items) _ (subst (λ n. DisksRead n (seen_with g.G.Guest.sound (beside c.args.rig.works.desk c.args.rig.works.readers.items) c.args.rig.works.driver c.args.rig.works.recorders.items) (seen_with g.G.Guest.sound (beside c.args.rig.works.desk c.read_ahead.new.readers.items) c.read_ahead.new.driver c.args.rig.works.recorders.items)) c.requires.ring (at-ok c.read_ahead.result _ c.in-Ok.is c.read_ahead.ensures.read c.args.rig.works.desk c.args.rig.works.recorders.items))) c.run_filled.ensures.whole
 
-pub run_beside-passes-requires-clause-caller : goal.run_beside-passes-requires-clause-caller
-run_beside-passes-requires-clause-caller g c κs within = (Some c.args.rig.works.desk, c.open-turn.ensures.caller)
+pub returns-in-Ok-clause-fails : goal.returns-in-Ok-clause-fails
+returns-in-Ok-clause-fails g c = on_err_weaker c.run_filled.result.1 (λ fails. (fails.0, segment-fails _ fails.0 (seen_with g.G.Guest.sound (beside c.args.rig.works.desk c.args.rig.works.readers.items) c.args.rig.works.driver c.args.rig.works.recorders.items) (seen_with g.G.Guest.sound (beside c.args.rig.works.desk c.read_ahead.new.readers.items) c.read_ahead.new.driver c.args.rig.works.recorders.items) _ (subst (λ n. DisksRead n (seen_with g.G.Guest.sound (beside c.args.rig.works.desk c.args.rig.works.readers.items) c.args.rig.works.driver c.args.rig.works.recorders.items) (seen_with g.G.Guest.sound (beside c.args.rig.works.desk c.read_ahead.new.readers.items) c.read_ahead.new.driver c.args.rig.works.recorders.items)) c.requires.ring (at-ok c.read_ahead.result _ c.in-Ok.is c.read_ahead.ensures.read c.args.rig.works.desk c.args.rig.works.recorders.items)) fails.1)) c.run_filled.ensures.fails
 
-pub shut-lanes-requires-clause-caller : goal.shut-lanes-requires-clause-caller
-shut-lanes-requires-clause-caller g c = (c.args.rig.works.desk, caller-kept c.open-turn.result.0 _ c.open-turn.result.2 c.run_beside-passes.result.1.2 c.run_beside-passes.ensures.caller c.open-turn.ensures.caller)
+pub returns-in-Ok-clause-stays : goal.returns-in-Ok-clause-stays
+returns-in-Ok-clause-stays g c = stays-trans g.G.Guest.sound {S = g.row.S.Denot} {W = g.row.W.Denot} {G = g.row.G.Denot} (record { desk = c.args.rig.works.desk; driver = c.args.rig.works.driver; recorders = c.args.rig.works.recorders; readers = c.args.rig.works.readers }) (record { desk = c.args.rig.works.desk; driver = c.read_ahead.new.driver; recorders = c.args.rig.works.recorders; readers = c.read_ahead.new.readers }) c.run_filled.result.0.works (stay-disks g.G.Guest.sound (beside c.args.rig.works.desk c.args.rig.works.readers.items) (beside c.args.rig.works.desk c.read_ahead.new.readers.items) c.args.rig.works.driver c.read_ahead.new.driver c.args.rig.works.recorders.items c.read_ahead.ensures.driver c.read_ahead.ensures.later c.requires.files) c.run_filled.ensures.stays
 
-pub shut-lanes-requires-clause-open : goal.shut-lanes-requires-clause-open
-shut-lanes-requires-clause-open g c =
-    (c.args.rig.works.desk, c.behind_the_lanes.ensures.all _ _ (Some c.args.rig.works.desk) _ _ c.run_beside-passes.ensures.passes c.open-turn.ensures.open)
+pub returns-in-Ok-clause-read : goal.returns-in-Ok-clause-read
+returns-in-Ok-clause-read g c is = source-behind g.G.Guest.sound (parts_with (beside c.args.rig.works.desk c.args.rig.works.readers.items) c.args.rig.works.driver c.args.rig.works.recorders.items) (parts_with (beside c.args.rig.works.desk c.read_ahead.new.readers.items) c.read_ahead.new.driver c.args.rig.works.recorders.items) _ (stay-disks g.G.Guest.sound (beside c.args.rig.works.desk c.args.rig.works.readers.items) (beside c.args.rig.works.desk c.read_ahead.new.readers.items) c.args.rig.works.driver c.read_ahead.new.driver c.args.rig.works.recorders.items c.read_ahead.ensures.driver c.read_ahead.ensures.later c.requires.files) (c.run_filled.ensures.read is)
 
-pub returns-clause-whole : goal.returns-clause-whole
-returns-clause-whole g c =
-    subst (λ (gear : Gear). OnOk c.outcome_of-outcome.result (Segmented c.args.cycles false (seen_with g.G.Guest.sound c.args.rig.works.desk c.args.rig.works.driver c.args.rig.works.recorders.items) (seen_with g.G.Guest.sound c.shut-lanes.result.1 gear c.run_beside-passes.result.0.1.items))) (sym c.run_beside-passes.ensures.driven.2)
-    (on-both c.outcome_of-outcome.result c.run_beside-passes.result.1.1 c.outcome_of-outcome.ensures.whole c.outcome_of-outcome.ensures.ok c.run_beside-passes.ensures.driven.1.ok (λ going cycles. bound-whole g.G.Guest.sound c.args.cycles c.args.rig.works.desk c.args.rig.works.driver c.run_beside-passes.ensures.driven.0 c.args.rig.works.recorders.items c.run_beside-passes.result.0.1.items c.shut-lanes.result.1 c.requires.sound c.requires.files c.run_beside-passes.ensures.driven.1.stays c.run_beside-passes.ensures.many c.run_beside-passes.ensures.served goes c.shut-lanes.ensures.desk cycles (subst (λ (l : List Recording). All IsUntorn l) c.deref.ensures.value going)))
-  where
-    goes : GoesOn c.args.rig.works.desk c.shut-lanes.result.1
-    goes = c.shut-lanes.ensures.goes c.args.rig.works.desk (c.behind_the_lanes.ensures.all _ _ (Some c.args.rig.works.desk) _ _ c.run_beside-passes.ensures.passes c.open-turn.ensures.open)
+pub returns-in-Ok-clause-write : goal.returns-in-Ok-clause-write
+returns-in-Ok-clause-write g c is = rose-behind (held {S = g.row.S.Denot} {W = g.row.W.Denot} {G = g.row.G.Denot} (record { desk = c.args.rig.works.desk; driver = c.args.rig.works.driver; recorders = c.args.rig.works.recorders; readers = c.args.rig.works.readers })) (held {S = g.row.S.Denot} {W = g.row.W.Denot} {G = g.row.G.Denot} (record { desk = c.args.rig.works.desk; driver = c.read_ahead.new.driver; recorders = c.args.rig.works.recorders; readers = c.read_ahead.new.readers })) _ (stay-disks g.G.Guest.sound (beside c.args.rig.works.desk c.args.rig.works.readers.items) (beside c.args.rig.works.desk c.read_ahead.new.readers.items) c.args.rig.works.driver c.read_ahead.new.driver c.args.rig.works.recorders.items c.read_ahead.ensures.driver c.read_ahead.ensures.later c.requires.files).later (c.run_filled.ensures.write is)
 
-pub returns-clause-fails : goal.returns-clause-fails
-returns-clause-fails g c =
-    subst (λ (gear : Gear). OnErr c.outcome_of-outcome.result ((kept : ℕ) × SegmentFails c.args.cycles false kept (seen_with g.G.Guest.sound c.args.rig.works.desk c.args.rig.works.driver c.args.rig.works.recorders.items) (seen_with g.G.Guest.sound c.shut-lanes.result.1 gear c.run_beside-passes.result.0.1.items))) (sym c.run_beside-passes.ensures.driven.2)
-    (by-outcome c.outcome_of-outcome.result c.run_beside-passes.result.1.1 c.outcome_of-outcome.ensures.read c.outcome_of-outcome.ensures.write (λ is. bound-read g.G.Guest.sound c.args.cycles c.args.rig.works.desk c.args.rig.works.driver c.run_beside-passes.ensures.driven.0 c.args.rig.works.recorders.items c.run_beside-passes.result.0.1.items c.shut-lanes.result.1 c.requires.sound c.requires.files c.run_beside-passes.ensures.driven.1.stays c.run_beside-passes.ensures.many c.run_beside-passes.ensures.served goes c.shut-lanes.ensures.desk (c.run_beside-passes.ensures.driven.1.read is)) (λ is. bound-write g.G.Guest.sound c.args.cycles c.args.rig.works.desk c.args.rig.works.driver c.run_beside-passes.ensures.driven.0 c.args.rig.works.recorders.items c.run_beside-passes.result.0.1.items c.shut-lanes.result.1 c.requires.sound c.requires.files c.run_beside-passes.ensures.driven.1.stays c.run_beside-passes.ensures.many c.run_beside-passes.ensures.served goes c.shut-lanes.ensures.desk (c.run_beside-passes.ensures.driven.1.write is))
-    (λ ok failed. bound-torn g.G.Guest.sound c.args.cycles c.args.rig.works.desk c.args.rig.works.driver c.run_beside-passes.ensures.driven.0 c.args.rig.works.recorders.items c.run_beside-passes.result.0.1.items c.shut-lanes.result.1 c.requires.sound c.requires.files c.run_beside-passes.ensures.driven.1.stays c.run_beside-passes.ensures.many c.run_beside-passes.ensures.served goes c.shut-lanes.ensures.desk (of-ok c.run_beside-passes.result.1.1 ok c.run_beside-passes.ensures.driven.1.ok)))
-  where
-    goes : GoesOn c.args.rig.works.desk c.shut-lanes.result.1
-    goes = c.shut-lanes.ensures.goes c.args.rig.works.desk (c.behind_the_lanes.ensures.all _ _ (Some c.args.rig.works.desk) _ _ c.run_beside-passes.ensures.passes c.open-turn.ensures.open)
+pub returns-in-Err-clause-fails : goal.returns-in-Err-clause-fails
+returns-in-Err-clause-fails g c =
+    segment-broke _ (seen_with g.G.Guest.sound (beside c.args.rig.works.desk c.args.rig.works.readers.items) c.args.rig.works.driver c.args.rig.works.recorders.items) (seen_with g.G.Guest.sound (beside c.args.rig.works.desk c.read_ahead.new.readers.items) c.read_ahead.new.driver c.args.rig.works.recorders.items) c.requires.settled.sound.one.desk (subst (λ n. DisksBroke n (seen_with g.G.Guest.sound (beside c.args.rig.works.desk c.args.rig.works.readers.items) c.args.rig.works.driver c.args.rig.works.recorders.items) (seen_with g.G.Guest.sound (beside c.args.rig.works.desk c.read_ahead.new.readers.items) c.read_ahead.new.driver c.args.rig.works.recorders.items)) c.requires.ring (at-err c.read_ahead.result _ c.in-Err.is c.read_ahead.ensures.broken c.args.rig.works.desk c.args.rig.works.recorders.items))
 
-pub returns-clause-stays : goal.returns-clause-stays
-returns-clause-stays g c =
-    subst (λ (gear : Gear). Stays g.G.Guest.sound (parts_with c.args.rig.works.desk c.args.rig.works.driver c.args.rig.works.recorders.items) (parts_with c.shut-lanes.result.1 gear c.run_beside-passes.result.0.1.items)) (sym c.run_beside-passes.ensures.driven.2)
-    (bound-stays g.G.Guest.sound c.args.cycles c.args.rig.works.desk c.args.rig.works.driver c.run_beside-passes.ensures.driven.0 c.args.rig.works.recorders.items c.run_beside-passes.result.0.1.items c.shut-lanes.result.1 c.requires.sound c.requires.files c.run_beside-passes.ensures.driven.1.stays c.run_beside-passes.ensures.many c.run_beside-passes.ensures.served goes c.shut-lanes.ensures.desk c.run_beside-passes.ensures.driven.1.capture)
-  where
-    goes : GoesOn c.args.rig.works.desk c.shut-lanes.result.1
-    goes = c.shut-lanes.ensures.goes c.args.rig.works.desk (c.behind_the_lanes.ensures.all _ _ (Some c.args.rig.works.desk) _ _ c.run_beside-passes.ensures.passes c.open-turn.ensures.open)
+pub returns-in-Err-clause-stays : goal.returns-in-Err-clause-stays
+returns-in-Err-clause-stays g c = (stay-disks g.G.Guest.sound (beside c.args.rig.works.desk c.args.rig.works.readers.items) (beside c.args.rig.works.desk c.read_ahead.new.readers.items) c.args.rig.works.driver c.read_ahead.new.driver c.args.rig.works.recorders.items c.read_ahead.ensures.driver c.read_ahead.ensures.later c.requires.files)
 
-pub returns-clause-pairs : goal.returns-clause-pairs
-returns-clause-pairs g c =
-    subst (λ (gear : Gear). ArePaired gear c.run_beside-passes.result.0.1.items) (sym c.run_beside-passes.ensures.driven.2)
-    (bound-pairs g.G.Guest.sound c.args.cycles c.args.rig.works.desk c.args.rig.works.driver c.run_beside-passes.ensures.driven.0 c.args.rig.works.recorders.items c.run_beside-passes.result.0.1.items c.shut-lanes.result.1 c.requires.sound c.requires.files c.run_beside-passes.ensures.driven.1.stays c.run_beside-passes.ensures.many c.run_beside-passes.ensures.served goes c.shut-lanes.ensures.desk)
-  where
-    goes : GoesOn c.args.rig.works.desk c.shut-lanes.result.1
-    goes = c.shut-lanes.ensures.goes c.args.rig.works.desk (c.behind_the_lanes.ensures.all _ _ (Some c.args.rig.works.desk) _ _ c.run_beside-passes.ensures.passes c.open-turn.ensures.open)
+pub returns-in-Err-clause-table : goal.returns-in-Err-clause-table
+returns-in-Err-clause-table g c = c.requires.settled.sound.one.table ∙ ap (λ (gear : Gear). gear.reading.table) (sym c.read_ahead.ensures.driver)
 
-pub returns-clause-write : goal.returns-clause-write
-returns-clause-write g c is =
-    subst (λ (gear : Gear). OneRose (stores_in (parts_with c.args.rig.works.desk c.args.rig.works.driver c.args.rig.works.recorders.items)) (stores_in (parts_with c.shut-lanes.result.1 gear c.run_beside-passes.result.0.1.items))) (sym c.run_beside-passes.ensures.driven.2)
-    (by-either (c.outcome_of-outcome.ensures.write is) (λ wrote. bound-unwritten g.G.Guest.sound c.args.cycles c.args.rig.works.desk c.args.rig.works.driver c.run_beside-passes.ensures.driven.0 c.args.rig.works.recorders.items c.run_beside-passes.result.0.1.items c.shut-lanes.result.1 c.requires.sound c.requires.files c.run_beside-passes.ensures.driven.1.stays c.run_beside-passes.ensures.many c.run_beside-passes.ensures.served goes c.shut-lanes.ensures.desk (c.run_beside-passes.ensures.driven.1.write_cause wrote)) (λ torn. bound-rose g.G.Guest.sound c.args.cycles c.args.rig.works.desk c.args.rig.works.driver c.run_beside-passes.ensures.driven.0 c.args.rig.works.recorders.items c.run_beside-passes.result.0.1.items c.shut-lanes.result.1 c.requires.sound c.requires.files c.run_beside-passes.ensures.driven.1.stays c.run_beside-passes.ensures.many c.run_beside-passes.ensures.served goes c.shut-lanes.ensures.desk (subst (λ (l : List Recording). HaveFailed l) c.deref.ensures.value torn.1)))
-  where
-    goes : GoesOn c.args.rig.works.desk c.shut-lanes.result.1
-    goes = c.shut-lanes.ensures.goes c.args.rig.works.desk (c.behind_the_lanes.ensures.all _ _ (Some c.args.rig.works.desk) _ _ c.run_beside-passes.ensures.passes c.open-turn.ensures.open)
+pub returns-in-Err-clause-pairs : goal.returns-in-Err-clause-pairs
+returns-in-Err-clause-pairs g c = pairs-read c.args.rig.works.driver c.read_ahead.new.driver c.read_ahead.ensures.driver c.args.rig.works.recorders.items (paired-sound g.G.Guest.sound (parts_with (beside c.args.rig.works.desk c.args.rig.works.readers.items) c.args.rig.works.driver c.args.rig.works.recorders.items) c.requires.settled.sound)
 
-pub returns-clause-table : goal.returns-clause-table
-returns-clause-table g c = (c.shut-lanes.ensures.goes c.args.rig.works.desk (c.behind_the_lanes.ensures.all _ _ (Some c.args.rig.works.desk) _ _ c.run_beside-passes.ensures.passes c.open-turn.ensures.open)).table ∙ c.requires.sound.one.table ∙ sym c.run_beside-passes.ensures.driven.1.stays.table ∙ ap (λ (gear : Gear). gear.reading.table) (sym c.run_beside-passes.ensures.driven.2)
-
-pub returns-clause-phase : goal.returns-clause-phase
-returns-clause-phase g c = (c.shut-lanes.ensures.goes c.args.rig.works.desk (c.behind_the_lanes.ensures.all _ _ (Some c.args.rig.works.desk) _ _ c.run_beside-passes.ensures.passes c.open-turn.ensures.open)).phase
-
-pub returns-clause-group : goal.returns-clause-group
-returns-clause-group g c = on-ok_any c.outcome_of-outcome.result (group-behind c.goes_on.ensures.done (seen_with g.G.Guest.sound c.args.rig.works.desk c.args.rig.works.driver c.args.rig.works.recorders.items) c.shut-lanes.result.1 c.requires.sound c.shut-lanes.ensures.desk (c.shut-lanes.ensures.goes c.args.rig.works.desk (c.behind_the_lanes.ensures.all _ _ (Some c.args.rig.works.desk) _ _ c.run_beside-passes.ensures.passes c.open-turn.ensures.open)) c.requires.begun.1)
-
-pub returns-clause-read : goal.returns-clause-read
-returns-clause-read g c is =
-    subst (λ (gear : Gear). Rose c.args.rig.works.driver.capture.reading.faults gear.capture.reading.faults) (sym c.run_beside-passes.ensures.driven.2) (c.run_beside-passes.ensures.driven.1.read_cause (c.outcome_of-outcome.ensures.read is))
-
-pub returns-clause-lanes : goal.returns-clause-lanes
-returns-clause-lanes g c = on_ok_weaker c.outcome_of-outcome.result (λ went. of-ok c.run_beside-passes.result.1.1 went (lanes-behind c.behind_the_lanes.ensures.done c.open-turn.result.1.items c.run_beside-passes.result.0.0.items c.shut-lanes.result.1 c.open-turn.result.2 c.run_beside-passes.result.1.2 c.run_beside-passes.result.1.1 (c.open-turn.ensures.open.many ∙ c.open-turn.ensures.turn.1) c.run_beside-passes.ensures.passes c.run_beside-passes.ensures.caller c.open-turn.ensures.quiet c.shut-lanes.ensures.told c.shut-lanes.ensures.seen)) c.outcome_of-outcome.ensures.whole
+pub returns-in-Err-clause-read : goal.returns-in-Err-clause-read
+returns-in-Err-clause-read g c is = at-err c.read_ahead.result _ c.in-Err.is c.read_ahead.ensures.cause c.args.rig.works.desk c.args.rig.works.recorders.items

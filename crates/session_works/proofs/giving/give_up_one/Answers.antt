@@ -1,6 +1,6 @@
 use Rattle.std.proofs.Common.{sym}
 use Rattle.std.proofs.lemmas.List.{get_or-set_same}
-use Rattle.recorder_rings.specs.Sending.{no_ring}
+use Rattle.cycle_driver.specs.recorder_rings.specs.Sending.{no_ring}
 use Rattle.session_works.proofs.ReelLemmas.{broke-one, gave-one, on-err_caused}
 use Rattle.std.proofs.lemmas.Result.{on_ok_weaker}
 use Rattle.session_works.proofs.giving.give_up_one.Goals as goal

@@ -1,8 +1,8 @@
 use Rattle.std.proofs.Common.{◌≡◌, ℕ, length, map, true, None, refl, sym, ◌∙◌, ap, subst}
-use Rattle.stage_laws.specs.client_benches.specs.Seen.{new_bench}
-use Rattle.stage_laws.specs.bench_rack.specs.Racks.{Racked}
-use Rattle.stage_laws.specs.client_seats.specs.Owners.{Owned, owner_at}
-use Rattle.stage_laws.specs.client_seats.specs.Seatings.{IsSeating}
+use Rattle.client_benches.specs.Seen.{new_bench}
+use Rattle.bench_rack.specs.Racks.{Racked}
+use Rattle.client_seats.specs.Owners.{Owned, owner_at}
+use Rattle.client_seats.specs.Seatings.{IsSeating}
 use Rattle.stage_laws.specs.Known.{AreKnown}
 use Rattle.client_stage.specs.Insides.{staged_by}
 use Rattle.stage_laws.specs.Standing.{EnoughLinks, StandsOn}

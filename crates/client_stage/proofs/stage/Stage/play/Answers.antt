@@ -3,11 +3,11 @@ use Rattle.std.specs.List.Sorted.{IsPermutation}
 use Rattle.std.proofs.lemmas.List.{take-replicate}
 use Rattle.session_model.specs.Samples.{silence}
 use Rattle.graph_word.specs.Publications.{IsFront}
-use Rattle.stage_laws.specs.client_wiring.specs.Keeping.{GoesOn}
-use Rattle.stage_laws.specs.client_wiring.specs.Wirings.{Wired}
-use Rattle.stage_laws.specs.bench_rack.specs.Racks.{Racked}
-use Rattle.stage_laws.specs.client_seats.specs.Moves.{kinds_of}
-use Rattle.stage_laws.specs.stage_feeds.specs.Feeding.{Feeds}
+use Rattle.client_wiring.specs.Keeping.{GoesOn}
+use Rattle.client_wiring.specs.Wirings.{Wired}
+use Rattle.bench_rack.specs.Racks.{Racked}
+use Rattle.client_seats.specs.Moves.{kinds_of}
+use Rattle.stage_feeds.specs.Feeding.{Feeds}
 use Rattle.stage_laws.specs.Known.{AreKnown}
 use Rattle.stage_laws.specs.Casts.{ArePlaces, Casts, Fills, Performs}
 use Rattle.stage_laws.specs.Performances.{PerformsPlan}

@@ -8,10 +8,10 @@ use Rattle.session_model.specs.Samples.{width}
 use Rattle.session_model.specs.Scripts.{Script}
 use Rattle.cycle_plan.specs.Plans.{Planned}
 use Rattle.driver_words.specs.Tapes.{HasSamples, HasUnfinished}
-use Rattle.cycle_works.specs.driver_laws.specs.Cycling.{CyclesOnce, FailsAtRead, FailsAtWrite, MayCycle, StepsOnce}
-use Rattle.cycle_works.specs.driver_laws.specs.Drivers.{frames_run, greatest_period}
-use Rattle.cycle_works.specs.driver_laws.specs.Keeping.{Fits, HasTape, Keeps}
-use Rattle.cycle_works.specs.driver_laws.specs.Playing.{PlaysOwn, played_now}
+use Rattle.driver_laws.specs.Cycling.{CyclesOnce, FailsAtRead, FailsAtWrite, MayCycle, StepsOnce}
+use Rattle.driver_laws.specs.Drivers.{frames_run, greatest_period}
+use Rattle.driver_laws.specs.Keeping.{Fits, HasTape, Keeps}
+use Rattle.driver_laws.specs.Playing.{PlaysOwn, played_now}
 use Rattle.cycle_works.specs.Gears.{FailsToRead, Gear, IsGear, Turns, driver_of, mixed, with_playback}
 use Rattle.cycle_works.proofs.CycleLemmas.{frames-is, later}
 use Rattle.cycle_works.proofs.FailedLemmas.{failed-at-read}

@@ -1,5 +1,5 @@
 use Rattle.std.proofs.Common.{map, sym, subst}
-use Rattle.cycle_works.specs.driver_laws.specs.Openings.{IsNew}
+use Rattle.driver_laws.specs.Openings.{IsNew}
 use Rattle.cycle_works.specs.Gears.{driver_of}
 use Rattle.cycle_driver.proofs.driver.Driver.new.Goals as goal
 

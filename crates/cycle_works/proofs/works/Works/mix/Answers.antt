@@ -2,7 +2,7 @@ use Rattle.std.proofs.Common.{List, map, ◌∙◌, ap}
 use Rattle.session_model.specs.Samples.{below, interleaved}
 use Rattle.midi_stage.specs.client_wiring.specs.declared.joints.Heard.{Heard}
 use Rattle.client_stage.specs.bench_rack.specs.Racks.{Racked}
-use Rattle.cycle_laws.specs.playback_mix.specs.Mixes.{channel_mix}
+use Rattle.playback_mix.specs.Mixes.{channel_mix}
 use Rattle.cycle_works.specs.Gears.{mixed}
 use Rattle.cycle_works.proofs.works.Works.mix.Goals as goal
 

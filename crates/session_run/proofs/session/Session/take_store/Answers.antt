@@ -10,7 +10,8 @@ invariant_of-self g c = (
   c.self.invariant.0 ∙ ap segments (sym script_is),
   c.self.invariant.1 ∙ ap (λ (s : Script). s.header.ring) (sym script_is),
   c.self.invariant.2 ∙ ap (λ (s : Script). s.header.drain) (sym script_is),
-  c.self.invariant.3 ∙ ap (λ (s : Script). is_none s.header.threads) (sym script_is),
+  c.self.invariant.3 ∙ ap (λ (s : Script). s.header.fill) (sym script_is),
+  c.self.invariant.4 ∙ ap (λ (s : Script). is_none s.header.threads) (sym script_is),
 )
   where
     script_is : c.take_store.new.parts.gear.script ≡ c.self.inside.parts.gear.script
