@@ -469,8 +469,8 @@ class Room:
                     self.reached[name.decode()] += 1
         elif code == 1 and small:
             yield 'out of memory'
-        # With the words of a play, graph or check as they are, each file can be read and written.
-        if code in (3, 6) and small and case.changed:
+        # With the words of a play, graph or check as they are, each file can be read and written; a play that is refused left none.
+        if code in (3, 6) and small and case.changed and (command == 'play' or case.base.report):
             yield f'a file failed: {told[:200]!r}'
         if code == 1 and out:
             yield f'exit code 1 with standard output {out[:60]!r}'
@@ -480,9 +480,8 @@ class Room:
         if not small:
             return
         put('made-o', report)
-        made = [f'made-{name}' for name in ['p', *(f'r{k}' for k in range(4))]]
-        made = [name for name in made if name in case.words and os.path.exists(name)]
-        if made[:1] != ['made-p']:
+        made = ['made-p', *(name for word, name in zip(case.words, case.words[1:]) if word == '--record')]
+        if 'made-p' not in case.words or not all(map(os.path.isfile, made)):
             return
         disks = [whole(name) for word, name in zip(case.words, case.words[1:]) if word == '--disk']
         if not disks:
